@@ -1,0 +1,239 @@
+#!/usr/bin/env python3
+"""Runs the rules of document 01 on recorded answers of the Rust: writes a crate `recorded` of computed claims, one for each case.
+
+    recorded.py CASES FOLDER EVERY
+
+CASES has the recorded cases (texts NAME.txt with NAME.out, and lib.cases.bin with lib.answers.bin), FOLDER is where the crate is written,
+and every EVERY-th case that is small enough for antt is taken."""
+import glob
+import os
+import struct
+import sys
+
+DIRTY32 = 0x5A5A5A5A
+DIRTY64 = 0x5A5A5A5A5A5A5A5A
+DIRTY8 = 0x5A
+MOST_TEXT = 900  # bytes of a program's text
+MOST_WORDS = 120  # words of a library case
+A_FILE = 20  # claims in a file
+
+HEAD = """-- Recorded answers of the Rust.
+use mathlib.Core.Path.{_≡_, refl}
+use mathlib.Core.List.{List, [], _∷_, _++_, map}
+use Prim.Native.Nat.{ℕ}
+use lib.ListN.{replicate}
+use lib.Ieee.{Float, binary64, ofBits, toBits}
+use Rattle.rules.specs.Rooms.{Answer, accepted, refused, Outcome}
+use Rattle.rules.specs.Patches.{Limit, absent, limit, Filter}
+use Rattle.rules.specs.Line.{bytes}
+use Rattle.rules.specs.Calls.{RepairRooms, repair, EdgesRooms, find-edges, check, PatchesRooms, find-patches, write-line}
+use Rattle.rules.specs.Text.{meshfix}
+use Rattle.rules.specs.Open.{every-rule}
+
+-- floats from their bits, and their bits again
+floats : List ℕ → List Float
+floats xs = map (ofBits binary64) xs
+
+bits : List Float → List ℕ
+bits xs = map (toBits binary64) xs
+
+-- what an answer holds
+told : Answer → List ℕ
+told (accepted entries) = 0 ∷ 0 ∷ entries
+told (refused number place) = number ∷ place ∷ []
+
+repairing : List Float → List ℕ → Float → ℕ → RepairRooms → List (List ℕ)
+repairing points faces s options r =
+    let o = repair points faces s options r in
+    told (o .answer) ∷ bits (o .rooms .points) ∷ o .rooms .faces ∷ o .rooms .report ∷ o .rooms .work ∷ []
+
+edging : List Float → List ℕ → EdgesRooms → List (List ℕ)
+edging points faces r =
+    let o = find-edges points faces r in
+    told (o .answer) ∷ o .rooms .ends ∷ bits (o .rooms .lengths) ∷ o .rooms .face-edges ∷ o .rooms .loop-vertices ∷ o .rooms .loop-ends ∷ o .rooms .work ∷ []
+
+checking : ℕ → List ℕ → List ℕ → List (List ℕ)
+checking P faces work = let o = check P faces work in told (o .answer) ∷ o .rooms ∷ []
+
+patching : List Float → List ℕ → List ℕ → ℕ → Filter → PatchesRooms → List (List ℕ)
+patching points faces labels C by r =
+    let o = find-patches points faces labels C by r in
+    told (o .answer) ∷ o .rooms .counts ∷ bits (o .rooms .numbers) ∷ o .rooms .flags ∷ o .rooms .work ∷ []
+
+lining : List ℕ → List ℕ → List (List ℕ)
+lining counts r = let o = write-line counts r in told (o .answer) ∷ o .rooms ∷ []
+
+"""
+CLAIM = """claim{n} : {found} ≡ {stated}
+unfolding floats bits told repairing edging checking patching lining every-rule
+claim{n} = refl
+
+"""
+
+
+def quoted(text):
+    """The bytes of a text as an antt string."""
+    special = {9: "\\t", 10: "\\n", 34: '\\"', 92: "\\\\"}
+    return '"' + "".join(special.get(b) or (chr(b) if 32 <= b < 127 else "\\x%02x" % b) for b in text) + '"'
+
+
+def listed(xs):
+    return "(" + "".join("%d ∷ " % x for x in xs) + "[])"
+
+
+def rows(xss):
+    return "(" + "".join(listed(xs) + " ∷ " for xs in xss) + "[])"
+
+
+def texts(cases):
+    """The program's cases: what the rule gives for a text, and what was recorded."""
+    for name in sorted(glob.glob(os.path.join(cases, "*.txt"))):
+        text = open(name, "rb").read()
+        if len(text) <= MOST_TEXT and all(b < 128 for b in text):
+            out = open(name[:-4] + ".out", "rb").read()
+            yield "meshfix (bytes %s)" % quoted(text), "bytes %s" % quoted(out)
+
+
+class Words:
+    """A row of words, read from the front."""
+
+    def __init__(self, words):
+        self.words, self.at = words, 0
+
+    def one(self):
+        self.at += 1
+        return self.words[self.at - 1]
+
+    def some(self, n):
+        self.at += n
+        return list(self.words[self.at - n : self.at])
+
+    def array(self):
+        n = self.one()
+        return [self.one()] * n if self.one() == 1 else self.some(n)
+
+    def row(self):
+        return self.some(self.one())
+
+
+def records(name):
+    data = open(name, "rb").read()
+    assert data[:8] == b"MFIXCAS1"
+    w = Words(struct.unpack("<%dQ" % (len(data) // 8), data))
+    w.at = 1
+    while w.at < len(w.words):
+        call, n = w.one(), w.one()
+        yield call, w.some(n)
+
+
+def room(answer, stated, length, dirty):
+    """What stands in a room of an accepted call: the answer, zero up to what is stated, and beyond what it held."""
+    return list(answer) + [0] * (stated - len(answer)) + [dirty] * (length - stated)
+
+
+def held(lengths, kinds):
+    """What the rooms hold before a call, and still after a refusal."""
+    return [[dirty] * n for n, dirty in zip(lengths, kinds)]
+
+
+def outcome(number, place, answers, entries, stated, lengths, kinds):
+    if number:
+        return rows([[number, place]] + held(lengths, kinds))
+    filled = [room(a, s, n, k) for a, s, n, k in zip(answers + [[]], stated, lengths, kinds)]
+    return rows([[0, 0] + entries] + filled)
+
+
+def rooms(fields, lengths, kinds):
+    parts = ["%s = %s" % (f, ("replicate %d (ofBits binary64 %d)" if k == DIRTY64 else "replicate %d %d") % (n, k)) for f, n, k in zip(fields, lengths, kinds)]
+    return "(record { " + "; ".join(parts) + " })"
+
+
+def limit(present, value, real):
+    return ("(limit (ofBits binary64 %d))" if real else "(limit %d)") % value if present else "absent"
+
+
+def turned(vertices, ends):
+    """The loops as document 01 lists them: each with its lowest vertex last, by rising lowest vertex."""
+    loops, start = [], 0
+    for end in ends:
+        loop = vertices[start:end]
+        low = loop.index(min(loop)) + 1
+        loops.append(loop[low:] + loop[:low])
+        start = end
+    loops.sort(key=lambda loop: loop[-1])
+    totals, total = [], 0
+    for loop in loops:
+        total += len(loop)
+        totals.append(total)
+    return [v for loop in loops for v in loop], totals
+
+
+def calls(cases):
+    """The library's cases: the call's outcome by the rules, and what was recorded, with every room."""
+    for (call, case), (_, answer) in zip(records(cases + "/lib.cases.bin"), records(cases + "/lib.answers.bin")):
+        if len(case) > MOST_WORDS:
+            continue
+        w, a = Words(case), Words(answer)
+        number, place = a.one(), a.one()
+        answers = [a.row() for _ in range(a.one())]
+        entries = [len(row) for row in answers]
+        if call == 1:
+            options, s, points, faces, lengths = w.one(), w.one(), w.array(), w.array(), w.array()
+            P, F = len(points) // 3, len(faces) // 3
+            kinds = [DIRTY64, DIRTY32, DIRTY32, DIRTY32]
+            stated = [3 * (P + 3 * F), 3 * F, 10, 16 * P + 64 * F + 64]
+            lent = rooms(["points", "faces", "report", "work"], lengths, kinds)
+            found = "repairing (floats %s) %s (ofBits binary64 %d) %d %s" % (listed(points), listed(faces), s, options, lent)
+        elif call == 2:
+            points, faces, lengths = w.array(), w.array(), w.array()
+            P, F = len(points) // 3, len(faces) // 3
+            kinds = [DIRTY32, DIRTY64, DIRTY32, DIRTY32, DIRTY32, DIRTY32]
+            stated = [6 * F, 3 * F, 3 * F, 3 * F, 3 * F, 16 * P + 64 * F + 64]
+            lent = rooms(["ends", "lengths", "face-edges", "loop-vertices", "loop-ends", "work"], lengths, kinds)
+            found = "edging (floats %s) %s %s" % (listed(points), listed(faces), lent)
+            if number == 0:
+                answers[3:5] = turned(answers[3], answers[4])
+        elif call == 3:
+            P, faces, lengths = w.one(), w.array(), w.array()
+            kinds, stated = [DIRTY32], [16 * P + 64 * (len(faces) // 3) + 64]
+            found = "checking %d %s (replicate %d %d)" % (P, listed(faces), lengths[0], DIRTY32)
+            if number == 0:
+                entries, answers = answers[0], []
+        elif call == 4:
+            points, faces, labels, C = w.array(), w.array(), w.array(), w.one()
+            pairs = [(w.one(), w.one()) for _ in range(5)]
+            lengths = w.array()
+            kinds = [DIRTY32, DIRTY64, DIRTY32, DIRTY32]
+            stated = [C, 7 * C, C, 4 * C]
+            names = ["min-faces", "min-area", "min-diagonal", "min-fraction", "keep-largest"]
+            limits = "; ".join("%s = %s" % (f, limit(*p, real=f not in ("min-faces", "keep-largest"))) for f, p in zip(names, pairs))
+            lent = rooms(["counts", "numbers", "flags", "work"], lengths, kinds)
+            found = "patching (floats %s) %s %s %d (record { %s }) %s" % (listed(points), listed(faces), listed(labels), C, limits, lent)
+        else:
+            counts, lengths = w.array(), w.array()
+            kinds, stated = [DIRTY8], [512]
+            found = "lining %s (replicate %d %d)" % (listed(counts), lengths[0], DIRTY8)
+            if number == 0:
+                rest = room(answers[0], 512, lengths[0], DIRTY8)
+                yield found, rows([[0, 0, entries[0]], rest])
+                continue
+        if sum(lengths) > 3000:
+            continue
+        yield found, outcome(number, place, answers, entries, stated, lengths, kinds)
+
+
+def main():
+    cases, folder, every = sys.argv[1], sys.argv[2], int(sys.argv[3])
+    claims = (list(texts(cases)) + list(calls(cases)))[::every]
+    os.makedirs(folder + "/src")
+    os.makedirs(folder + "/specs")
+    open(folder + "/src/lib.rt", "w").write("// Recorded answers stand in specs/.\n")
+    parts = range(0, len(claims), A_FILE)
+    open(folder + "/specs/Lib.antt", "w").write("".join("pub mod Part%d\n" % p for p in parts))
+    for p in parts:
+        body = "".join(CLAIM.format(n=i, found=f, stated=s) for i, (f, s) in enumerate(claims[p : p + A_FILE]))
+        open(folder + "/specs/Part%d.antt" % p, "w").write(HEAD + body)
+    print("recorded: %d claims" % len(claims))
+
+
+main()

@@ -1,0 +1,26 @@
+#!/usr/bin/env bash
+# The rules against recorded answers of the Rust: antt runs every definition on a sample of them, and each must come out as recorded.
+# Where ../shared/cases is absent it says so. EVERY=1 takes all that are small enough.
+set -u
+here=$(cd "$(dirname "${BASH_SOURCE[0]}")/.." && pwd)
+cases=${CASES:-$here/../shared/cases/open}
+if [ ! -d "$cases" ]; then
+    echo "recorded: no recorded cases at $cases, so none is run"
+    exit 0
+fi
+room=$(mktemp -d) || exit 1
+trap 'rm -rf "$room"' EXIT
+for crate in root rules; do
+    mkdir -p "$room/crates/$crate/src"
+    cp -r "$here/crates/$crate/specs" "$room/crates/$crate/"
+    echo '// Only the definitions.' >"$room/crates/$crate/src/lib.rt"
+done
+printf '%s\n' 'root:' 'rules: root' 'recorded: root rules' >"$room/crates.txt"
+python3 "$here/tests/recorded.py" "$cases" "$room/crates/recorded" "${EVERY:-16}" || exit 1
+cd "$room" || exit 1
+log=$room/log
+rt check recorded >"$log" 2>&1
+status=$?
+grep -E ': error' "$log" | cut -c1-300 | head -n 20
+[ "$status" -eq 0 ] || tail -n 3 "$log"
+exit "$status"

@@ -53,6 +53,12 @@ module _ {A : Type 0} where
   single x y (z ∷ []) h m k = List·Memᴰ·eq-of-singleton m ∙ sym (List·Memᴰ·eq-of-singleton k)
   single x y (z ∷ w ∷ xs) h m k = absurd (omega arith)
 
+  -- the members of a list of three
+  pub mem-three : {x a b c : A} → List·Memᴰ x (a ∷ b ∷ c ∷ []) → (x ≡ a) ⊎ ((x ≡ b) ⊎ (x ≡ c))
+  mem-three (List·Memᴰ·head e) = inl e
+  mem-three (List·Memᴰ·tail (List·Memᴰ·head e)) = inr (inl e)
+  mem-three (List·Memᴰ·tail (List·Memᴰ·tail m)) = inr (inr (List·Memᴰ·eq-of-singleton m))
+
   -- ---- the members of what a filter leaves are the members that pass
 
   -- a member that passes is left
@@ -72,6 +78,16 @@ module _ {A : Type 0} where
   -- what is left is a member, and passes
   pub mem-left : (p : A → Bool) (x : A) (xs : List A) → List·Memᴰ x (filter p xs) → List·Memᴰ x xs × T (p x)
   mem-left p x xs m = all-in (λ y. List·Memᴰ y xs × T (p y)) x (filter p xs) (all-filter (λ y. List·Memᴰ y xs) p xs (all-members xs)) m
+
+  -- where none passes, nothing is left
+  pub none-filter : (p : A → Bool) (xs : List A) → any p xs ≡ false → filter p xs ≡ []
+  unfolding any filter
+  none-filter p [] e = refl
+  none-filter p (x ∷ xs) e = go (p x) e (λ r. none-filter p xs r)
+    where
+      go : (b : Bool) → (b || any p xs) ≡ false → (any p xs ≡ false → filter p xs ≡ []) → cond b (x ∷ filter p xs) (filter p xs) ≡ []
+      go true e r = absurd (true≢false e)
+      go false e r = r e
 
   -- ---- some member passes, all members pass
 

@@ -10,8 +10,8 @@ use native.Mathlib.Decide.{decLt}
 use borrow.Author.Tests.{eqb-true}
 use lib.ListN.{length, getD, length-append, length-map}
 use lib.Dec.{T, eqb, eqb→eq, eqb-refl}
+use lib.Ieee.Bits.{is-true}
 use Rattle.rules.specs.Lists.{below, filter, count, any, each}
-use Rattle.rules.proofs.Tests.{true-of}
 use Rattle.rules.proofs.Lists.{filter-append, filter-map, length-below, count-below}
 use Rattle.rules.proofs.Rising.{All, all-imp, below-all}
 use Rattle.rules.proofs.Members.{in-all, some-length, single, mem-at, mem-filter, mem-below, below-mem, mem-each, any-intro, any-mem}
@@ -22,7 +22,7 @@ module _ {A : Type 0} where
   -- one that passes counts one
   pub count-one : (p : A → Bool) (x : A) → T (p x) → count p (x ∷ []) ≡ 1
   unfolding count filter
-  count-one p x t = ap (λ (b : Bool). length (cond b (x ∷ []) [])) (true-of (p x) t)
+  count-one p x t = ap (λ (b : Bool). length (cond b (x ∷ []) [])) (is-true (p x) t)
 
   -- one that does not counts nothing
   pub count-not : (p : A → Bool) (x : A) → p x ≡ false → count p (x ∷ []) ≡ 0

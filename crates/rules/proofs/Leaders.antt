@@ -7,10 +7,10 @@ use mathlib.Core.List.{List, [], _∷_, _++_, map, map-append, List·Memᴰ}
 use Prim.Native.Nat.{ℕ, _≤_, _<_}
 use native.Mathlib.Omega.{arith}
 use lib.ListN.{length, length-map}
-use lib.Dec.{T, leb, leb→le, le→leb}
+use lib.Dec.{T, leb, leb→le, le→leb, not-T}
+use lib.Ieee.Bits.{is-false}
 use Rattle.rules.specs.Lists.{below, filter, count, first, has}
 use Rattle.rules.specs.Groups.{group, groups, leads}
-use Rattle.rules.proofs.Tests.{false-of}
 use Rattle.rules.proofs.Lists.{filter-append, filter-cons}
 use Rattle.rules.proofs.Rising.{All, all-imp, all-filter, all-map, below-all, below-at}
 use Rattle.rules.proofs.Members.{in-all, all-in, all-elim, all-intro, mem-has, has-mem}
@@ -62,11 +62,11 @@ module _ (joined : ℕ → ℕ → Bool) (n : ℕ) (turns : (k l : ℕ) → T (j
 
   -- one that is in an earlier one's group does not lead
   pub follows : (l s : ℕ) → l < s → l < n → List·Memᴰ s (group joined n l) → leads joined n s ≡ false
-  follows l s h hl m = false-of (leads joined n s) (λ t. let k = leads-le joined n s l t (group-sym l s hl m) in omega arith)
+  follows l s h hl m = is-false (leads joined n s) (not-T (leads joined n s) (λ t. let k = leads-le joined n s l t (group-sym l s hl m) in omega arith))
 
   -- a leader's group holds x, and then no other leader's does
   others : (x l : ℕ) → l < n → T (leads joined n l) → List·Memᴰ x (group joined n l) → (z : ℕ) → (z ≡ l → ⊥) → z < n → T (leads joined n z) → has x (group joined n z) ≡ false
-  others x l hl tl m z e hz tz = false-of (has x (group joined n z)) (λ t. e (one-leader z l x hz hl tz tl (has-mem x (group joined n z) t) m))
+  others x l hl tl m z e hz tz = is-false (has x (group joined n z)) (not-T (has x (group joined n z)) (λ t. e (one-leader z l x hz hl tz tl (has-mem x (group joined n z) t) m)))
 
   -- the groups before the one that l leads, as many as lead before l, and those after it, none of which has x
   pub groups-at :

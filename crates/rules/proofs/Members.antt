@@ -10,8 +10,9 @@ use native.Mathlib.Nat.{le-of-suc-le-suc, not-suc-le-zero}
 use native.Mathlib.Decide.{ℕ-discrete}
 use lib.ListN.{length, getD}
 use lib.Dec.{T, eqb, eqb→eq, eqb-refl}
+use lib.Ieee.Fits.{and-i}
 use Rattle.rules.specs.Lists.{below, filter, any, all, each, has}
-use Rattle.rules.proofs.Tests.{and-elim, and-intro, or-left, or-right}
+use Rattle.rules.proofs.Tests.{and-elim, or-left, or-right}
 use Rattle.rules.proofs.Rising.{All, all-filter, below-all}
 
 -- ---- members and elements
@@ -121,7 +122,7 @@ module _ {A : Type 0} where
   pub all-intro : (p : A → Bool) (xs : List A) → All (λ x. T (p x)) xs → T (all p xs)
   unfolding all
   all-intro p [] h = tt
-  all-intro p (x ∷ xs) h = and-intro (p x) (all p xs) (h .0) (all-intro p xs (h .1))
+  all-intro p (x ∷ xs) h = and-i (p x) (all p xs) (h .0) (all-intro p xs (h .1))
 
   -- where not all pass, one that does not
   pub all-not : (p : A → Bool) (xs : List A) → all p xs ≡ false → (x : A) × List·Memᴰ x xs × (p x ≡ false)

@@ -1,28 +1,14 @@
--- What a passed test says: of an `and`, of an `or`, and of two tests that pass together. Assumes nothing.
+-- What a passed test says: of an `and`, of an `or`, and of two tests that pass together. More is in the kit: `and-i`, `is-true`, `is-false`, `not-T`.
+-- Assumes nothing.
 use mathlib.Core.Path.{_≡_, refl}
 use mathlib.Core.Logic.{_⊎_, inl, inr}
 use mathlib.Core.Bool.{Bool, true, false, _&&_, _||_}
 use lib.Dec.{T}
-
--- a test that passes is true
-pub true-of : (b : Bool) → T b → b ≡ true
-true-of true h = refl
-true-of false h = absurd h
-
--- a test that cannot pass is false
-pub false-of : (b : Bool) → (T b → ⊥) → b ≡ false
-false-of true h = absurd (h tt)
-false-of false h = refl
+use lib.Ieee.Fits.{and-l, and-r}
 
 -- where both must pass, each does
 pub and-elim : (a b : Bool) → T (a && b) → T a × T b
-and-elim true b t = (tt, t)
-and-elim false b t = absurd t
-
--- where each passes, both do
-pub and-intro : (a b : Bool) → T a → T b → T (a && b)
-and-intro true b s t = t
-and-intro false b s t = absurd s
+and-elim a b t = (and-l a b t, and-r a b t)
 
 -- one of two passes as the first does
 pub or-left : (a b : Bool) → T a → T (a || b)

@@ -1,7 +1,7 @@
 -- Of points that number 4 does not refuse, every quality, area and edge length is a number, not negative and not infinite; so rank by quality is a
 -- strict total order. Corners need not be below P. Exponents count the smallest f64, 2^-1074. Assumes nothing.
-use mathlib.Core.Path.{_≡_}
-use mathlib.Core.Bool.{Bool, true, false, not, _&&_}
+use mathlib.Core.Path.{_≡_, subst}
+use mathlib.Core.Bool.{true, not, _&&_, Bool·not-not}
 use mathlib.Core.List.{List, [], _∷_}
 use Prim.Native.Nat.{ℕ, zero, suc}
 use lib.Dec.{T}
@@ -16,9 +16,8 @@ use Rattle.rules.specs.Float.{quality, area, difference, norm}
 use Rattle.rules.specs.Rank.{outranks}
 use Rattle.rules.specs.Steps.{edges, qualityOf}
 use Rattle.rules.specs.Edges.{lengths}
-use Rattle.rules.proofs.Rising.{All}
-use Rattle.rules.proofs.Once.{all-map}
-use Rattle.rules.proofs.Pigeons.{in-all}
+use Rattle.rules.proofs.Rising.{All, all-map}
+use Rattle.rules.proofs.Members.{in-all}
 use Rattle.rules.proofs.Firsts.{at-first-all}
 use Rattle.rules.proofs.Bounds.{Upto, plain-finite, upto-within}
 use Rattle.rules.proofs.Domain.{Near, domain-within, difference-norm}
@@ -26,11 +25,6 @@ use Rattle.rules.proofs.FaceBounds.{zero-upto, area-upto, quality-upto}
 use Rattle.rules.proofs.Ranks.{StrictTotal, rank-is-order}
 
 -- ---- points that number 4 does not refuse
-
--- not twice is yes
-twice-not : (b : Bool) → T (not (not b)) → T b
-twice-not true t = tt
-twice-not false t = absurd t
 
 -- a point whose coordinates are in the domain
 near-of : (p : Point) → T (all in-domain (coordinates p)) → Near 1174 p
@@ -47,7 +41,7 @@ near-of p t =
 all-near : (ps : List Point) → All (λ p. T (not (not (all in-domain (coordinates p))))) ps → (i : ℕ) → Near 1174 (point ps i)
 unfolding point
 all-near [] a i = let z = upto-within (zero-upto 1174) in record { x = z; y = z; z = z }
-all-near (p ∷ ps) a zero = near-of p (twice-not (all in-domain (coordinates p)) (a .0))
+all-near (p ∷ ps) a zero = near-of p (subst T (Bool·not-not (all in-domain (coordinates p))) (a .0))
 all-near (p ∷ ps) a (suc i) = all-near ps (a .1) i
 
 module _ (ps : List Point) (fine : no4 ps ≡ ok) where

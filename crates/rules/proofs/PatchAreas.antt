@@ -16,7 +16,7 @@ use Rattle.rules.specs.Float.{area, _⊕_}
 use Rattle.rules.specs.Rank.{outranks}
 use Rattle.rules.specs.Patches.{Patch, empty, widened, with-face, patch, patches, area-of, higher, largest}
 use Rattle.rules.proofs.Lists.{length-below}
-use Rattle.rules.proofs.Groups.{filter-le}
+use Rattle.rules.proofs.Counting.{filter-le}
 use Rattle.rules.proofs.Bounds.{Upto}
 use Rattle.rules.proofs.FaceBounds.{zero-upto}
 use Rattle.rules.proofs.Totals.{Total, total-upto, add-total}

@@ -122,8 +122,9 @@ zeros =
     ∷ zero64 ∷ minus-zero64 ∷ zero64
     ∷ zero64 ∷ minus-zero64 ∷ minus-zero64 ∷ []
 
--- ---- document 01's examples that are not starred
+-- ---- document 01's examples
 
+-- those that are not starred
 pub not-starred : List Row
 not-starred =
     -- face 0 1 2 of the unit legs with s = 1 is degenerate; with the f64 just below 1 it isn't
@@ -142,8 +143,9 @@ pub examples : map (λ r. r .found) not-starred ≡ map (λ r. r .stated) not-st
 unfolding not-starred row answered bits repairing edging printing below-one64 legs origins mended shown every-rule
 examples = refl
 
--- ---- the slips that document 01 expects
+-- ---- slips
 
+-- those that document 01 expects
 pub slips : List Row
 slips =
     -- Dropping faces edge by edge in pass 3: face 2 leaves at the edge 0 1, and face 4 leaves at the edge 1 2 all the same, where face 2 is an entry.
@@ -164,8 +166,9 @@ pub no-slip : map (λ r. r .found) slips ≡ map (λ r. r .stated) slips
 unfolding slips row flagging legs origins mended every-rule
 no-slip = refl
 
--- ---- refusals and their places, and what is passed
+-- ---- refusals
 
+-- each number with its places, and what just passes
 pub refusals : List Row
 refusals =
     -- 1: points, then faces; and before all that follows
@@ -211,8 +214,9 @@ pub refused-so : map (λ r. r .found) refusals ≡ map (λ r. r .stated) refusal
 unfolding refusals row answered bits repairing edging checking patching all-kept lining printing minus-zero64 legs origins shown every-rule
 refused-so = refl
 
--- ---- answers in their rooms
+-- ---- answers
 
+-- what stands in the rooms of accepted calls
 pub answers : List Row
 answers =
     -- the edge check: no faces; both sides of a face; a directed edge twice; a repeated corner
@@ -283,6 +287,7 @@ pub program : meshfix (bytes input) ≡ bytes output
 unfolding input output every-rule
 program = refl
 
+-- texts that are refused, and the shortest that is not
 pub texts : List Row
 texts =
     -- text without an `o` line, the empty text too, is refused 11

@@ -1,0 +1,53 @@
+-- `rows_try::keyed` meets its contract: antt computes what the row holds. Assumes nothing.
+use mathlib.Core.Path.{_≡_, refl}
+use mathlib.Core.Bool.{true}
+use mathlib.Core.List.{List}
+use Prim.Native.Nat.{ℕ}
+use native.Mathlib.Omega.{arith}
+use lib.ListN.{length}
+use Rattle.rows.specs.Region.{Apart.before, Apart.after}
+use Rattle.rows.specs.Sort.{TriplesAsks}
+use Rattle.rows_try.proofs.Bounded.{within, bounded, zeros}
+use Rattle.rows_try.proofs.keyed.Statement.{statement}
+use Rattle.rows_try.proofs.keyed.Tie as tie
+
+-- rows in line, of ids below 6, of keys below 3, and of zeros
+ready : (w : List ℕ) → length w ≡ 39 → within w 0 6 6 ≡ true → within w 6 6 3 ≡ true → within w 12 6 3 ≡ true → within w 18 6 3 ≡ true → within w 24 3 1 ≡ true → TriplesAsks w 0 6 6 12 18 24 3 27 33
+ready w l ids first second third bins =
+    record {
+      by-rest = record {
+        by-second = record {
+          count = record {
+            keyed = record { ids-fit = omega arith; keys-fit = omega arith; id = bounded w 0 6 6 ids; key = bounded w 18 6 3 third };
+            few = omega arith;
+            bins-fit = omega arith;
+            bins-ids = before (omega arith);
+            bins-keys = before (omega arith);
+            zeros = record { each = zeros w 24 3 bins };
+          };
+          dst-fit = omega arith;
+          dst-ids = before (omega arith);
+          dst-keys = before (omega arith);
+          dst-bins = before (omega arith);
+        };
+        first-fit = omega arith;
+        key = bounded w 12 6 3 second;
+        bins-first = before (omega arith);
+        tmp-first = before (omega arith);
+        dst-fit = omega arith;
+        dst-first = before (omega arith);
+        dst-tmp = after (omega arith);
+        dst-bins = before (omega arith);
+      };
+      first-fit = omega arith;
+      key = bounded w 6 6 3 first;
+      bins-first = before (omega arith);
+      tmp-first = before (omega arith);
+      dst-first = before (omega arith);
+    }
+
+returns : tie.Need-returns
+returns c = (refl, ready _ refl refl refl refl refl refl)
+
+pub keyed-spec : {M : Type 1} → statement M
+keyed-spec = tie.close (tie.spec returns)

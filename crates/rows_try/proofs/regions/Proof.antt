@@ -1,0 +1,43 @@
+-- `rows_try::regions` meets what the functions of `rows` ask. Assumes nothing.
+use native.Mathlib.Omega.{arith}
+use Rattle.rows.specs.Region.{Apart.before}
+use borrow.Author.Needs.{needs}
+use Rattle.rows_try.proofs.regions.Statement.{statement}
+use Rattle.rows_try.proofs.regions.Tie as tie
+
+fill-requires : tie.Need-fill-requires
+fill-requires c κs = search needs
+
+show-requires : tie.Need-show-requires
+show-requires c κs = search needs
+
+clear-requires : tie.Need-clear-requires
+clear-requires c κs = search needs
+
+show-requires-2 : tie.Need-show-requires-2
+show-requires-2 c κs = search needs
+
+copy-requires : tie.Need-copy-requires
+copy-requires c κs = record { src-fit = search needs; dst-fit = search needs; apart = before (omega arith) }
+
+show-requires-3 : tie.Need-show-requires-3
+show-requires-3 c κs = search needs
+
+same-length : tie.Need-same-length
+same-length c = search needs
+
+returns : tie.Need-returns
+returns c = search needs
+
+pub regions-spec : {M : Type 1} → statement M
+regions-spec =
+    tie.close
+    (tie.spec
+    fill-requires
+    show-requires
+    clear-requires
+    show-requires-2
+    copy-requires
+    show-requires-3
+    same-length
+    returns)

@@ -1,0 +1,186 @@
+// Writes what each function of `rows` makes of small rows. The file stdout says what it must be.
+ghost use mathlib.Core.Path.{_≡_};
+ghost use lib.ListN.{length};
+ghost use Rattle.rows.specs.Sort.{TriplesAsks};
+
+// A u32 as a u64.
+fn wide(x: u32) -> u64 {
+    x as u64
+}
+
+// Writes a number and a space.
+fn show_number(n: u64) {
+    io::print_decimal(1, n);
+    io::write_all(1, b" ");
+}
+
+// Writes the numbers of a row, and ends the line.
+fn show(row: &[u32]) {
+    let mut i = 0;
+    while i < row.len() {
+        show_number(wide(row[i]));
+        i += 1;
+    }
+    io::write_all(1, b"\n");
+}
+
+// The whole number below 100 that x equals, and 100 where there is none.
+fn whole(x: f64) -> u64 {
+    let mut n = 0;
+    let mut y = 0.0;
+    while n < 100 {
+        if x == y {
+            return n;
+        }
+        y = y + 1.0;
+        n += 1;
+    }
+    n
+}
+
+// Writes the floats of a row, which are small whole numbers, and ends the line.
+fn show_points(row: &[f64]) {
+    let mut i = 0;
+    while i < row.len() {
+        show_number(whole(row[i]));
+        i += 1;
+    }
+    io::write_all(1, b"\n");
+}
+
+// Six ids, three columns of keys below 3, three bins, and room for two rows of ids.
+fn keyed() -> [u32; 39]
+    ensures { λ r. ⌜ 39 ≡ length r ⌝ }
+    ensures { λ r. ⌜ TriplesAsks r 0 6 6 12 18 24 3 27 33 ⌝ }
+{
+    [
+        0,
+        1,
+        2,
+        3,
+        4,
+        5,
+        2,
+        0,
+        2,
+        0,
+        2,
+        1,
+        1,
+        2,
+        0,
+        1,
+        1,
+        0,
+        2,
+        1,
+        0,
+        1,
+        0,
+        2,
+        0,
+        0,
+        0,
+        9,
+        9,
+        9,
+        9,
+        9,
+        9,
+        9,
+        9,
+        9,
+        9,
+        9,
+        9,
+    ]
+}
+
+// The ids by the third key.
+fn by_one() {
+    let mut work = keyed();
+    rows::sort(&mut work, 0, 6, 18, 24, 3, 33);
+    show(&work);
+}
+
+// The ids by the second key and the third.
+fn by_two() {
+    let mut work = keyed();
+    rows::sort_pairs(&mut work, 0, 6, 12, 18, 24, 3, 33, 27);
+    show(&work);
+}
+
+// The ids by all three keys.
+fn by_three() {
+    let mut work = keyed();
+    rows::sort_triples(&mut work, 0, 6, 6, 12, 18, 24, 3, 27, 33);
+    show(&work);
+}
+
+// A region filled, one cleared, and one copied.
+fn regions(work: &mut [u32])
+    requires { ⌜ length (now work) ≡ 12 ⌝ }
+{
+    rows::fill(work, 2, 3, 7);
+    show(work);
+    rows::clear(work, 4, 2);
+    show(work);
+    rows::copy(work, 1, 4, 7);
+    show(work);
+}
+
+// Faces by flags: those that stay, and the number that each has then.
+fn faces(faces: &mut [u32], work: &mut [u32])
+    requires { ⌜ length (now faces) ≡ 13 ⌝ }
+    requires { ⌜ length (now work) ≡ 10 ⌝ }
+{
+    rows::number_kept(work, 1, 4, 6);
+    show(work);
+    show_number(rows::retain(faces, work, 1, 4) as u64);
+    show(faces);
+    rows::copy_row(faces, work, 5);
+    show(work);
+}
+
+// Points by flags: those that stay. Then a region cleared, and a row copied.
+fn points(points: &mut [f64], work: &[u32], to: &mut [f64])
+    requires { ⌜ length (now points) ≡ 13 ⌝ }
+    requires { ⌜ length (now work) ≡ 5 ⌝ }
+    requires { ⌜ length (now to) ≡ 6 ⌝ }
+{
+    show_number(rows::retain_points(points, work, 1, 4) as u64);
+    show_points(points);
+    rows::clear_points(points, 6, 5);
+    show_points(points);
+    rows::copy_points(points, to, 4);
+    show_points(to);
+}
+
+fn main() {
+    by_one();
+    by_two();
+    by_three();
+    let mut row = [1, 2, 3, 4, 5, 6, 7, 8, 9, 10, 11, 12];
+    regions(&mut row);
+    let mut corners = [1, 2, 3, 4, 5, 6, 7, 8, 9, 10, 11, 12, 13];
+    let mut work = [1, 0, 1, 0, 0, 1, 77, 77, 77, 77];
+    faces(&mut corners, &mut work);
+    let mut coordinates = [
+        1.0,
+        2.0,
+        3.0,
+        4.0,
+        5.0,
+        6.0,
+        7.0,
+        8.0,
+        9.0,
+        10.0,
+        11.0,
+        12.0,
+        13.0,
+    ];
+    let flags = [0, 1, 0, 1, 0];
+    let mut room = [50.0, 51.0, 52.0, 53.0, 54.0, 55.0];
+    points(&mut coordinates, &flags, &mut room);
+}

@@ -15,6 +15,7 @@ DIRTY64 = 0x5A5A5A5A5A5A5A5A
 DIRTY8 = 0x5A
 MOST_TEXT = 900  # bytes of a program's text
 MOST_WORDS = 120  # words of a library case
+MOST_ENTRIES = 3000  # entries of an array or of all rooms
 A_FILE = 20  # claims in a file
 
 HEAD = """-- Recorded answers of the Rust.
@@ -94,6 +95,10 @@ def texts(cases):
             yield "meshfix (bytes %s)" % quoted(text), "bytes %s" % quoted(out)
 
 
+class Long(Exception):
+    """An array of more entries than antt is given."""
+
+
 class Words:
     """A row of words, read from the front."""
 
@@ -110,7 +115,12 @@ class Words:
 
     def array(self):
         n = self.one()
-        return [self.one()] * n if self.one() == 1 else self.some(n)
+        if self.one() == 1:
+            value = self.one()
+            if n > MOST_ENTRIES:
+                raise Long
+            return [value] * n
+        return self.some(n)
 
     def row(self):
         return self.some(self.one())
@@ -168,58 +178,64 @@ def turned(vertices, ends):
     return [v for loop in loops for v in loop], totals
 
 
+def claim(call, case, answer):
+    """One of the library's cases: the call's outcome by the rules, and what was recorded, with every room."""
+    w, a = Words(case), Words(answer)
+    number, place = a.one(), a.one()
+    answers = [a.row() for _ in range(a.one())]
+    entries = [len(row) for row in answers]
+    if call == 1:
+        options, s, points, faces, lengths = w.one(), w.one(), w.array(), w.array(), w.array()
+        P, F = len(points) // 3, len(faces) // 3
+        kinds = [DIRTY64, DIRTY32, DIRTY32, DIRTY32]
+        stated = [3 * (P + 3 * F), 3 * F, 10, 16 * P + 64 * F + 64]
+        lent = rooms(["points", "faces", "report", "work"], lengths, kinds)
+        found = "repairing (floats %s) %s (ofBits binary64 %d) %d %s" % (listed(points), listed(faces), s, options, lent)
+    elif call == 2:
+        points, faces, lengths = w.array(), w.array(), w.array()
+        P, F = len(points) // 3, len(faces) // 3
+        kinds = [DIRTY32, DIRTY64, DIRTY32, DIRTY32, DIRTY32, DIRTY32]
+        stated = [6 * F, 3 * F, 3 * F, 3 * F, 3 * F, 16 * P + 64 * F + 64]
+        lent = rooms(["ends", "lengths", "face-edges", "loop-vertices", "loop-ends", "work"], lengths, kinds)
+        found = "edging (floats %s) %s %s" % (listed(points), listed(faces), lent)
+        if number == 0:
+            answers[3:5] = turned(answers[3], answers[4])
+    elif call == 3:
+        P, faces, lengths = w.one(), w.array(), w.array()
+        kinds, stated = [DIRTY32], [16 * P + 64 * (len(faces) // 3) + 64]
+        found = "checking %d %s (replicate %d %d)" % (P, listed(faces), lengths[0], DIRTY32)
+        if number == 0:
+            entries, answers = answers[0], []
+    elif call == 4:
+        points, faces, labels, C = w.array(), w.array(), w.array(), w.one()
+        pairs = [(w.one(), w.one()) for _ in range(5)]
+        lengths = w.array()
+        kinds = [DIRTY32, DIRTY64, DIRTY32, DIRTY32]
+        stated = [C, 7 * C, C, 4 * C]
+        names = ["min-faces", "min-area", "min-diagonal", "min-fraction", "keep-largest"]
+        limits = "; ".join("%s = %s" % (f, limit(*p, real=f not in ("min-faces", "keep-largest"))) for f, p in zip(names, pairs))
+        lent = rooms(["counts", "numbers", "flags", "work"], lengths, kinds)
+        found = "patching (floats %s) %s %s %d (record { %s }) %s" % (listed(points), listed(faces), listed(labels), C, limits, lent)
+    else:
+        counts, lengths = w.array(), w.array()
+        kinds, stated = [DIRTY8], [512]
+        found = "lining %s (replicate %d %d)" % (listed(counts), lengths[0], DIRTY8)
+        if number == 0:
+            rest = room(answers[0], 512, lengths[0], DIRTY8)
+            return found, rows([[0, 0, entries[0]], rest])
+    if sum(lengths) > MOST_ENTRIES:
+        raise Long
+    return found, outcome(number, place, answers, entries, stated, lengths, kinds)
+
+
 def calls(cases):
-    """The library's cases: the call's outcome by the rules, and what was recorded, with every room."""
+    """The library's cases that are small enough."""
     for (call, case), (_, answer) in zip(records(cases + "/lib.cases.bin"), records(cases + "/lib.answers.bin")):
-        if len(case) > MOST_WORDS:
-            continue
-        w, a = Words(case), Words(answer)
-        number, place = a.one(), a.one()
-        answers = [a.row() for _ in range(a.one())]
-        entries = [len(row) for row in answers]
-        if call == 1:
-            options, s, points, faces, lengths = w.one(), w.one(), w.array(), w.array(), w.array()
-            P, F = len(points) // 3, len(faces) // 3
-            kinds = [DIRTY64, DIRTY32, DIRTY32, DIRTY32]
-            stated = [3 * (P + 3 * F), 3 * F, 10, 16 * P + 64 * F + 64]
-            lent = rooms(["points", "faces", "report", "work"], lengths, kinds)
-            found = "repairing (floats %s) %s (ofBits binary64 %d) %d %s" % (listed(points), listed(faces), s, options, lent)
-        elif call == 2:
-            points, faces, lengths = w.array(), w.array(), w.array()
-            P, F = len(points) // 3, len(faces) // 3
-            kinds = [DIRTY32, DIRTY64, DIRTY32, DIRTY32, DIRTY32, DIRTY32]
-            stated = [6 * F, 3 * F, 3 * F, 3 * F, 3 * F, 16 * P + 64 * F + 64]
-            lent = rooms(["ends", "lengths", "face-edges", "loop-vertices", "loop-ends", "work"], lengths, kinds)
-            found = "edging (floats %s) %s %s" % (listed(points), listed(faces), lent)
-            if number == 0:
-                answers[3:5] = turned(answers[3], answers[4])
-        elif call == 3:
-            P, faces, lengths = w.one(), w.array(), w.array()
-            kinds, stated = [DIRTY32], [16 * P + 64 * (len(faces) // 3) + 64]
-            found = "checking %d %s (replicate %d %d)" % (P, listed(faces), lengths[0], DIRTY32)
-            if number == 0:
-                entries, answers = answers[0], []
-        elif call == 4:
-            points, faces, labels, C = w.array(), w.array(), w.array(), w.one()
-            pairs = [(w.one(), w.one()) for _ in range(5)]
-            lengths = w.array()
-            kinds = [DIRTY32, DIRTY64, DIRTY32, DIRTY32]
-            stated = [C, 7 * C, C, 4 * C]
-            names = ["min-faces", "min-area", "min-diagonal", "min-fraction", "keep-largest"]
-            limits = "; ".join("%s = %s" % (f, limit(*p, real=f not in ("min-faces", "keep-largest"))) for f, p in zip(names, pairs))
-            lent = rooms(["counts", "numbers", "flags", "work"], lengths, kinds)
-            found = "patching (floats %s) %s %s %d (record { %s }) %s" % (listed(points), listed(faces), listed(labels), C, limits, lent)
-        else:
-            counts, lengths = w.array(), w.array()
-            kinds, stated = [DIRTY8], [512]
-            found = "lining %s (replicate %d %d)" % (listed(counts), lengths[0], DIRTY8)
-            if number == 0:
-                rest = room(answers[0], 512, lengths[0], DIRTY8)
-                yield found, rows([[0, 0, entries[0]], rest])
-                continue
-        if sum(lengths) > 3000:
-            continue
-        yield found, outcome(number, place, answers, entries, stated, lengths, kinds)
+        if len(case) <= MOST_WORDS:
+            try:
+                yield claim(call, case, answer)
+            except Long:
+                pass
 
 
 def main():

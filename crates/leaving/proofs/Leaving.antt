@@ -29,6 +29,7 @@ flag-zero : (b : Bool) (v : ℕ) → v ≡ cond b 1 0 → eqb v 0 ≡ not b
 flag-zero true v e = rw e refl
 flag-zero false v e = rw e refl
 
+-- the two ways to write a list of at most one are the same
 keep-cond : (b : Bool) (i : ℕ) → keep b i [] ≡ cond b (i ∷ []) []
 keep-cond true i = refl
 keep-cond false i = refl
@@ -46,6 +47,7 @@ kept-places {w} {flags} marked f (suc k) h =
     ∙ cc (kept-places marked f k (omega arith), keep-cond (eqb (getD w (flags + k) 0) 0) k, flag-zero (marked k) (getD w (flags + k) 0) (f .each k h))
     ∙ sym (stay-last marked k)
 
+-- the kept numbers are below n
 kept-below : (w : List ℕ) (flags n : ℕ) → All (λ i. i < n) (keptOf w flags n)
 kept-below w flags n = all-filter (λ i. i < n) (λ i. eqb (getD w (flags + i) 0) 0) (upTo n) (go n (omega arith))
   where
@@ -65,6 +67,7 @@ stay-count marked n =
     let s = ap length (leave-places marked (below n) 0) ∙ length-map (stay-at marked (length (below n))) (λ i. getD (below n) i 0) in
     rw (s, l) at (leave-length marked (below n))
 
+-- those that are kept and those that leave are all
 pub left-count :
     {A : Type 0} {d : A} {xs : List A} {w : List ℕ} {flags n : ℕ} {xs′ : List A} {r : ℕ} (marked : ℕ → Bool)
     → Flagged w flags n marked → RetainGives d xs w flags n xs′ r
@@ -83,6 +86,7 @@ rows-each xs f g n e (i ∷ is) a = cc (e i (a .0), rows-each xs f g n e is (a .
 
 -- ---- faces
 
+-- row i is the corners of face i
 face-row : (xs : List ℕ) (n : ℕ) → 3 * n ≤ length xs → (i : ℕ) → i < n → part xs (3 * i) 3 ≡ corners (face (facesOf (take (3 * n) xs)) i)
 face-row xs n fit i h =
     let l = length-take-le (3 * n) xs fit in
@@ -104,12 +108,14 @@ faces-left {xs} {w} {flags} {n} marked fit f g =
 
 -- ---- points
 
+-- row i is the coordinates of point i
 point-row : (xs : List Float) (n : ℕ) → 3 * n ≤ length xs → (i : ℕ) → i < n → part xs (3 * i) 3 ≡ coordinates (point (pointsOf (take (3 * n) xs)) i)
 point-row xs n fit i h =
     let l = length-take-le (3 * n) xs fit in
     row-at nan xs i (omega arith)
     ∙ sym (ap coordinates (point-at (take (3 * n) xs) nan i (omega arith)) ∙ rw (getD-take (3 * n) xs (3 * i) nan (omega arith), getD-take (3 * n) xs (3 * i + 1) nan (omega arith), getD-take (3 * n) xs (3 * i + 2) nan (omega arith)))
 
+-- the front of 3n numbers has n points
 length-points-take : (xs : List Float) (n : ℕ) → 3 * n ≤ length xs → length (pointsOf (take (3 * n) xs)) ≡ n
 length-points-take xs n h = length-points (take (3 * n) xs) ∙ (let e = length-take-le (3 * n) xs h in omega arith)
 

@@ -15,10 +15,12 @@ use Rattle.rows.proofs.Regions.{only-both, only-set, part-eq-of}
 abbrev stored : {A : Type 0} → List A → ℕ → A → A → A → List A
 stored xs b x y z = set (set (set xs b x) (b + 1) y) (b + 2) z
 
+-- three stores change three entries
 only-stored : {A : Type 0} {d : A} (xs : List A) (b : ℕ) (x y z : A) → OnlyOf d b 3 xs (stored xs b x y z)
 only-stored xs b x y z = only-both (only-both (only-set xs b x (omega arith) (omega arith)) (only-set (set xs b x) (b + 1) y (omega arith) (omega arith))) (only-set (set (set xs b x) (b + 1) y) (b + 2) z (omega arith) (omega arith))
 
 module _ {A : Type 0} (d : A) {xs : List A} {from to : ℕ} (p : MoveAsks xs from to) where
+  -- where the row goes, and the three entries that are read
   abbrev b : ℕ
   b = 3 * to
 
@@ -38,6 +40,7 @@ module _ {A : Type 0} (d : A) {xs : List A} {from to : ℕ} (p : MoveAsks xs fro
   stored-at (suc (suc zero)) h = getD-set-same (set (set xs b x) (b + 1) y) (b + 2) z d (simp length-set (omega arith))
   stored-at (suc (suc (suc i))) h = absurd (omega arith)
 
+  -- so the row has moved
   pub moves : MoveGives d xs from to (stored xs b x y z)
   moves =
       let o = only-stored {d = d} xs b x y z in

@@ -6,7 +6,7 @@ use Rattle.rows_try.proofs.faces.Statement.{statement}
 use Rattle.rows_try.proofs.faces.Tie as tie
 
 number-kept-requires : tie.Need-number-kept-requires
-number-kept-requires c κs = record { flags-fit = omega arith; dst-fit = omega arith; apart = before (omega arith); few = omega arith }
+number-kept-requires c κs = record { flags-fit = omega arith; to-fit = omega arith; apart = before (omega arith); few = omega arith }
 
 show-requires : tie.Need-show-requires
 show-requires c κs = search needs

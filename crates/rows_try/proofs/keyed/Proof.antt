@@ -25,25 +25,25 @@ ready w l ids first second third bins =
             bins-keys = before (omega arith);
             zeros = record { each = zeros w 24 3 bins };
           };
-          dst-fit = omega arith;
-          dst-ids = before (omega arith);
-          dst-keys = before (omega arith);
-          dst-bins = before (omega arith);
+          to-fit = omega arith;
+          to-ids = before (omega arith);
+          to-keys = before (omega arith);
+          to-bins = before (omega arith);
         };
         first-fit = omega arith;
         key = bounded w 12 6 3 second;
         bins-first = before (omega arith);
-        tmp-first = before (omega arith);
-        dst-fit = omega arith;
-        dst-first = before (omega arith);
-        dst-tmp = after (omega arith);
-        dst-bins = before (omega arith);
+        spare-first = before (omega arith);
+        to-fit = omega arith;
+        to-first = before (omega arith);
+        to-spare = after (omega arith);
+        to-bins = before (omega arith);
       };
       first-fit = omega arith;
       key = bounded w 6 6 3 first;
       bins-first = before (omega arith);
-      tmp-first = before (omega arith);
-      dst-first = before (omega arith);
+      spare-first = before (omega arith);
+      to-first = before (omega arith);
     }
 
 returns : tie.Need-returns

@@ -18,7 +18,7 @@ show-requires-2 : tie.Need-show-requires-2
 show-requires-2 c κs = search needs
 
 copy-requires : tie.Need-copy-requires
-copy-requires c κs = record { src-fit = search needs; dst-fit = search needs; apart = before (omega arith) }
+copy-requires c κs = record { from-fit = search needs; to-fit = search needs; apart = before (omega arith) }
 
 show-requires-3 : tie.Need-show-requires-3
 show-requires-3 c κs = search needs

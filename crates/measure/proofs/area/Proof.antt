@@ -1,0 +1,44 @@
+-- `measure::area` meets its contract. Assumes nothing.
+use lib.Ieee.{ofBits}
+use Rattle.rules.specs.Float.{area}
+use borrow.Author.Needs.{needs}
+use Rattle.measure.proofs.area.Statement.{statement}
+use Rattle.measure.proofs.area.Tie as tie
+
+at-requires : tie.Need-at-requires
+at-requires c κs = search needs
+
+at-requires-2 : tie.Need-at-requires-2
+at-requires-2 c κs = search needs
+
+at-requires-3 : tie.Need-at-requires-3
+at-requires-3 c κs = search needs
+
+difference-requires : tie.Need-difference-requires
+difference-requires c κs = search needs
+
+difference-requires-2 : tie.Need-difference-requires-2
+difference-requires-2 c κs = search needs
+
+cross-requires : tie.Need-cross-requires
+cross-requires c κs = search needs
+
+norm-requires : tie.Need-norm-requires
+norm-requires c κs = search needs
+
+returns : tie.Need-returns
+unfolding area ofBits
+returns c = cc
+
+pub area-spec : {M : Type 1} → statement M
+area-spec =
+    tie.close
+    (tie.spec
+    at-requires
+    at-requires-2
+    at-requires-3
+    difference-requires
+    difference-requires-2
+    cross-requires
+    norm-requires
+    returns)

@@ -1,0 +1,69 @@
+-- `measure_try::far_apart` meets its contract: antt runs the rules. Assumes nothing.
+use mathlib.Core.Path.{ap}
+use mathlib.Core.Bool.{not}
+use lib.Ieee.{binary64, toBits, isNan}
+use Rattle.rules.specs.Open.{every-rule}
+use borrow.Author.Needs.{needs}
+use Rattle.measure_try.proofs.far_apart.Statement.{statement}
+use Rattle.measure_try.proofs.far_apart.Tie as tie
+
+slice-aggregate-quality : tie.Need-slice-aggregate-quality
+slice-aggregate-quality c = search needs
+
+quality-requires : tie.Need-quality-requires
+quality-requires c κs = search needs
+
+same-requires : tie.Need-same-requires
+unfolding every-rule isNan
+same-requires c κs = (ap isNan (c .quality .ensures), ap (toBits binary64) (c .quality .ensures))
+
+slice-aggregate-area : tie.Need-slice-aggregate-area
+slice-aggregate-area c = search needs
+
+area-requires : tie.Need-area-requires
+area-requires c κs = search needs
+
+same-requires-2 : tie.Need-same-requires-2
+unfolding every-rule isNan
+same-requires-2 c κs = (ap isNan (c .area .ensures), ap (toBits binary64) (c .area .ensures))
+
+slice-aggregate-distance : tie.Need-slice-aggregate-distance
+slice-aggregate-distance c = search needs
+
+distance-requires : tie.Need-distance-requires
+distance-requires c κs = search needs
+
+same-requires-3 : tie.Need-same-requires-3
+unfolding every-rule isNan
+same-requires-3 c κs = (ap isNan (c .distance .ensures), ap (toBits binary64) (c .distance .ensures))
+
+slice-aggregate-degenerate : tie.Need-slice-aggregate-degenerate
+slice-aggregate-degenerate c = search needs
+
+degenerate-requires : tie.Need-degenerate-requires
+degenerate-requires c κs = search needs
+
+expect-requires : tie.Need-expect-requires
+unfolding every-rule isNan
+expect-requires c κs = ap not (c .degenerate .ensures)
+
+returns : tie.Need-returns
+returns c = search needs
+
+pub far-apart-spec : {M : Type 1} → statement M
+far-apart-spec =
+    tie.close
+    (tie.spec
+    slice-aggregate-quality
+    quality-requires
+    same-requires
+    slice-aggregate-area
+    area-requires
+    same-requires-2
+    slice-aggregate-distance
+    distance-requires
+    same-requires-3
+    slice-aggregate-degenerate
+    degenerate-requires
+    expect-requires
+    returns)

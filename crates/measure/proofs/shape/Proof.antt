@@ -29,13 +29,15 @@ returns-4 : tie.Need-returns-4
 returns-4 c =
     let f = c .before in
     let i = f .before .before .before .before in
-    is-thin _ _ _ _ _ (i .before .before .if1 .left) (i .before .if2 .left) (i .if3 .left) (f .before .before .before .at .ensures) (f .before .before .at2 .ensures) (f .before .at3 .ensures) (f .flat .ensures) (c .if4 .taken)
+    is-thin _ _ _ _ _ (i .before .before .if1 .left) (i .before .if2 .left) (i .if3 .left)
+    (f .before .before .before .at .ensures) (f .before .before .at2 .ensures) (f .before .at3 .ensures) (f .flat .ensures) (c .if4 .taken)
 
 returns-5 : tie.Need-returns-5
 returns-5 c =
     let f = c .before in
     let i = f .before .before .before .before in
-    is-good _ _ _ _ _ (i .before .before .if1 .left) (i .before .if2 .left) (i .if3 .left) (f .before .before .before .at .ensures) (f .before .before .at2 .ensures) (f .before .at3 .ensures) (f .flat .ensures) (c .if4 .left)
+    is-good _ _ _ _ _ (i .before .before .if1 .left) (i .before .if2 .left) (i .if3 .left)
+    (f .before .before .before .at .ensures) (f .before .before .at2 .ensures) (f .before .at3 .ensures) (f .flat .ensures) (c .if4 .left)
 
 pub shape-spec : {M : Type 1} → statement M
 shape-spec =

@@ -1,0 +1,49 @@
+-- `refuse::corners` meets its contract: all faces before i are without fault. Assumes nothing.
+use mathlib.Core.Path.{sym, _∙_}
+use Prim.Native.Nat.{_-_, _/_}
+use native.Mathlib.Omega.{arith}
+use lib.ListN.{length}
+use Rattle.refuse.proofs.Scans.{Clean, clean-begin, clean-more, astray-at, no5-none, no5-at}
+use Rattle.refuse.proofs.corners.Statement.{statement}
+use Rattle.refuse.proofs.corners.Tie as tie
+
+abbrev Inv-loop : tie.InvT-loop
+Inv-loop count faces n i₀ i = Clean (astray-at count faces) (length faces / 3) i
+
+abbrev μ-loop : tie.MeasureT-loop
+μ-loop count faces n i₀ i = length faces / 3 - i
+
+loop-holds : tie.Need-loop-holds Inv-loop μ-loop
+loop-holds c = clean-begin _ _
+
+astray-requires : tie.Need-astray-requires Inv-loop μ-loop
+astray-requires c κs = c .loop-test .taken
+
+returns : tie.Need-returns Inv-loop μ-loop
+returns c = no5-at _ _ _ (c .before .before .before .loop .inv) (c .before .before .loop-test .taken) (sym (c .before .astray .ensures) ∙ c .if1 .taken)
+
+add-i : tie.Need-add-i Inv-loop μ-loop
+add-i c = omega arith
+
+loop-less : tie.Need-loop-less Inv-loop μ-loop
+loop-less c = omega arith
+
+loop-again : tie.Need-loop-again Inv-loop μ-loop
+loop-again c = clean-more _ _ _ (c .before .before .before .loop .inv) (c .before .before .loop-test .taken) (sym (c .before .astray .ensures) ∙ c .if1 .left)
+
+returns-2 : tie.Need-returns-2 Inv-loop μ-loop
+returns-2 c = no5-none _ _ _ (c .before .loop .inv) (c .loop-test .left)
+
+pub corners-spec : {M : Type 1} → statement M
+corners-spec =
+    tie.close
+    (tie.spec
+    Inv-loop
+    μ-loop
+    loop-holds
+    astray-requires
+    returns
+    add-i
+    loop-less
+    loop-again
+    returns-2)

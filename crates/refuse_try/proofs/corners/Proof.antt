@@ -1,0 +1,48 @@
+-- `refuse_try::corners` meets its contract: antt runs the rules. Assumes nothing.
+use Rattle.rules.specs.Open.{every-rule}
+use borrow.Author.Needs.{needs}
+use Rattle.refuse_try.proofs.corners.Statement.{statement}
+use Rattle.refuse_try.proofs.corners.Tie as tie
+
+slice-aggregate-repair : tie.Need-slice-aggregate-repair
+slice-aggregate-repair c = search needs
+
+slice-aggregate-repair-2 : tie.Need-slice-aggregate-repair-2
+slice-aggregate-repair-2 c = search needs
+
+repair-requires : tie.Need-repair-requires
+repair-requires c κs = search needs
+
+accepted-requires : tie.Need-accepted-requires
+unfolding every-rule
+accepted-requires c κs = c .repair .ensures
+
+slice-aggregate-repair-3 : tie.Need-slice-aggregate-repair-3
+slice-aggregate-repair-3 c = search needs
+
+slice-aggregate-repair-4 : tie.Need-slice-aggregate-repair-4
+slice-aggregate-repair-4 c = search needs
+
+repair-requires-2 : tie.Need-repair-requires-2
+repair-requires-2 c κs = search needs
+
+refused-requires : tie.Need-refused-requires
+unfolding every-rule
+refused-requires c κs = c .repair2 .ensures
+
+returns : tie.Need-returns
+returns c = search needs
+
+pub corners-spec : {M : Type 1} → statement M
+corners-spec =
+    tie.close
+    (tie.spec
+    slice-aggregate-repair
+    slice-aggregate-repair-2
+    repair-requires
+    accepted-requires
+    slice-aggregate-repair-3
+    slice-aggregate-repair-4
+    repair-requires-2
+    refused-requires
+    returns)

@@ -1,0 +1,27 @@
+// The leaves for C, as bench/ times them.
+ghost use mathlib.Core.Path.{_≡_};
+ghost use Rattle.root.specs.Root.{rootOf};
+ghost use Rattle.table.specs.Table.{TableAsks, TableGives};
+
+// The square root.
+#[no_mangle]
+pub extern "C" fn bench_root(x: f64) -> f64
+    ensures { λ r. ⌜ r ≡ rootOf x ⌝ }
+{
+    root::root(x)
+}
+
+// The table of a face list.
+#[no_mangle]
+pub extern "C" fn bench_table(
+    work: &mut [u32],
+    faces: &[u32],
+    points: usize,
+    directed: bool,
+    at: usize,
+) -> usize
+    requires { ⌜ TableAsks (now work) (now faces) points at ⌝ }
+    ensures { λ r. ⌜ TableGives (now (work .entry)) (now (faces .entry)) points directed at (now (work .exit)) r ⌝ }
+{
+    table::table(work, faces, points, directed, at)
+}

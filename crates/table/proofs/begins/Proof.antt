@@ -1,4 +1,5 @@
--- `table::begins` meets its contract. Assumes nothing.
+-- `table::begins` meets its contract. Past the first place, the first keys and then the second ones decide.
+-- Assumes nothing.
 use mathlib.Core.Path.{_≡_, refl}
 use mathlib.Core.Bool.{true, not}
 use mathlib.Core.List.{List}

@@ -1,4 +1,5 @@
--- `table::keys` meets its contract. Assumes nothing.
+-- `table::keys` meets its contract. The invariant: both rows hold the keys of the entries passed, and nothing else is changed.
+-- Assumes nothing.
 use mathlib.Core.Path.{_≡_, sym, ap, _∙_}
 use mathlib.Core.Bool.{Bool}
 use mathlib.Core.List.{List}

@@ -1,4 +1,5 @@
--- `table::number` meets its contract. Assumes nothing.
+-- `table::number` meets its contract. The invariant: the entries passed hold their places, and nothing else is changed.
+-- Assumes nothing.
 use mathlib.Core.Path.{_≡_, refl}
 use Prim.Native.Nat.{ℕ, _-_, _≤_}
 use native.Mathlib.Omega.{arith}

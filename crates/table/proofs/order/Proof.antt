@@ -1,4 +1,5 @@
--- `table::order` meets its contract. Assumes nothing.
+-- `table::order` meets its contract. Each step leaves what the ones before it wrote.
+-- Assumes nothing.
 use mathlib.Core.Path.{_≡_, refl, _∙_}
 use mathlib.Core.Bool.{Bool}
 use mathlib.Core.List.{List}

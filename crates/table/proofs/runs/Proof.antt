@@ -1,4 +1,5 @@
--- `table::runs` meets its contract. Assumes nothing.
+-- `table::runs` meets its contract. The invariant: of the places passed, those where runs begin are noted, and each entry has the number of its run.
+-- Assumes nothing.
 use mathlib.Core.Path.{_≡_, refl, sym, ap, _∙_}
 use mathlib.Core.Bool.{Bool}
 use mathlib.Core.List.{List}

@@ -1,4 +1,5 @@
--- `table::table` meets its contract. Assumes nothing.
+-- `table::table` meets its contract. The runs begin where the edges of the rules do.
+-- Assumes nothing.
 use mathlib.Core.Path.{_≡_, sym, ap, subst, _∙_}
 use mathlib.Core.Bool.{Bool}
 use mathlib.Core.List.{List}

@@ -1,0 +1,2 @@
+-- `RankLaws` has what the scans compute, in the rules' words.
+pub mod RankLaws

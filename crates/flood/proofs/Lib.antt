@@ -1,0 +1,4 @@
+pub mod Runs
+pub mod Forests
+pub mod Merging
+pub mod Leading

@@ -1,0 +1,4 @@
+pub mod Plan
+pub mod Parents
+pub mod Uniting
+pub mod Answers

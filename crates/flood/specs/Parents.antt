@@ -57,3 +57,11 @@ merged root x y = linked root (min (root x) (root y)) (max (root x) (root y))
 pub record JoinGives {w : List ℕ} {labels x y : ℕ} (q : JoinAsks w labels x y) (w′ : List ℕ) : Type 0 where
   pub only : Only labels (q .n) w w′
   pub forest : Forest labels (q .n) (merged (q .root) x y) w′
+
+pub record PointAsks (w : List ℕ) (labels n : ℕ) : Type 0 where
+  pub root : ℕ → ℕ
+  pub forest : Forest labels n root w
+
+pub record PointGives {w : List ℕ} {labels n : ℕ} (q : PointAsks w labels n) (w′ : List ℕ) : Type 0 where
+  pub only : Only labels n w w′
+  pub roots : Holds labels n (q .root) w′

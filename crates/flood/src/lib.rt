@@ -1,10 +1,10 @@
-// Things joined through runs: a label for each, by rising first member.
+// Things joined through runs: a label for each, by rising first member, or the first member of its group.
 // Each thing has a parent, itself or one before it, which stands in the row of labels until the labels
 // do. Where the parents lead from a thing is its root, and things of one root are of one group.
 ghost use Rattle.flood.specs.Plan.{plan, FloodAsks};
-ghost use Rattle.flood.specs.Parents.{OwnAsks, OwnGives, FindAsks, FindGives, JoinAsks, JoinGives};
+ghost use Rattle.flood.specs.Parents.{OwnAsks, OwnGives, FindAsks, FindGives, JoinAsks, JoinGives, PointAsks, PointGives};
 ghost use Rattle.flood.specs.Uniting.{RunAsks, RunGives, AllAsks, AllGives, UniteGives, NumberAsks, NumberGives};
-ghost use Rattle.flood.specs.Answers.{LabelGives};
+ghost use Rattle.flood.specs.Answers.{LabelGives, LeadGives};
 
 // Makes each thing its own parent.
 fn own_all(work: &mut [u32], labels: usize, things: usize)
@@ -114,6 +114,19 @@ fn number_all(work: &mut [u32], labels: usize, things: usize) -> usize
     count
 }
 
+// Puts roots in the place of parents. That of an earlier thing stands there already.
+fn point_all(work: &mut [u32], labels: usize, things: usize)
+    requires { ⌜ PointAsks (now work) labels things ⌝ }
+    ensures { λ _. ⌜ ((q : PointAsks (now (work .entry)) labels things) → PointGives q (now (work .exit))) ⌝ }
+{
+    let mut i = 0;
+    while i < things {
+        let earlier = work[labels + i] as usize;
+        work[labels + i] = work[labels + earlier];
+        i += 1;
+    }
+}
+
 // Writes to the row of labels the number of each thing's group, where things are joined that are in one run
 // and groups are ordered by their first member. Returns the number of groups. The run r is what the order
 // has from the start r to before the start r + 1.
@@ -130,4 +143,20 @@ pub fn label_all(
 {
     unite_all(work, things, runs, starts, order, labels);
     number_all(work, labels, things)
+}
+
+// Writes to the row of labels, of the same groups, the first member of each thing's group.
+pub fn lead_all(
+    work: &mut [u32],
+    things: usize,
+    runs: usize,
+    starts: usize,
+    order: usize,
+    labels: usize,
+)
+    requires { ⌜ FloodAsks (now work) (plan things runs starts order labels) ⌝ }
+    ensures { λ _. ⌜ LeadGives (now (work .entry)) (plan things runs starts order labels) (now (work .exit)) ⌝ }
+{
+    unite_all(work, things, runs, starts, order, labels);
+    point_all(work, labels, things);
 }

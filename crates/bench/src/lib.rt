@@ -1,6 +1,8 @@
 // The leaves for C, as bench/ times them.
 ghost use mathlib.Core.Path.{_≡_};
 ghost use Rattle.root.specs.Root.{rootOf};
+ghost use Rattle.flood.specs.Plan.{plan, FloodAsks};
+ghost use Rattle.flood.specs.Answers.{LabelGives};
 ghost use Rattle.table.specs.Table.{TableAsks, TableGives};
 
 // The square root.
@@ -24,4 +26,20 @@ pub extern "C" fn bench_table(
     ensures { λ r. ⌜ TableGives (now (work .entry)) (now (faces .entry)) points directed at (now (work .exit)) r ⌝ }
 {
     table::table(work, faces, points, directed, at)
+}
+
+// Labels of things joined through runs.
+#[no_mangle]
+pub extern "C" fn bench_flood(
+    work: &mut [u32],
+    things: usize,
+    runs: usize,
+    starts: usize,
+    order: usize,
+    labels: usize,
+) -> usize
+    requires { ⌜ FloodAsks (now work) (plan things runs starts order labels) ⌝ }
+    ensures { λ r. ⌜ LabelGives (now (work .entry)) (plan things runs starts order labels) (now (work .exit)) r ⌝ }
+{
+    flood::label_all(work, things, runs, starts, order, labels)
 }

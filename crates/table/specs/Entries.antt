@@ -13,7 +13,7 @@ use Rattle.rules.specs.Steps.{Step, step, steps, edge, same, entries, pairs}
 abbrev pub next : ℕ → ℕ
 next i = cond (eqb (i % 3) 2) (i - 2) (i + 1)
 
--- the step of an entry, and of an entry of a flat list
+-- the step of an entry
 unfoldable pub stepAt : List Face → ℕ → Step
 stepAt fs id = getD (each steps fs) id (step 0 0)
 

@@ -116,16 +116,14 @@ fn begins(work: &[u32], n: usize, at: usize, i: usize) -> bool
     work[at + n + j] != work[at + n + k]
 }
 
-// Where a run begins at place i, notes i as the beginning of run m. Returns how many runs have begun then.
+// Notes place i as the beginning of run m, and returns how many runs have begun then: where none begins at i, the next note is written over this one.
 fn note(work: &mut [u32], n: usize, at: usize, m: usize, i: usize) -> usize
     requires { ⌜ NoteAsks (now work) n at m i ⌝ }
     ensures { λ r. ⌜ NoteGives (now (work .entry)) n at m i (now (work .exit)) r ⌝ }
 {
-    if begins(work, n, at, i) {
-        work[at + 4 * n + m] = i as u32;
-        return m + 1;
-    }
-    m
+    let b = begins(work, n, at, i);
+    work[at + 4 * n + m] = i as u32;
+    if b { m + 1 } else { m }
 }
 
 // Numbers the runs of the n entries in order: writes the run of each entry, and where each run begins. Returns how many runs there are.

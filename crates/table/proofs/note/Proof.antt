@@ -1,4 +1,4 @@
--- `table::note` meets its contract. Assumes nothing.
+-- `table::note` meets its contract: the store lies behind the beginnings so far. Assumes nothing.
 use mathlib.Core.Path.{_≡_, refl, sym, _∙_}
 use mathlib.Core.Bool.{true, false}
 use mathlib.Core.List.{List, append-nil}
@@ -7,27 +7,39 @@ use native.Mathlib.Omega.{arith}
 use native.Mathlib.Numerals.{add-one}
 use lib.ListN.{length, set, length-set}
 use lib.Seq.{getD-set-same}
-use Rattle.rows.specs.Region.{part}
-use Rattle.rows.proofs.Regions.{only-none, only-set, part-suc, part-set}
+use Rattle.rows.specs.Region.{part, Only}
+use Rattle.rows.proofs.Regions.{only-set, part-suc, part-set}
 use Rattle.table.specs.Runs.{begins, NoteAsks, NoteGives}
 use borrow.Author.Needs.{needs}
 use Rattle.table.proofs.note.Statement.{statement}
 use Rattle.table.proofs.note.Tie as tie
 
 module _ {w : List ℕ} {n at m i : ℕ} (p : NoteAsks w n at m i) where
-  -- a run begins: the store puts i behind the beginnings so far
-  one-more : begins w n at i ≡ true → NoteGives w n at m i (set w (at + 4 * n + m) i) (m + 1)
+  abbrev noted : List ℕ
+  noted = set w (at + 4 * n + m) i
+
+  in-room : at + 4 * n + m < length w
+  in-room = omega (arith, p .rows .fit, p .here, p .begun)
+
+  only-there : Only (at + 4 * n) (n + 1) w noted
+  only-there = only-set w (at + 4 * n + m) i (omega arith) (omega (arith, p .here, p .begun))
+
+  -- the beginnings so far stay
+  earlier : part noted (at + 4 * n) m ≡ part w (at + 4 * n) m
+  earlier = part-set w (at + 4 * n) m (at + 4 * n + m) i (omega (arith, in-room)) (λ j h. omega arith)
+
+  -- a run begins: i stands behind them
+  one-more : begins w n at i ≡ true → NoteGives w n at m i noted (m + 1)
   one-more e =
-      let l : at + 4 * n + m < length w = omega (arith, p .rows .fit, p .here, p .begun) in
       record {
-        only = only-set w (at + 4 * n + m) i (omega arith) (omega (arith, p .here, p .begun));
+        only = only-there;
         number = rw e refl;
-        starts = rw (e, add-one m, part-suc (set w (at + 4 * n + m) i) (at + 4 * n) m (rw length-set l), part-set w (at + 4 * n) m (at + 4 * n + m) i (omega arith) (λ j h. omega arith), getD-set-same w (at + 4 * n + m) i 0 l);
+        starts = rw (e, add-one m, part-suc noted (at + 4 * n) m (rw length-set in-room), earlier, getD-set-same w (at + 4 * n + m) i 0 in-room);
       }
 
-  -- none begins: nothing changes
-  no-more : begins w n at i ≡ false → NoteGives w n at m i w m
-  no-more e = record { only = only-none (at + 4 * n) (n + 1) w; number = rw e (omega arith); starts = rw e (sym (append-nil (part w (at + 4 * n) m))) }
+  -- none begins: i is not counted
+  no-more : begins w n at i ≡ false → NoteGives w n at m i noted m
+  no-more e = record { only = only-there; number = rw e (omega arith); starts = rw e (earlier ∙ sym (append-nil (part w (at + 4 * n) m))) }
 
 begins-requires : tie.Need-begins-requires
 begins-requires c κs = search needs

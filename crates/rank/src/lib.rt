@@ -11,9 +11,9 @@ ghost use Rattle.rules.specs.Steps as steps;
 ghost use Rattle.rank.specs.Ranks.{facesIn, valueOf, above, others, WalksAsks, QualityAsks, BetterAsks, BetterGives, ScanAsks, ScanGives, OtherGives, BestAsks, BestGives, RankAsks, SecondAsks};
 
 // The face that ranks first so far, and its quality. The number of faces in place of a face stands for none.
-pub struct Choice {
-    pub face: usize,
-    pub quality: f64,
+struct Choice {
+    face: usize,
+    quality: f64,
 }
 
 // Whether face i with the quality a ranks before face j with the quality b.

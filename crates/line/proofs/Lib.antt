@@ -1,0 +1,5 @@
+pub mod Putting
+pub mod Digits
+pub mod Words
+pub mod Joining
+pub mod Whole

@@ -1,0 +1,156 @@
+// The call "report line" of document 01: from any ten u32 counts, the line in a lent room of bytes.
+use refuse::Verdict;
+ghost use mathlib.Core.Path.{_≡_};
+ghost use mathlib.Core.List.{[], _∷_};
+ghost use Prim.Native.Nat.{_+_, _≤_};
+ghost use lib.ListN.{length, replicate};
+ghost use Rattle.refuse.specs.Accepted.{LineAccepted};
+ghost use Rattle.rules.specs.Line as rule;
+ghost use Rattle.rules.specs.Calls.{write-line};
+ghost use Rattle.line.specs.Put as by;
+
+// What the call gives back: how many bytes stand in the room, or a refusal's number and place.
+pub enum Lined {
+    Done(usize),
+    Refused(u32, usize),
+}
+
+// Puts the bytes of a text into the line, from `at` on. Returns where the line goes on.
+fn put_text(line: &mut [u8], at: usize, text: &[u8]) -> usize
+    requires { ⌜ at + length (now text) ≤ length (now line) ⌝ }
+    ensures { λ r. ⌜ by.Puts (now (line .entry)) at (now (text .entry)) (now (line .exit)) r ⌝ }
+{
+    let mut i = 0;
+    while i < text.len() {
+        line[at + i] = text[i];
+        i += 1;
+    }
+    at + i
+}
+
+// Puts n zeros into the line, from `at` on.
+fn put_zeros(line: &mut [u8], at: usize, n: usize)
+    requires { ⌜ at + n ≤ length (now line) ⌝ }
+    ensures { λ _. ⌜ by.Puts (now (line .entry)) at (replicate n 0) (now (line .exit)) (at + n) ⌝ }
+{
+    let mut i = 0;
+    while i < n {
+        line[at + i] = 0;
+        i += 1;
+    }
+}
+
+// Puts the digit of a number below ten into the line, at `at`. Returns where the line goes on.
+fn put_digit(line: &mut [u8], at: usize, n: u32) -> usize
+    requires { ⌜ by.DigitAsks (now line) at n ⌝ }
+    ensures { λ r. ⌜ by.Puts (now (line .entry)) at ((48 + n) ∷ []) (now (line .exit)) r ⌝ }
+{
+    line[at] = 48 + n as u8;
+    at + 1
+}
+
+// Puts a number in decimal, with no leading zeros. Returns where the line goes on.
+fn put_number(line: &mut [u8], at: usize, n: u32) -> usize
+    requires { ⌜ by.NumberAsks (now line) at n ⌝ }
+    ensures { λ r. ⌜ by.Puts (now (line .entry)) at (rule.decimal n) (now (line .exit)) r ⌝ }
+{
+    if n < 10 {
+        return put_digit(line, at, n);
+    }
+    let next = put_number(line, at, n / 10);
+    put_digit(line, next, n % 10)
+}
+
+// Puts label k, in report order. Returns where the line goes on.
+fn put_label(line: &mut [u8], at: usize, k: usize) -> usize
+    requires { ⌜ by.PartAsks (now line) at 29 k ⌝ }
+    ensures { λ r. ⌜ by.Puts (now (line .entry)) at (rule.bytes (by.label k)) (now (line .exit)) r ⌝ }
+{
+    match k {
+        0 => put_text(line, at, b"degenerate faces removed"),
+        1 => put_text(line, at, b"duplicate faces removed"),
+        2 => put_text(line, at, b"non-manifold edges"),
+        3 => put_text(line, at, b"faces dropped there"),
+        4 => put_text(line, at, b"faces dropped as unorientable"),
+        5 => put_text(line, at, b"bowtie vertices split"),
+        6 => put_text(line, at, b"points added"),
+        7 => put_text(line, at, b"faces reoriented"),
+        8 => put_text(line, at, b"non-orientable components"),
+        _ => put_text(line, at, b"isolated vertices removed"),
+    }
+}
+
+// Puts part k: number, blank, label. Returns where the line goes on.
+fn put_part(line: &mut [u8], at: usize, n: u32, k: usize) -> usize
+    requires { ⌜ by.PartAsks (now line) at 40 k ⌝ }
+    ensures { λ r. ⌜ by.Puts (now (line .entry)) at (rule.part (n, by.label k)) (now (line .exit)) r ⌝ }
+{
+    let next = put_number(line, at, n);
+    line[next] = b' ';
+    put_label(line, next + 1, k)
+}
+
+// Puts a comma and a blank, where a part stands in the line already. Returns where the line goes on.
+fn put_comma(line: &mut [u8], at: usize) -> usize
+    requires { ⌜ at + 2 ≤ length (now line) ⌝ }
+    ensures { λ r. ⌜ by.Puts (now (line .entry)) at (by.comma at) (now (line .exit)) r ⌝ }
+{
+    if at == 0 {
+        return at;
+    }
+    line[at] = b',';
+    line[at + 1] = b' ';
+    at + 2
+}
+
+// Puts part k behind those that stand in the line, unless its number is zero. Returns where the line goes on.
+fn put_next(line: &mut [u8], at: usize, n: u32, k: usize) -> usize
+    requires { ⌜ by.PartAsks (now line) at 42 k ⌝ }
+    ensures { λ r. ⌜ by.Puts (now (line .entry)) at (by.more at n k) (now (line .exit)) r ⌝ }
+{
+    if n == 0 {
+        return at;
+    }
+    let next = put_comma(line, at);
+    put_part(line, next, n, k)
+}
+
+// Puts the parts of ten counts, joined. Returns where the line ends.
+fn put_parts(counts: &[u32], line: &mut [u8]) -> usize
+    requires { ⌜ LineAccepted (now counts) (length (now line)) ⌝ }
+    ensures { λ r. ⌜ by.LineGives (now (line .entry)) (by.parts (now (counts .entry))) (now (line .exit)) r ⌝ }
+{
+    let mut at = 0;
+    let mut k = 0;
+    while k < 10 {
+        at = put_next(line, at, counts[k], k);
+        k += 1;
+    }
+    at
+}
+
+// Puts the line of ten counts: their parts, or, all zero, that nothing changed. Returns where the line ends.
+fn put_line(counts: &[u32], line: &mut [u8]) -> usize
+    requires { ⌜ LineAccepted (now counts) (length (now line)) ⌝ }
+    ensures { λ r. ⌜ by.LineGives (now (line .entry)) (rule.line (now (counts .entry))) (now (line .exit)) r ⌝ }
+{
+    let end = put_parts(counts, line);
+    if end == 0 {
+        return put_text(line, 0, b"mesh was already manifold, nothing changed");
+    }
+    end
+}
+
+// The report line: the line stands in front, the rest of the 512 bytes is zero, and entries beyond are unchanged.
+pub fn line(counts: &[u32], line: &mut [u8]) -> Lined
+    ensures { λ r. ⌜ by.outcomeOf r (now (line .exit)) ≡ write-line (now (counts .entry)) (now (line .entry)) ⌝ }
+{
+    match refuse::line_check(counts, line.len()) {
+        Verdict::Refused(number, place) => Lined::Refused(number, place),
+        Verdict::Fine => {
+            let end = put_line(counts, line);
+            put_zeros(line, end, 512 - end);
+            Lined::Done(end)
+        }
+    }
+}

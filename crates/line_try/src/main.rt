@@ -1,0 +1,77 @@
+// Writes the report line of real counts. The file stdout says what it must be.
+use line::Lined;
+
+// How many bytes from `from` on are one, as all were before the call.
+fn ones(room: &[u8], from: usize) -> usize {
+    let mut n = 0;
+    let mut i = from;
+    while i < room.len() {
+        if room[i] == 1 {
+            n += 1;
+        }
+        i += 1;
+    }
+    n
+}
+
+// Writes a number.
+fn show_number(n: usize) {
+    io::print_decimal(1, n as u64);
+}
+
+// Writes the answer of a call: how many bytes, the bytes, and how many ones are left behind them; or number and place of the refusal,
+// and how many ones are left.
+fn show(counts: &[u32], room: &mut [u8]) {
+    match line::line(counts, room) {
+        Lined::Done(n) => {
+            if n <= room.len() {
+                show_number(n);
+                io::write_all(1, b": ");
+                io::write_all(1, &room[..n]);
+                io::write_all(1, b"\nbehind: ");
+                show_number(ones(room, n));
+                io::write_all(1, b"\n");
+            }
+        }
+        Lined::Refused(number, place) => {
+            io::write_all(1, b"refused ");
+            io::print_decimal(1, number as u64);
+            io::write_all(1, b", place ");
+            show_number(place);
+            io::write_all(1, b"\nkept: ");
+            show_number(ones(room, 0));
+            io::write_all(1, b"\n");
+        }
+    }
+}
+
+fn main() {
+    let mut zero = [1u8; 512];
+    show(&[0, 0, 0, 0, 0, 0, 0, 0, 0, 0], &mut zero);
+    let mut some = [1u8; 520];
+    show(&[10, 0, 2, 0, 0, 0, 0, 0, 0, 0], &mut some);
+    let mut last = [1u8; 512];
+    show(&[0, 0, 0, 0, 0, 0, 0, 0, 0, 101], &mut last);
+    let mut large = [1u8; 600];
+    show(
+        &[
+            4294967295,
+            4294967295,
+            4294967295,
+            4294967295,
+            4294967295,
+            4294967295,
+            4294967295,
+            4294967295,
+            4294967295,
+            4294967295,
+        ],
+        &mut large,
+    );
+    let mut nine = [1u8; 512];
+    show(&[1, 2, 3, 4, 5, 6, 7, 8, 9], &mut nine);
+    let mut short = [1u8; 511];
+    show(&[1, 2, 3, 4, 5, 6, 7, 8, 9, 10], &mut short);
+    let mut none = [1u8; 0];
+    show(&[0, 0, 0, 0, 0, 0, 0, 0, 0, 0, 0], &mut none);
+}

@@ -54,13 +54,14 @@ text-last (d ∷ es) e =
 
 -- ---- counts with their labels
 
--- as many pairs as counts, and each of a count and its label
+-- as many pairs as counts
 zip-long : (xs : List ℕ) (ys : List String) → length xs ≡ length ys → length (zip xs ys) ≡ length xs
 unfolding zip zipWith
 zip-long [] ys h = refl
 zip-long (x ∷ xs) [] h = absurd (omega arith)
 zip-long (x ∷ xs) (y ∷ ys) h = ap suc (zip-long xs ys (omega arith))
 
+-- and each of a count and its label
 zip-at : (xs : List ℕ) (ys : List String) (k : ℕ) → k < length xs → length xs ≡ length ys → getD (zip xs ys) k (0, "") ≡ (getD xs k 0, getD ys k "")
 unfolding zip zipWith
 zip-at [] ys k l h = absurd (not-suc-le-zero l)
@@ -82,6 +83,7 @@ shown-last es n k = ap text (filter-append (λ (e : ℕ × String). ltb 0 (e .0)
     go (no z) = rw (lt-ltb 0 n (omega arith), ne-eqb n 0 z) (text-last (shown es) (n, label k) ∙ append-assoc (text (shown es)) (comma (length (text (shown es)))) (part (n, label k)))
 
 module _ (counts : List ℕ) (ten : length counts ≡ 10) where
+  -- the next pair is that of count k
   pub so-far-next : (k : ℕ) → k < 10 → so-far counts (k + 1) ≡ so-far counts k ++ more (length (so-far counts k)) (getD counts k 0) k
   unfolding labels
   so-far-next k h =
@@ -117,12 +119,13 @@ all-nothing (x ∷ xs) (y ∷ ys) h = go (ℕ-discrete 0 x) (all-nothing xs ys (
 abbrev pub clean : List ℕ
 clean = bytes "mesh was already manifold, nothing changed"
 
--- no bytes are of no count, and any of some
+-- no bytes are of no count
 no-bytes : (es : List (ℕ × String)) → length (text es) ≡ 0 → (nothing es ≡ true) × (text es ≡ [])
 unfolding nothing joined
 no-bytes [] h = (refl, refl)
 no-bytes (e ∷ es) h = absurd (omega (arith, text-some e es))
 
+-- some bytes are of some count
 some-bytes : (es : List (ℕ × String)) → (length (text es) ≡ 0 → ⊥) → nothing es ≡ false
 unfolding nothing joined
 some-bytes [] h = absurd (h refl)

@@ -39,15 +39,18 @@ pub record Begun (w₀ : List ℕ) (at : ℕ) (xs : List ℕ) (w : List ℕ) (i 
 pub record Turn (at : ℕ) (w : List ℕ) (i : ℕ) : Type 0 where
   pub room : at + i < length w
 
+-- before the first turn nothing is put
 pub begin : {w₀ : List ℕ} {at : ℕ} {xs : List ℕ} → at + length xs ≤ length w₀ → Begun w₀ at xs w₀ 0
 begin {w₀} {at} h = record { fits = h; at-most = omega arith; only = only-none at 0 w₀; held = holds-none }
 
 module _ {w₀ : List ℕ} {at : ℕ} {xs w : List ℕ} {i : ℕ} (v : Begun w₀ at xs w i) where
+  -- the line is as long as it was
   pub turn : i < length xs → Turn at w i
   turn h =
       let l = v .only .long in
       record { room = omega (arith, v .fits) }
 
+  -- the next byte of xs is stored where the region ends
   pub again : (x : ℕ) → i < length xs → x ≡ getD xs i 0 → Begun w₀ at xs (set w (at + i) x) (i + 1)
   again x h e = record { fits = v .fits; at-most = omega arith; only = only-next x (v .only); held = holds-next x (turn h .room) e (v .held) }
 

@@ -35,11 +35,13 @@ pub record Turn (counts w : List ℕ) (at k : ℕ) : Type 0 where
   pub count : k < length counts
   pub asks : PartAsks w at 42 k
 
+-- before the first turn the line is empty
 pub begin : {counts w : List ℕ} → LineAccepted counts (length w) → Kept counts w w 0 0
 unfolding shown filter joined
 begin p = record { at-most = omega arith; puts = puts-none (omega arith); short = omega arith }
 
 module _ {counts w₀ w : List ℕ} {at k : ℕ} (p : LineAccepted counts (length w₀)) (v : Kept counts w₀ w at k) where
+  -- 42 bytes for each of ten counts are below 512
   pub turn : k < 10 → Turn counts w at k
   turn h =
       let l = v .puts .only .long in
@@ -55,6 +57,7 @@ module _ {counts w₀ w : List ℕ} {at k : ℕ} (p : LineAccepted counts (lengt
         short = omega (arith, v .short, q .ends, more-short at (getD counts k 0) k h);
       }
 
+  -- after ten counts it is the line of all
   pub done : 10 ≤ k → LineGives w₀ (parts counts) w at
   done h =
       let e : k ≡ 10 = omega (arith, v .at-most) in

@@ -61,6 +61,7 @@ module _ {w : List ℕ} {at : ℕ} (n : ℕ) {k : ℕ} (p : PartAsks w at 40 k) 
         let l = q .only .long in
         record { label = p .label; room = rw length-set (omega (arith, p .room, q .ends, decimal-short n)) }
 
+    -- the three stand one behind the other
     pub part-done : {w″ : List ℕ} {end : ℕ} → Puts (set w′ mid 32) (mid + 1) (bytes (label k)) w″ end → Puts w at (part (n, label k)) w″ end
     unfolding part bytes
     part-done r = puts-both (puts-both q (puts-one w′ mid 32 blank-asks)) r
@@ -88,6 +89,7 @@ module _ {w w′ : List ℕ} {at mid k : ℕ} (p : PartAsks w at 42 k) (q : Puts
       let l = q .only .long in
       record { label = p .label; room = omega (arith, p .room, q .ends, comma-short at) }
 
+  -- the part stands behind the comma
   pub more-done : {w″ : List ℕ} {n end : ℕ} → (n ≡ 0 → ⊥) → Puts w′ mid (part (n, label k)) w″ end → Puts w at (more at n k) w″ end
   unfolding more
   more-done {w″} {n} h r = rw (ne-eqb n 0 h) (puts-both q r)

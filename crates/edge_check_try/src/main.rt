@@ -1,0 +1,114 @@
+// Runs real values through the edge check. A line has the answer, how many entries of the work room are 0 from its front on, and how many are still 7,
+// as all were before the call.
+use edge_check::Checked;
+ghost use Prim.Native.Nat.{_≤_};
+
+// The largest number that a count can be.
+const HUGE: usize = 18446744073709551615;
+
+// Writes a number and a space.
+fn show_number(n: u64) {
+    io::print_decimal(1, n);
+    io::write_all(1, b" ");
+}
+
+// How many entries are 0, from the front on.
+fn zeros(row: &[u32]) -> u64 {
+    let mut i = 0;
+    while i < row.len() {
+        if row[i] != 0 {
+            return i as u64;
+        }
+        i += 1;
+    }
+    i as u64
+}
+
+// 1 for a 7.
+fn seven(x: u32) -> u64
+    ensures { λ r. ⌜ r ≤ 1 ⌝ }
+{
+    if x == 7 { 1 } else { 0 }
+}
+
+// How many entries are 7.
+fn sevens(row: &[u32]) -> u64 {
+    let mut n = 0;
+    let mut i = 0;
+    while i < row.len() {
+        n += seven(row[i]);
+        i += 1;
+    }
+    n
+}
+
+// Checks faces over a number of points, in a work room of a length, and writes what comes of it.
+fn run(count: usize, faces: &[u32], length: usize)
+    requires { ⌜ length ≤ 400 ⌝ }
+{
+    let mut row = [7; 400];
+    let work = &mut row[..length];
+    match edge_check::check(count, faces, work) {
+        Checked::Done(answer) => {
+            if answer {
+                io::write_all(1, b"yes ");
+            } else {
+                io::write_all(1, b"no ");
+            }
+        }
+        Checked::Refused(number, place) => {
+            io::write_all(1, b"refused ");
+            show_number(number as u64);
+            show_number(place as u64);
+        }
+    }
+    show_number(zeros(work));
+    show_number(sevens(work));
+    io::write_all(1, b"\n");
+}
+
+// Each directed edge used at most once: no faces, a face, both sides of a face, a closed shell.
+fn sound_ones() {
+    let faces = [0, 1, 2, 0, 2, 1];
+    run(0, &faces[..0], 64);
+    run(3, &faces[..3], 176);
+    run(3, &faces, 240);
+    run(4, &[0, 1, 2, 0, 2, 3, 0, 3, 1, 1, 3, 2], 384);
+}
+
+// A directed edge used twice, one used three times, a face that repeats a corner.
+fn faulty_ones() {
+    let faces = [0, 1, 2, 0, 1, 3, 0, 1, 4];
+    run(4, &faces[..6], 256);
+    run(5, &faces, 336);
+    run(2, &[0, 0, 1], 160);
+    run(2, &[0, 1, 1], 160);
+    run(2, &[1, 0, 1], 160);
+    run(1, &[0, 0, 0], 144);
+}
+
+// Refusals 1, 2, 5 and 6: nothing is written.
+fn refusals() {
+    let faces = [0, 1, 2, 0, 1, 3];
+    run(3, &faces[..4], 340);
+    run(HUGE, &faces, 340);
+    run(4194305, &faces, 340);
+    run(3, &faces, 340);
+    run(4, &faces, 255);
+    run(3, &faces[..3], 175);
+}
+
+// Entries beyond the stated room are as they were.
+fn longer_rooms() {
+    let faces = [0, 1, 2, 2, 1, 0];
+    run(0, &faces[..0], 70);
+    run(3, &faces, 340);
+    run(3, &faces[..3], 180);
+}
+
+fn main() {
+    sound_ones();
+    faulty_ones();
+    refusals();
+    longer_rooms();
+}

@@ -21,15 +21,20 @@ static int differences = 0;
 
 static double now() { return std::chrono::duration<double>(std::chrono::steady_clock::now().time_since_epoch()).count(); }
 
-// The best of five runs of f, in seconds.
-template <class F> static double best_of_five(F f) {
+// The best of five runs of f, in seconds; what prepares a run is not timed.
+template <class F, class G> static double best_of_five(F f, G prepare) {
     double best = 1e9;
     for (int run = 0; run < 5; run++) {
+        prepare();
         double begin = now();
         f();
         best = std::min(best, now() - begin);
     }
     return best;
+}
+
+template <class F> static double best_of_five(F f) {
+    return best_of_five(f, [] {});
 }
 
 static void expect(bool ok, const char *what) {
@@ -44,21 +49,16 @@ static void table(const char *name, const Row &faces, size_t points, bool direct
     size_t n = faces.size(), at = 7, room = at + 5 * n + 1 + points + 5;
     Row work(room), order(n), low(n), high(n);
     size_t runs = 0;
-    double own = best_of_five([&] {
-        std::fill(work.begin(), work.end(), 0xdeadbeefu);
-        runs = bench_table(work.data(), room, faces.data(), n, points, directed, at);
-    });
-    double filling = best_of_five([&] { std::fill(work.begin(), work.end(), 0xdeadbeefu); });
-    runs = bench_table(work.data(), room, faces.data(), n, points, directed, at);
+    double own = best_of_five([&] { runs = bench_table(work.data(), room, faces.data(), n, points, directed, at); },
+                              [&] { std::fill(work.begin(), work.end(), 0xdeadbeefu); });
     for (size_t i = 0; i < n; i++) {
         uint32_t x = faces[i], y = faces[i % 3 == 2 ? i - 2 : i + 1];
         low[i] = directed ? x : std::min(x, y);
         high[i] = directed ? y : std::max(x, y);
     }
-    double sorting = best_of_five([&] {
-        std::iota(order.begin(), order.end(), 0);
-        std::stable_sort(order.begin(), order.end(), [&](uint32_t i, uint32_t j) { return low[i] != low[j] ? low[i] < low[j] : high[i] < high[j]; });
-    });
+    double sorting = best_of_five(
+        [&] { std::stable_sort(order.begin(), order.end(), [&](uint32_t i, uint32_t j) { return low[i] != low[j] ? low[i] < low[j] : high[i] < high[j]; }); },
+        [&] { std::iota(order.begin(), order.end(), 0); });
     expect(std::equal(order.begin(), order.end(), work.begin() + at + 3 * n), name);
     size_t k = 0;
     bool same = true;
@@ -70,7 +70,6 @@ static void table(const char *name, const Row &faces, size_t points, bool direct
         same = same && work[at + 2 * n + order[i]] == k - 1;
     }
     expect(same && k == runs && work[at + 4 * n + k] == n && work[0] == 0xdeadbeefu && work[room - 1] == 0xdeadbeefu, name);
-    own -= filling;
     printf("table  %-28s %9zu entries %-10s %7.1f ms, std::stable_sort %7.1f ms, ratio %.2f\n", name, n, directed ? "directed" : "undirected", own * 1e3,
            sorting * 1e3, own / sorting);
 }

@@ -1,0 +1,68 @@
+-- The place of a refusal is below 2^32, as C's struct holds it. Assumes nothing.
+use mathlib.Core.Path.{_≡_, refl}
+use mathlib.Core.Bool.{Bool, true, false, not, cond}
+use mathlib.Core.List.{List, [], _∷_}
+use Prim.Native.Nat.{ℕ, suc, _≤_, _<_, _^_}
+use native.Mathlib.Omega.{arith}
+use lib.ListN.{length, getD}
+use lib.Dec.{eqb, ltb}
+use Rattle.rules.specs.Lists.{below, all, first}
+use Rattle.rules.specs.Refusal.{Check, ok, no, decided, unless, at-first, no1-counts, no6}
+use Rattle.rules.specs.Rooms.{line-rooms}
+use Rattle.rules.specs.Calls.{line-check}
+use Rattle.rules.proofs.Lists.{length-below}
+
+-- what a check finds has its place below 2^32
+unfoldable pub Near : Check → Type 0
+Near ok = Unit {0}
+Near (no n p) = p < 2 ^ 32
+
+-- ---- one check
+
+-- a test reports the place it is given
+unless-near : (n p : ℕ) (b : Bool) → p < 2 ^ 32 → Near (unless n p b)
+unfolding unless Near
+unless-near n p true l = tt
+unless-near n p false l = l
+
+-- the first that passes is at most at the end
+first-at-most : {A : Type 0} (p : A → Bool) (xs : List A) → first p xs ≤ length xs
+unfolding first
+first-at-most p [] = omega arith
+first-at-most p (x ∷ xs) = go (p x) (first-at-most p xs)
+  where
+    go : (b : Bool) → first p xs ≤ length xs → cond b 0 (suc (first p xs)) ≤ suc (length xs)
+    go true l = omega arith
+    go false l = omega arith
+
+-- the first at fault of a list that is not too long
+at-first-near : {A : Type 0} (n : ℕ) (fault : A → Bool) (xs : List A) → length xs < 2 ^ 32 → Near (at-first n fault xs)
+unfolding at-first
+at-first-near n fault xs l = unless-near n (first fault xs) (all (λ x. not (fault x)) xs) (omega (arith, first-at-most fault xs))
+
+-- 6: at most the number of rooms
+no6-near : (stated given : List ℕ) → length stated < 2 ^ 32 → Near (no6 stated given)
+unfolding no6
+no6-near stated given l =
+    at-first-near 6 (λ k. ltb (getD given k 0) (getD stated k 0)) (below (length stated)) (omega (arith, length-below (length stated)))
+
+-- ---- the checks of a call
+
+-- a check decides, or it finds nothing and the next ones decide
+step : (c : Check) (cs : List Check) → Near c → (c ≡ ok → Near (decided cs)) → Near (decided (c ∷ cs))
+unfolding decided
+step ok cs h r = r refl
+step (no n p) cs h r = h
+
+-- no check is left
+end : Near (decided [])
+unfolding decided Near
+end = tt
+
+-- of the report line
+pub line-near : (counts line : List ℕ) → Near (line-check counts line)
+unfolding line-check line-rooms no1-counts
+line-near counts line =
+    step _ _ (unless-near 1 2 (eqb (length counts) 10) (omega arith))
+    (λ _. step _ _ (no6-near line-rooms (length line ∷ []) (omega arith))
+    (λ _. end))

@@ -1,0 +1,35 @@
+// The calls of document 01 for C. Each gives back a number and a place (0 and 0 if it is accepted), and how many entries stand in each answer room.
+use line::Lined;
+ghost use mathlib.Core.List.{[], _∷_};
+ghost use Rattle.rules.specs.Calls as rule;
+ghost use Rattle.shell.specs.Told.{Given};
+
+// What the report line gives back.
+#[repr(C)]
+pub struct ShellLine {
+    pub number: u32,
+    pub place: u32,
+    pub bytes: u64,
+}
+
+// The report line: from any ten counts, the line of text in a room of 512 bytes.
+#[no_mangle]
+pub extern "C" fn shell_line(counts: &[u32], line: &mut [u8]) -> ShellLine
+    ensures { λ r. ⌜ Given (r .number) (r .place) (r .bytes ∷ []) (now (line .exit)) (rule.write-line (now (counts .entry)) (now (line .entry))) ⌝ }
+{
+    match line::line(counts, line) {
+        Lined::Done(bytes) => ShellLine {
+            number: 0,
+            place: 0,
+            bytes: bytes as u64,
+        },
+        Lined::Refused(number, at) => {
+            let place = at as u32;
+            ShellLine {
+                number: number,
+                place: place,
+                bytes: 0,
+            }
+        }
+    }
+}

@@ -1,23 +1,24 @@
 -- From the outcome of a call to what C is given: the same numbers and rooms, and a place below 2^32. Assumes nothing.
 use mathlib.Core.Path.{_≡_, sym, ap, subst}
-use mathlib.Core.List.{List, [], _∷_}
+use mathlib.Core.List.{List}
 use Prim.Native.Nat.{ℕ, _<_, _^_}
+use lib.ListN.{length, replicate, length-replicate}
 use Rattle.rules.specs.Refusal.{Check, ok, no}
 use Rattle.rules.specs.Rooms.{Answer, accepted, refused, Outcome, outcome}
-use Rattle.rules.specs.Calls.{line-check, write-line}
+use Rattle.rules.specs.Calls.{check-check, check, line-check, write-line}
 use Rattle.shell.specs.Told.{told, Given}
-use Rattle.shell.proofs.Places.{Near, line-near}
+use Rattle.shell.proofs.Places.{Near, check-near, line-near}
 
 module _ {R : Type 0} {rooms : R} {o : Outcome R} where
   -- accepted: 0 and 0, and the entries
-  pub given-accepted : {n : ℕ} → record { answer = accepted (n ∷ []); rooms = rooms } ≡ o → Given 0 0 (n ∷ []) rooms o
-  given-accepted e = record { answer = ap (λ q. told 1 (q .answer)) e; after = ap (λ q. q .rooms) e }
+  pub given-accepted : {entries : List ℕ} → record { answer = accepted entries; rooms = rooms } ≡ o → Given 0 0 entries rooms o
+  given-accepted {entries} e = record { answer = ap (λ q. told (length entries) (q .answer)) e; after = ap (λ q. q .rooms) e }
 
-  -- refused: the number and the place, and 0
-  pub given-refused : {n p : ℕ} → record { answer = refused n p; rooms = rooms } ≡ o → Given n p (0 ∷ []) rooms o
-  given-refused e = record { answer = ap (λ q. told 1 (q .answer)) e; after = ap (λ q. q .rooms) e }
+  -- refused: the number and the place, and 0 for each answer room
+  pub given-refused : (count : ℕ) {n p : ℕ} → record { answer = refused n p; rooms = rooms } ≡ o → Given n p (replicate count 0) rooms o
+  given-refused count e = record { answer = rw length-replicate (ap (λ q. told count (q .answer)) e); after = ap (λ q. q .rooms) e }
 
--- the place of an answer, if it is one, is below 2^32
+-- the place of an answer, if it is a refusal, is below 2^32
 unfoldable Placed : Answer → Type 0
 Placed (accepted entries) = Unit {0}
 Placed (refused n p) = p < 2 ^ 32
@@ -34,7 +35,12 @@ module _ {R : Type 0} where
   unfolding Placed
   refused-near h e = subst (λ q. Placed (q .answer)) (sym e) h
 
--- the report line's place fits C's struct
+-- the edge check's place fits C's struct
+pub check-place : (P : ℕ) (faces work : List ℕ) {n p : ℕ} {rooms : List ℕ} → record { answer = refused n p; rooms = rooms } ≡ check P faces work → p < 2 ^ 32
+unfolding check
+check-place P faces work e = refused-near (outcome-near (check-check P faces work) _ _ _ (check-near P faces work)) e
+
+-- the report line's too
 pub line-place : (counts line : List ℕ) {n p : ℕ} {rooms : List ℕ} → record { answer = refused n p; rooms = rooms } ≡ write-line counts line → p < 2 ^ 32
 unfolding write-line
 line-place counts line e = refused-near (outcome-near (line-check counts line) _ _ _ (line-near counts line)) e

@@ -2,15 +2,18 @@
 use mathlib.Core.Path.{_≡_, refl}
 use mathlib.Core.Bool.{Bool, true, false, not, cond}
 use mathlib.Core.List.{List, [], _∷_}
-use Prim.Native.Nat.{ℕ, suc, _≤_, _<_, _^_}
+use Prim.Native.Nat.{ℕ, suc, _/_, _≤_, _<_, _^_}
 use native.Mathlib.Omega.{arith}
 use lib.ListN.{length, getD}
-use lib.Dec.{eqb, ltb}
-use Rattle.rules.specs.Lists.{below, all, first}
-use Rattle.rules.specs.Refusal.{Check, ok, no, decided, unless, at-first, no1-counts, no6}
-use Rattle.rules.specs.Rooms.{line-rooms}
-use Rattle.rules.specs.Calls.{line-check}
+use lib.Dec.{eqb, leb, ltb}
+use Rattle.rules.specs.Lists.{below, any, all, first}
+use Rattle.rules.specs.Mesh.{facesOf, corners}
+use Rattle.rules.specs.Refusal.{Check, ok, no, decided, unless, at-first, no1, no1-counts, no2, no5, no6, most-faces}
+use Rattle.rules.specs.Rooms.{check-rooms, line-rooms}
+use Rattle.rules.specs.Calls.{check-check, line-check}
+use Rattle.rules.proofs.Flat.{length-faces}
 use Rattle.rules.proofs.Lists.{length-below}
+use Rattle.refuse.proofs.Singles.{no2-fine}
 
 -- what a check finds has its place below 2^32
 unfoldable pub Near : Check → Type 0
@@ -40,6 +43,11 @@ at-first-near : {A : Type 0} (n : ℕ) (fault : A → Bool) (xs : List A) → le
 unfolding at-first
 at-first-near n fault xs l = unless-near n (first fault xs) (all (λ x. not (fault x)) xs) (omega (arith, first-at-most fault xs))
 
+-- 5: at most F
+no5-near : (P : ℕ) (faces : List ℕ) → length faces / 3 ≤ most-faces → Near (no5 P (facesOf faces))
+unfolding no5
+no5-near P faces l = at-first-near 5 (λ f. any (leb P) (corners f)) (facesOf faces) (omega (arith, length-faces faces))
+
 -- 6: at most the number of rooms
 no6-near : (stated given : List ℕ) → length stated < 2 ^ 32 → Near (no6 stated given)
 unfolding no6
@@ -58,6 +66,18 @@ step (no n p) cs h r = h
 end : Near (decided [])
 unfolding decided Near
 end = tt
+
+-- of the edge check: 2 comes before 5, so F is not too large
+pub check-near : (P : ℕ) (faces work : List ℕ) → Near (check-check P faces work)
+unfolding check-check check-rooms no1 no2
+check-near P faces work =
+    let F = length faces / 3 in
+    step _ _ (unless-near 1 1 _ (omega arith))
+    (λ _. step _ _ (unless-near 2 0 _ (omega arith))
+    (λ _. step _ _ (unless-near 2 1 _ (omega arith))
+    (λ e. step _ _ (no5-near P faces (no2-fine 1 F most-faces e))
+    (λ _. step _ _ (no6-near (check-rooms P F) (length work ∷ []) (omega arith))
+    (λ _. end)))))
 
 -- of the report line
 pub line-near : (counts line : List ℕ) → Near (line-check counts line)

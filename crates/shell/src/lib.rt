@@ -1,8 +1,39 @@
 // The calls of document 01 for C. Each gives back a number and a place (0 and 0 if it is accepted), and how many entries stand in each answer room.
+use edge_check::Checked;
 use line::Lined;
 ghost use mathlib.Core.List.{[], _∷_};
 ghost use Rattle.rules.specs.Calls as rule;
 ghost use Rattle.shell.specs.Told.{Given};
+
+// What the edge check gives back: yes is 1, no is 0.
+#[repr(C)]
+pub struct ShellCheck {
+    pub number: u32,
+    pub place: u32,
+    pub yes: u64,
+}
+
+// The edge check: whether no face repeats a corner and every directed edge is used at most once.
+#[no_mangle]
+pub extern "C" fn shell_check(count: u64, faces: &[u32], work: &mut [u32]) -> ShellCheck
+    ensures { λ r. ⌜ Given (r .number) (r .place) (r .yes ∷ []) (now (work .exit)) (rule.check count (now (faces .entry)) (now (work .entry))) ⌝ }
+{
+    match edge_check::check(count as usize, faces, work) {
+        Checked::Done(answer) => ShellCheck {
+            number: 0,
+            place: 0,
+            yes: if answer { 1 } else { 0 },
+        },
+        Checked::Refused(number, at) => {
+            let place = at as u32;
+            ShellCheck {
+                number: number,
+                place: place,
+                yes: 0,
+            }
+        }
+    }
+}
 
 // What the report line gives back.
 #[repr(C)]

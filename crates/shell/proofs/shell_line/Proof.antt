@@ -27,7 +27,7 @@ same-length-2 : tie.Need-same-length-2
 same-length-2 c = search needs
 
 returns-2 : tie.Need-returns-2
-returns-2 c = given-refused (rw (c .before .number .given .1) at (c .before .before .before .before .before .line .ensures))
+returns-2 c = given-refused 1 (rw (c .before .number .given .1) at (c .before .before .before .before .before .line .ensures))
 
 pub shell-line-spec : {M : Type 1} → statement M
 shell-line-spec =

@@ -1,0 +1,174 @@
+/* Replays recorded answers through the library: `replay CASES ANSWERS`. The word form is told in tests/cases/FORMAT.md. Every room is lent filled with
+ * 0x5a; accepted, it must hold the answer, then zero up to the stated room, then 0x5a; refused, 0x5a everywhere. Calls that the library does not have
+ * yet are counted and left out. */
+#include "shell.h"
+#include <stdio.h>
+#include <stdlib.h>
+#include <string.h>
+
+typedef struct {
+    uint64_t *words;
+    size_t count, at;
+} Words;
+
+/* A row of entries: as they stand in the file, or one value many times. */
+typedef struct {
+    uint64_t count, value;
+    const uint64_t *entries;
+} Row;
+
+static Words load(const char *path) {
+    Words w = {NULL, 0, 1};
+    FILE *file = fopen(path, "rb");
+    if (file == NULL || fseek(file, 0, SEEK_END) != 0) {
+        fprintf(stderr, "replay: cannot read %s\n", path);
+        exit(2);
+    }
+    long length = ftell(file);
+    rewind(file);
+    w.words = malloc(length + 8);
+    w.count = length / 8;
+    if (w.words == NULL || fread(w.words, 8, w.count, file) != w.count || w.count == 0 || memcmp(w.words, "MFIXCAS1", 8) != 0) {
+        fprintf(stderr, "replay: %s is not in word form\n", path);
+        exit(2);
+    }
+    fclose(file);
+    return w;
+}
+
+static uint64_t one(Words *w) { return w->words[w->at++]; }
+
+static Row plain(Words *w) {
+    Row row = {one(w), 0, NULL};
+    row.entries = w->words + w->at;
+    w->at += row.count;
+    return row;
+}
+
+static Row array(Words *w) {
+    uint64_t count = one(w);
+    if (one(w) == 1) {
+        Row row = {count, one(w), NULL};
+        return row;
+    }
+    Row row = {count, 0, w->words + w->at};
+    w->at += count;
+    return row;
+}
+
+static uint64_t entry(Row row, uint64_t i) { return row.entries == NULL ? row.value : row.entries[i]; }
+
+static uint32_t *numbers(Row row) {
+    uint32_t *out = malloc(4 * row.count + 4);
+    for (uint64_t i = 0; out != NULL && i < row.count; i++)
+        out[i] = (uint32_t)entry(row, i);
+    return out;
+}
+
+/* A room of n entries that each hold 0x5a in every byte. */
+static void *lent(uint64_t n, size_t size) {
+    void *room = malloc(n * size + 8);
+    if (room == NULL)
+        exit(2);
+    memset(room, 0x5a, n * size);
+    return room;
+}
+
+/* Whether a room holds the answer in front, zero up to `stated` and 0x5a behind; with `stated` 0, whether it is untouched. */
+static int holds(const void *room, size_t size, uint64_t length, uint64_t stated, Row answer) {
+    const unsigned char *bytes = room;
+    if (answer.count > stated || stated > length)
+        return 0;
+    for (uint64_t i = 0; i < length; i++) {
+        uint64_t found = 0, wanted = 0;
+        memcpy(&found, bytes + i * size, size);
+        if (i < answer.count)
+            wanted = entry(answer, i);
+        else if (i >= stated)
+            memset(&wanted, 0x5a, size);
+        if (found != wanted)
+            return 0;
+    }
+    return 1;
+}
+
+static const Row NOTHING = {0, 0, NULL};
+
+/* What was recorded: number, place and the rows of an accepted call. */
+typedef struct {
+    uint64_t number, place, rows;
+    Row row[6];
+} Recorded;
+
+static Recorded recorded(Words *w) {
+    Recorded r = {0, 0, 0, {{0, 0, NULL}}};
+    r.number = one(w);
+    r.place = one(w);
+    r.rows = one(w);
+    for (uint64_t k = 0; k < r.rows; k++)
+        r.row[k] = plain(w);
+    return r;
+}
+
+static int replay_check(Words *w, Recorded want) {
+    uint64_t points = one(w);
+    Row faces = array(w), rooms = array(w);
+    uint64_t length = entry(rooms, 0);
+    uint32_t *corners = numbers(faces), *work = lent(length, 4);
+    ShellCheck got = shell_check(points, corners, faces.count, work, length);
+    uint64_t stated = want.number == 0 ? SHELL_WORK_ROOM(points, faces.count / 3) : 0;
+    uint64_t yes = want.number == 0 ? entry(want.row[0], 0) : 0;
+    int ok = got.number == want.number && got.place == want.place && got.yes == yes && holds(work, 4, length, stated, NOTHING);
+    free(corners);
+    free(work);
+    return ok;
+}
+
+static int replay_line(Words *w, Recorded want) {
+    Row counts = array(w), rooms = array(w);
+    uint64_t length = entry(rooms, 0);
+    uint32_t *ten = numbers(counts);
+    uint8_t *line = lent(length, 1);
+    ShellLine got = shell_line(ten, counts.count, line, length);
+    Row answer = want.number == 0 ? want.row[0] : NOTHING;
+    int ok = got.number == want.number && got.place == want.place && got.bytes == answer.count &&
+             holds(line, 1, length, want.number == 0 ? SHELL_LINE_ROOM : 0, answer);
+    free(ten);
+    free(line);
+    return ok;
+}
+
+int main(int count, char **names) {
+    if (count != 3) {
+        fprintf(stderr, "usage: replay CASES ANSWERS\n");
+        return 2;
+    }
+    Words cases = load(names[1]), answers = load(names[2]);
+    unsigned long same = 0, different = 0, left_out = 0;
+    for (unsigned long k = 0; cases.at < cases.count; k++) {
+        uint64_t call = one(&cases), end = one(&cases);
+        end += cases.at;
+        one(&answers);
+        uint64_t after = one(&answers);
+        after += answers.at;
+        Recorded want = recorded(&answers);
+        int ok = 1;
+        if (call == 3)
+            ok = replay_check(&cases, want);
+        else if (call == 5)
+            ok = replay_line(&cases, want);
+        else
+            left_out++;
+        if (!ok) {
+            different++;
+            printf("case %lu of call %lu differs\n", k, (unsigned long)call);
+        } else if (call == 3 || call == 5)
+            same++;
+        cases.at = end;
+        answers.at = after;
+    }
+    free(cases.words);
+    free(answers.words);
+    printf("replay: %lu as recorded, %lu different, %lu of calls that are not here yet\n", same, different, left_out);
+    return different != 0 || same == 0;
+}

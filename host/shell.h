@@ -1,0 +1,64 @@
+/* Jogasmun's static library: calls on scanned shells. For C and C++.
+ *
+ * What the caller owes: each pointer is good for the number of entries that follows it, and aligned; NULL is allowed where that number is 0; rooms
+ * do not overlap each other or the input. Nothing else is asked: every call checks its own input.
+ *
+ * What the caller gets: `number` 0 and `place` 0 if the call is accepted, and then how many entries stand in each answer room. Each answer stands at
+ * the front of its room, the rest of the stated room is zero, the work room is all zero up to what is stated, and entries beyond are unchanged.
+ * Refused: `number` and `place`, the rest 0, and no room is changed. Rooms may be longer than stated. */
+#ifndef JOGASMUN_SHELL_H
+#define JOGASMUN_SHELL_H
+
+#include <stddef.h>
+#include <stdint.h>
+
+#ifdef __cplusplus
+extern "C" {
+#endif
+
+/* The numbers a call may give back, and what `place` then is. */
+enum {
+    SHELL_ACCEPTED = 0,
+    SHELL_BAD_LENGTH = 1,   /* points or faces no multiple of 3, or not ten counts: 0 points, 1 faces, 2 counts */
+    SHELL_TOO_LARGE = 2,    /* points, faces or patches: 0, 1, 2 */
+    SHELL_BAD_SETTING = 3,  /* threshold or options: 0, 1 */
+    SHELL_BAD_POINT = 4,    /* a coordinate outside its domain: the first such point */
+    SHELL_BAD_CORNER = 5,   /* a corner that is no point: the first such face */
+    SHELL_SHORT_ROOM = 6,   /* a room too short: its place in the call's list of rooms, from 0 */
+    SHELL_CROWDED_EDGE = 7, /* an edge that occurs more than twice: the position of the first such among the sorted unique edges */
+    SHELL_BAD_BOUNDARY = 8, /* the boundary is not simple: the lowest vertex at fault */
+    SHELL_BAD_LABEL = 9,    /* a label that is neither SHELL_NO_PATCH nor a patch: the first such face */
+    SHELL_LABEL_COUNT = 10  /* as many labels as faces are wanted: 0 */
+};
+
+/* The largest sizes, and the label of a face in no patch. */
+#define SHELL_MOST_POINTS 4194304u
+#define SHELL_MOST_FACES 1048576u
+#define SHELL_MOST_PATCHES 1048576u
+#define SHELL_NO_PATCH 4294967295u
+
+/* Rooms in entries, for P points and F faces. */
+#define SHELL_WORK_ROOM(P, F) (16 * (size_t)(P) + 64 * (size_t)(F) + 64)
+#define SHELL_LINE_ROOM ((size_t)512)
+
+/* The edge check: `yes` is 1 exactly when no face repeats a corner and every directed edge is used at most once. Work: SHELL_WORK_ROOM(P, F). */
+typedef struct {
+    uint32_t number, place;
+    uint64_t yes;
+} ShellCheck;
+
+ShellCheck shell_check(uint64_t point_count, const uint32_t *faces, size_t faces_len, uint32_t *work, size_t work_len);
+
+/* The report line of ten counts, `bytes` long and not ended by a zero of its own. Line: SHELL_LINE_ROOM. */
+typedef struct {
+    uint32_t number, place;
+    uint64_t bytes;
+} ShellLine;
+
+ShellLine shell_line(const uint32_t *counts, size_t counts_len, uint8_t *line, size_t line_len);
+
+#ifdef __cplusplus
+}
+#endif
+
+#endif

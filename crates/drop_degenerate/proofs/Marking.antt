@@ -1,0 +1,79 @@
+-- The flags of the faces passed are right, and nothing else is changed: pass 1's loop, as a fact of lists. Assumes nothing.
+use mathlib.Core.Path.{_≡_, sym, ap, _∙_}
+use mathlib.Core.Bool.{Bool}
+use mathlib.Core.List.{List}
+use Prim.Native.Nat.{ℕ, _+_, _*_, _/_, _^_, _≤_, _<_}
+use native.Mathlib.Nat.{zero-add}
+use native.Mathlib.Omega.{arith}
+use lib.Ieee.{Float}
+use lib.ListN.{length, getD, set}
+use Rattle.rows.specs.Region.{Only, Holds}
+use Rattle.rows.proofs.Regions.{only-none, only-next, only-more, holds-none, holds-next}
+use Rattle.rows.specs.Retain.{RetainAsks, RetainGives}
+use Rattle.rules.specs.Mesh.{pointsOf}
+use Rattle.rules.specs.Float.{degenerate}
+use Rattle.rules.specs.Pass1.{marked1}
+use Rattle.rules.specs.Rooms.{work-room}
+use Rattle.measure.specs.Measure.{faceOf, Corners}
+use Rattle.leaving.specs.Pass.{standing, PassAsks, LeaveGives}
+use Rattle.leaving.proofs.Standing.{standing-face}
+use Rattle.leaving.proofs.ByFlags.{closes, leave-by-flags}
+use Rattle.drop_degenerate.specs.Marks.{flagOf, MarkGives}
+
+-- the loop's invariant
+pub record Marked (ps : List Float) (s : Float) (xs : List ℕ) (n : ℕ) (w₀ w : List ℕ) (i : ℕ) : Type 0 where
+  pub at-most : i ≤ n
+  pub only : Only 0 i w₀ w
+  pub flags : Holds 0 i (λ j. flagOf (marked1 s (pointsOf ps) (standing xs n) j)) w
+
+-- what a turn may use
+pub record Turn (xs : List ℕ) (n : ℕ) (w : List ℕ) (i : ℕ) : Type 0 where
+  pub here : i < n
+  pub fit : 3 * n ≤ length xs
+  pub few : n ≤ 1048576
+  pub room : n ≤ length w
+
+-- before the first turn no flag is written
+pub begin : {ps : List Float} {s : Float} {xs : List ℕ} {n : ℕ} {w : List ℕ} → PassAsks ps xs n w → Marked ps s xs n w w 0
+begin p = record { at-most = omega arith; only = only-none _ _ _; flags = holds-none }
+
+module _ {ps : List Float} {s : Float} {xs : List ℕ} {n : ℕ} {w₀ w : List ℕ} {i : ℕ} (p : PassAsks ps xs n w₀) (v : Marked ps s xs n w₀ w i) where
+  -- the bounds of a turn
+  pub turn : i < n → Turn xs n w i
+  unfolding work-room
+  turn h = let l = v .only .long in record { here = h; fit = p .stand .fit; few = p .stand .few; room = omega (arith, p .stand .room) }
+
+  -- the corners that are measured are points
+  pub corners-in : i < n → Corners ps (getD xs (3 * i) 0) (getD xs (3 * i + 1) 0) (getD xs (3 * i + 2) 0)
+  corners-in h = record { a-in = p .stand .inside (3 * i) (omega arith); b-in = p .stand .inside (3 * i + 1) (omega arith); c-in = p .stand .inside (3 * i + 2) (omega arith) }
+
+  -- a turn flags one face more
+  pub again : {leaves : Bool} {f : ℕ} → i < n → leaves ≡ degenerate s (pointsOf ps) (faceOf (getD xs (3 * i) 0) (getD xs (3 * i + 1) 0) (getD xs (3 * i + 2) 0)) → f ≡ flagOf leaves → Marked ps s xs n w₀ (set w i f) (i + 1)
+  again {leaves} {f} h d e =
+      let t = turn h in
+      let m : leaves ≡ marked1 s (pointsOf ps) (standing xs n) i = unfold marked1 in (d ∙ ap (degenerate s (pointsOf ps)) (sym (standing-face xs n (p .stand .fit) i h))) in
+      record {
+        at-most = omega arith;
+        only = rw zero-add at (only-next {a = 0} f (v .only));
+        flags = rw zero-add at (holds-next {a = 0} f (omega (arith, t)) (e ∙ ap flagOf m) (v .flags));
+      }
+
+  -- after n turns every flag is written
+  pub done : n ≤ i → MarkGives ps s xs n w₀ w
+  done h =
+      let e : i ≡ n = omega arith in
+      record { only = rw e at (v .only); flags = rw e at (v .flags) }
+
+-- the flags lie in the stated work room
+module _ {ps : List Float} {s : Float} {xs : List ℕ} {n : ℕ} {w w1 : List ℕ} (p : PassAsks ps xs n w) (g : MarkGives ps s xs n w w1) where
+  within : Only 0 (work-room (length ps / 3) n) w w1
+  unfolding work-room
+  within = only-more (omega arith) (omega arith) (g .only)
+
+  -- so the faces may be closed up by them
+  pub retains : RetainAsks xs w1 0 n
+  retains = closes (p .stand) within (unfold work-room in (omega arith))
+
+  -- and then the degenerate ones have left
+  pub leaves : {xs′ : List ℕ} {r : ℕ} → RetainGives 0 xs w1 0 n xs′ r → LeaveGives (marked1 s (pointsOf ps) (standing xs n)) (length ps / 3) xs n w xs′ w1 r
+  leaves q = leave-by-flags (marked1 s (pointsOf ps) (standing xs n)) (p .stand) (g .flags) within q

@@ -1,15 +1,18 @@
 -- The faces that stand at the front of a room, by the room's entries; and how they stand once some have left. Assumes nothing.
-use mathlib.Core.Path.{_≡_, sym, ap, subst, _∙_}
+use mathlib.Core.Path.{_≡_, ap, _∙_}
 use mathlib.Core.Bool.{Bool}
 use mathlib.Core.List.{List}
-use Prim.Native.Nat.{ℕ, _+_, _*_, _≤_, _<_}
+use Prim.Native.Nat.{ℕ, _+_, _-_, _*_, _≤_, _<_}
 use native.Mathlib.Omega.{arith}
 use lib.ListN.{length, getD, take}
 use lib.Seq.{getD-take, length-take-le}
-use Rattle.rules.specs.Lists.{leave}
-use Rattle.rules.specs.Mesh.{Face, face, facesOf}
-use Rattle.rules.proofs.Flat.{face-at, faces-flat}
-use Rattle.leaving.specs.Pass.{standing, LeaveGives}
+use Rattle.rules.specs.Lists.{below, count, leave}
+use Rattle.rules.specs.Mesh.{Point, face, facesOf, flatFaces, corners}
+use Rattle.rules.specs.Rooms.{work-room}
+use Rattle.rules.specs.State.{State, Count, more, counted, with-faces, dropped}
+use Rattle.rules.proofs.Flat.{face-at, faces-flat, length-faces-take}
+use Rattle.rules.proofs.Rising.{All, all-at, all-from, all-leave, all-each}
+use Rattle.leaving.specs.Pass.{standing, FacesStand, LeaveGives}
 
 -- face i has the corners at 3i, 3i + 1 and 3i + 2
 pub standing-face : (xs : List ℕ) (n : ℕ) → 3 * n ≤ length xs → (i : ℕ) → i < n → face (standing xs n) i ≡ record { a = getD xs (3 * i) 0; b = getD xs (3 * i + 1) 0; c = getD xs (3 * i + 2) 0 }
@@ -21,3 +24,43 @@ standing-face xs n fit i h =
 -- those that stay are what the rules leave
 pub standing-left : {marked : ℕ → Bool} {P : ℕ} {xs : List ℕ} {n : ℕ} {w xs′ w′ : List ℕ} {r : ℕ} → LeaveGives marked P xs n w xs′ w′ r → standing xs′ r ≡ leave marked (standing xs n)
 standing-left {marked} {P} {xs} {n} g = ap facesOf (g .faces) ∙ faces-flat (leave marked (standing xs n))
+
+-- the state of the rules: the faces that stay, and n - r more at the pass's count
+pub dropped-state :
+    {marked : ℕ → Bool} {P : ℕ} {xs : List ℕ} {n : ℕ} {w xs′ w′ : List ℕ} {r : ℕ} (c : Count) (ps : List Point) (report : List ℕ)
+    → 3 * n ≤ length xs → LeaveGives marked P xs n w xs′ w′ r
+    → record { points = ps; faces = standing xs′ r; report = more c (n - r) report } ≡ dropped c marked (record { points = ps; faces = standing xs n; report = report })
+unfolding dropped counted with-faces
+dropped-state {marked} {P} {xs} {n} {w} {xs′} {w′} {r} c ps report fit g =
+    let l = length-faces-take xs n fit in
+    let k : n - r ≡ count marked (below (length (standing xs n))) = rw l (omega (arith, g .number)) in
+    let b = standing-left g in
+    λ i. record { points = ps; faces = b i; report = more c (k i) report }
+
+-- the corners of the faces that stand are of the P points
+standing-inside : {P : ℕ} {xs : List ℕ} {n : ℕ} {w : List ℕ} → FacesStand P xs n w → All (λ f. All (λ v. v < P) (corners f)) (standing xs n)
+unfolding face
+standing-inside {P} {xs} {n} p =
+    all-from (λ f. All (λ v. v < P) (corners f)) (record { a = 0; b = 0; c = 0 }) (standing xs n)
+    (λ i h.
+    let l : i < n = omega (arith, length-faces-take xs n (p .fit)) in
+    rw (standing-face xs n (p .fit) i l) (p .inside (3 * i) (omega arith), (p .inside (3 * i + 1) (omega arith), (p .inside (3 * i + 2) (omega arith), tt))))
+
+-- those that stay stand there as the next pass asks
+pub stands-left : {marked : ℕ → Bool} {P : ℕ} {xs : List ℕ} {n : ℕ} {w xs′ w′ : List ℕ} {r : ℕ} → FacesStand P xs n w → LeaveGives marked P xs n w xs′ w′ r → FacesStand P xs′ r w′
+unfolding work-room
+stands-left {marked} {P} {xs} {n} {w} {xs′} {w′} {r} p g =
+    let l = g .only-faces .long in
+    let k = g .only-work .long in
+    let c = g .number in
+    record { points = p .points; few = omega (arith, p .few); fit = omega (arith, p .fit); inside = inside-left; room = omega (arith, p .room) }
+  where
+    flat-inside : All (λ v. v < P) (flatFaces (leave marked (standing xs n)))
+    flat-inside = unfold flatFaces in (all-each (λ v. v < P) corners (leave marked (standing xs n)) (all-leave (λ f. All (λ v. v < P) (corners f)) marked (standing xs n) (standing-inside p)))
+
+    inside-left : (i : ℕ) → i < 3 * r → getD xs′ i 0 < P
+    inside-left i h =
+        let l = g .only-faces .long in
+        let c = g .number in
+        let e = length-take-le (3 * r) xs′ (omega (arith, p .fit)) in
+        rw (getD-take (3 * r) xs′ i 0 h) at (rw (← (g .faces)) at (all-at (λ v. v < P) (flatFaces (leave marked (standing xs n))) 0 i flat-inside (omega (arith, ap length (g .faces)))))

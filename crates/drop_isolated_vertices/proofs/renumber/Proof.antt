@@ -1,0 +1,80 @@
+-- `drop_isolated_vertices::renumber` meets its contract: the corners passed have their numbers. Assumes nothing.
+use Prim.Native.Nat.{_-_, _*_}
+use native.Mathlib.Omega.{arith}
+use Rattle.drop_isolated_vertices.proofs.Renumbering.{Renumbered, begin, turn, again, done}
+use borrow.Author.Needs.{needs}
+use Rattle.drop_isolated_vertices.proofs.renumber.Statement.{statement}
+use Rattle.drop_isolated_vertices.proofs.renumber.Tie as tie
+
+abbrev Inv-loop : tie.InvT-loop
+Inv-loop faces₀ n work numbers m i₀ faces i = Renumbered faces₀ n work numbers faces i
+
+abbrev μ-loop : tie.MeasureT-loop
+μ-loop faces₀ n work numbers m i₀ faces i = 3 * n - i
+
+mul-m : tie.Need-mul-m Inv-loop μ-loop
+mul-m c = search needs
+
+loop-holds : tie.Need-loop-holds Inv-loop μ-loop
+loop-holds c = begin (c .pre)
+
+mul-faces : tie.Need-mul-faces Inv-loop μ-loop
+mul-faces c = omega (arith, turn (c .before .before .pre) (c .before .loop .inv) (c .loop-test .taken))
+
+slice-read-faces : tie.Need-slice-read-faces Inv-loop μ-loop
+slice-read-faces c = omega (arith, turn (c .before .before .before .pre) (c .before .before .loop .inv) (c .before .loop-test .taken))
+
+cast-faces : tie.Need-cast-faces Inv-loop μ-loop
+cast-faces c = omega (arith, turn (c .before .before .before .pre) (c .before .before .loop .inv) (c .before .loop-test .taken))
+
+add-faces : tie.Need-add-faces Inv-loop μ-loop
+add-faces c = omega (arith, turn (c .before .before .before .pre) (c .before .before .loop .inv) (c .before .loop-test .taken))
+
+mul-faces-2 : tie.Need-mul-faces-2 Inv-loop μ-loop
+mul-faces-2 c = omega (arith, turn (c .before .before .before .pre) (c .before .before .loop .inv) (c .before .loop-test .taken))
+
+shared-slice-read-faces : tie.Need-shared-slice-read-faces Inv-loop μ-loop
+shared-slice-read-faces c = omega (arith, turn (c .before .before .before .before .pre) (c .before .before .before .loop .inv) (c .before .before .loop-test .taken))
+
+mul-faces-3 : tie.Need-mul-faces-3 Inv-loop μ-loop
+mul-faces-3 c = omega (arith, turn (c .before .before .before .before .pre) (c .before .before .before .loop .inv) (c .before .before .loop-test .taken))
+
+slice-write-faces : tie.Need-slice-write-faces Inv-loop μ-loop
+slice-write-faces c = omega (arith, turn (c .before .before .before .before .pre) (c .before .before .before .loop .inv) (c .before .before .loop-test .taken))
+
+add-i : tie.Need-add-i Inv-loop μ-loop
+add-i c = omega (arith, turn (c .before .before .before .before .pre) (c .before .before .before .loop .inv) (c .before .before .loop-test .taken))
+
+loop-less : tie.Need-loop-less Inv-loop μ-loop
+loop-less c = omega arith
+
+loop-again : tie.Need-loop-again Inv-loop μ-loop
+loop-again c = again (c .before .before .before .before .pre) (c .before .before .before .loop .inv) (c .before .before .loop-test .taken)
+
+same-length : tie.Need-same-length Inv-loop μ-loop
+same-length c = c .before .loop .inv .only .long
+
+returns : tie.Need-returns Inv-loop μ-loop
+returns c = done (c .before .before .pre) (c .before .loop .inv) (c .loop-test .left)
+
+pub renumber-spec : {M : Type 1} → statement M
+renumber-spec =
+    tie.close
+    (tie.spec
+    Inv-loop
+    μ-loop
+    mul-m
+    loop-holds
+    mul-faces
+    slice-read-faces
+    cast-faces
+    add-faces
+    mul-faces-2
+    shared-slice-read-faces
+    mul-faces-3
+    slice-write-faces
+    add-i
+    loop-less
+    loop-again
+    same-length
+    returns)

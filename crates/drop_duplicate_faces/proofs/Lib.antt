@@ -1,0 +1,14 @@
+-- `Rising` has lists in which each member comes before all later ones by several keys, as a sort by groups makes them.
+pub mod Rising
+-- `Runs` has where a run of equal keys begins in such a list.
+pub mod Runs
+-- `Alike` has the rules' mark of a face, by its three sorted corners.
+pub mod Alike
+-- `Testing` has what the tests of keys say, by the rows.
+pub mod Testing
+-- `Keying` and `Marking` have the two loops, as facts of lists.
+pub mod Keying
+pub mod Marking
+-- `Sorting` has the sort by the columns, and `Flags` that the flags are the rules' marks.
+pub mod Sorting
+pub mod Flags

@@ -34,10 +34,10 @@ fn renumber(faces: &mut [u32], n: usize, work: &[u32], numbers: usize)
     ensures { λ _. ⌜ RenumberGives (now (faces .entry)) n (now (work .entry)) numbers (now (faces .exit)) ⌝ }
 {
     let m = 3 * n;
-    let mut i = 0;
-    while i < m {
-        faces[i] = work[numbers + faces[i] as usize];
-        i += 1;
+    let mut k = 0;
+    while k < m {
+        faces[k] = work[numbers + faces[k] as usize];
+        k += 1;
     }
 }
 

@@ -7,10 +7,10 @@ use Rattle.drop_isolated_vertices.proofs.renumber.Statement.{statement}
 use Rattle.drop_isolated_vertices.proofs.renumber.Tie as tie
 
 abbrev Inv-loop : tie.InvT-loop
-Inv-loop faces₀ n work numbers m i₀ faces i = Renumbered faces₀ n work numbers faces i
+Inv-loop faces₀ n work numbers m k₀ faces k = Renumbered faces₀ n work numbers faces k
 
 abbrev μ-loop : tie.MeasureT-loop
-μ-loop faces₀ n work numbers m i₀ faces i = 3 * n - i
+μ-loop faces₀ n work numbers m k₀ faces k = 3 * n - k
 
 mul-m : tie.Need-mul-m Inv-loop μ-loop
 mul-m c = search needs
@@ -42,8 +42,8 @@ mul-faces-3 c = omega (arith, turn (c .before .before .before .before .pre) (c .
 slice-write-faces : tie.Need-slice-write-faces Inv-loop μ-loop
 slice-write-faces c = omega (arith, turn (c .before .before .before .before .pre) (c .before .before .before .loop .inv) (c .before .before .loop-test .taken))
 
-add-i : tie.Need-add-i Inv-loop μ-loop
-add-i c = omega (arith, turn (c .before .before .before .before .pre) (c .before .before .before .loop .inv) (c .before .before .loop-test .taken))
+add-k : tie.Need-add-k Inv-loop μ-loop
+add-k c = omega (arith, turn (c .before .before .before .before .pre) (c .before .before .before .loop .inv) (c .before .before .loop-test .taken))
 
 loop-less : tie.Need-loop-less Inv-loop μ-loop
 loop-less c = omega arith
@@ -73,7 +73,7 @@ renumber-spec =
     shared-slice-read-faces
     mul-faces-3
     slice-write-faces
-    add-i
+    add-k
     loop-less
     loop-again
     same-length

@@ -55,11 +55,11 @@ pub record Passed (lost : Step → ℕ → Bool) (d : Bool) (ps : List Float) (x
   pub fit : marks + faceCount xs ≤ length w
   pub flags : Holds marks (faceCount xs) (λ i. cond (lostAmong lost (take r (keysOf d (pointCount ps) (facesOf xs))) i) 1 0) w
 
-module _ (lost : Step → ℕ → Bool) {d : Bool} {ps : List Float} {xs w : List ℕ} {marks : ℕ} (p : MarkAsks ps xs w marks) {w₁ : List ℕ} {m : ℕ} (t : TableGives w xs (pointCount ps) d 0 w₁ m) where
-  -- the marks may be cleared
-  pub clear-ok : marks + faceCount xs ≤ length w₁
-  clear-ok = omega (arith, t .only .long, p .fit)
+-- the marks may be cleared
+pub clear-ok : {d : Bool} {ps : List Float} {xs w : List ℕ} {marks : ℕ} {w₁ : List ℕ} {m : ℕ} → MarkAsks ps xs w marks → TableGives w xs (pointCount ps) d 0 w₁ m → marks + faceCount xs ≤ length w₁
+clear-ok p t = omega (arith, t .only .long, p .fit)
 
+module _ (lost : Step → ℕ → Bool) {d : Bool} {ps : List Float} {xs w : List ℕ} {marks : ℕ} (p : MarkAsks ps xs w marks) {w₁ : List ℕ} {m : ℕ} (t : TableGives w xs (pointCount ps) d 0 w₁ m) where
   module _ {w₂ : List ℕ} (o : Only marks (faceCount xs) w₁ w₂) where
     -- no run has passed
     pub begin : Filled marks (faceCount xs) 0 w₂ → Passed lost d ps xs w₂ marks m w₂ 0
@@ -69,7 +69,7 @@ module _ (lost : Step → ℕ → Bool) {d : Bool} {ps : List Float} {xs w : Lis
           only = only-none _ _ _;
           tabled = tabled-kept o (before (omega (arith, p .behind))) (t .tabled);
           behind = omega (arith, p .behind);
-          fit = omega (arith, o .long, clear-ok);
+          fit = omega (arith, o .long, clear-ok p t);
           flags = record { each = λ i h. unfold any in (z .each i h) };
         }
 

@@ -2,11 +2,11 @@
 use mathlib.Core.Path.{_≡_, sym, ap, _∙_}
 use mathlib.Core.Bool.{Bool, true, false, cond}
 use mathlib.Core.List.{List, [], _∷_, _++_, map, map-append}
-use Prim.Native.Nat.{ℕ, suc, _+_, _/_, _≤_, _<_}
+use Prim.Native.Nat.{ℕ, _+_, _/_, _≤_, _<_}
 use native.Mathlib.Omega.{arith}
 use native.Mathlib.Numerals.{add-one}
 use lib.ListN.{length, getD, set}
-use Rattle.rows.specs.Region.{part, Apart, Apart.before, Only, Holds}
+use Rattle.rows.specs.Region.{part, Apart.before, Only, Holds}
 use Rattle.rows.proofs.Regions.{only-none, only-both, only-set, kept-at, holds-set, part-suc}
 use Rattle.marking.specs.Marking.{EntriesAsks, LostGives}
 

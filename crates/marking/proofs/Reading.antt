@@ -1,20 +1,19 @@
 -- What is read of run r of the table at the front of the work room: bounds, the run as it is handed on and as a region, and its edge. Assumes nothing.
-use mathlib.Core.Path.{_≡_, sym, ap, _∙_}
+use mathlib.Core.Path.{_≡_, ap}
 use mathlib.Core.Bool.{Bool, true, false}
 use mathlib.Core.List.{List, map}
-use Prim.Native.Nat.{ℕ, _+_, _-_, _*_, _/_, _%_, _^_, _≤_, _<_}
+use Prim.Native.Nat.{ℕ, _+_, _-_, _*_, _/_, _^_, _≤_, _<_}
 use native.Mathlib.Omega.{arith}
 use native.Mathlib.Nat.{zero-add}
-use lib.ListN.{length, getD, take, drop, length-map}
+use lib.ListN.{length, getD, take, drop}
 use lib.Ieee.{Float}
 use Rattle.rows.specs.Region.{part}
-use Rattle.rows.proofs.Regions.{length-part, getD-part}
+use Rattle.rows.proofs.Regions.{getD-part}
 use Rattle.rules.specs.Mesh.{facesOf}
 use Rattle.rules.specs.Steps.{step, users, walkers}
-use Rattle.table.specs.Table.{Tabled, runCount}
 use Rattle.table.proofs.Ids.{edges-keys, directed-keys}
 use Rattle.table.proofs.Theorems.{key-row}
-use Rattle.table.proofs.Handing.{AtRun, at-run, handed, handed-long, handed-in, handed-users, handed-walkers}
+use Rattle.table.proofs.Handing.{at-run, handed-long, handed-in, handed-users, handed-walkers}
 use Rattle.marking.specs.Marking.{pointCount, faceCount, edgeAt, RunAsks, EntriesAsks}
 
 -- where run r begins and where the next one does

@@ -1,39 +1,29 @@
 -- The marks of one run more, in a loop over the runs of the table: after r of them the faces that are lost at one of the first r edges are marked.
 -- Assumes nothing.
 use mathlib.Core.Path.{_≡_, refl, sym, ap, subst, _∙_}
-use mathlib.Core.Bool.{Bool, true, false, _||_, cond}
+use mathlib.Core.Bool.{Bool, true, false, _||_, cond, or-false, or-assoc}
 use mathlib.Core.List.{List, [], _∷_, _++_}
-use Prim.Native.Nat.{ℕ, suc, _+_, _*_, _/_, _≤_, _<_}
+use Prim.Native.Nat.{ℕ, _+_, _*_, _≤_, _<_}
 use native.Mathlib.Omega.{arith}
 use native.Mathlib.Numerals.{add-one}
-use lib.ListN.{length, getD, take}
+use lib.ListN.{length, take}
 use lib.Seq.{take-suc, take-length}
 use lib.Ieee.{Float}
-use Rattle.rows.specs.Region.{Apart, Apart.before, Only, Holds, Filled}
+use Rattle.rows.specs.Region.{Apart.before, Only, Holds, Filled}
 use Rattle.rows.proofs.Regions.{only-none, only-both, only-more}
 use Rattle.rules.specs.Lists.{any}
 use Rattle.rules.specs.Mesh.{facesOf}
 use Rattle.rules.specs.Steps.{Step, step}
 use Rattle.table.specs.Entries.{keysOf}
-use Rattle.table.specs.Table.{Tabled, TableGives, runCount}
+use Rattle.table.specs.Table.{Tabled, TableGives}
 use Rattle.table.proofs.Places.{tabled-kept}
 use Rattle.marking.specs.Marking.{pointCount, faceCount, edgeAt, MarkAsks, MarkGives, RunAsks, LostGives}
-
--- or with false
-or-false : (b : Bool) → (b || false) ≡ b
-or-false true = refl
-or-false false = refl
-
--- or is associative
-or-assoc : (a b c : Bool) → (a || (b || c)) ≡ ((a || b) || c)
-or-assoc true b c = refl
-or-assoc false b c = refl
 
 -- one element more passes, or one before does
 pub any-snoc : {A : Type 0} (p : A → Bool) (xs : List A) (x : A) → any p (xs ++ (x ∷ [])) ≡ (any p xs || p x)
 unfolding any
 any-snoc p [] x = or-false (p x)
-any-snoc p (y ∷ ys) x = ap (λ b. p y || b) (any-snoc p ys x) ∙ or-assoc (p y) (any p ys) (p x)
+any-snoc p (y ∷ ys) x = ap (λ b. p y || b) (any-snoc p ys x) ∙ sym (or-assoc (p y) (any p ys) (p x))
 
 -- a mark that is set, or was
 marked-twice : (a b : Bool) → _≡_ {A = ℕ} (cond a 1 (cond b 1 0)) (cond (b || a) 1 0)

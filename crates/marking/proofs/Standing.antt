@@ -1,19 +1,19 @@
 -- The n faces at the front of their room, as a pass hands them on to be marked, and what the marks then give. Assumes nothing.
-use mathlib.Core.Path.{_≡_, ap, sym, _∙_}
+use mathlib.Core.Path.{_≡_}
 use mathlib.Core.Bool.{Bool, cond}
 use mathlib.Core.List.{List}
-use Prim.Native.Nat.{ℕ, _+_, _*_, _/_, _≤_, _<_}
+use Prim.Native.Nat.{ℕ, _+_, _*_, _<_}
 use native.Mathlib.Omega.{arith}
-use lib.ListN.{length, getD, take}
+use lib.ListN.{length, take}
 use lib.Seq.{length-take-le, getD-take}
 use lib.Ieee.{Float}
 use Rattle.rows.specs.Region.{Only, Holds}
 use Rattle.rows.specs.Retain.{RetainAsks, RetainGives}
 use Rattle.rows.proofs.Regions.{only-more}
 use Rattle.rules.specs.Rooms.{work-room}
-use Rattle.leaving.specs.Pass.{FacesStand, PassAsks, LeaveGives}
+use Rattle.leaving.specs.Pass.{PassAsks, LeaveGives}
 use Rattle.leaving.proofs.ByFlags.{closes, leave-by-flags}
-use Rattle.marking.specs.Marking.{pointCount, faceCount, MarkAsks, MarkGives}
+use Rattle.marking.specs.Marking.{pointCount, MarkAsks, MarkGives}
 
 module _ {ps : List Float} {xs : List ℕ} {n : ℕ} {w : List ℕ} (p : PassAsks ps xs n w) where
   -- the front of the room has 3n entries

@@ -1,20 +1,19 @@
 -- The marks and the count that the edge of one run adds. Assumes nothing.
 use mathlib.Core.Path.{_≡_, refl, sym, ap, _∙_}
 use mathlib.Core.Bool.{Bool, true, false, not, _&&_, _||_, cond}
-use mathlib.Core.List.{List, [], _∷_, _++_}
+use mathlib.Core.List.{List, [], _∷_}
 use Prim.Native.Nat.{ℕ, _+_, _-_, _*_, _/_, _≤_, _<_}
 use native.Mathlib.Omega.{arith}
 use borrow.Author.Tests.{lt-ltb, le-ltb}
-use lib.Dec.{eqb, ltb}
+use lib.Dec.{eqb}
 use lib.ListN.{length, getD, take, length-map}
 use lib.Seq.{take-length}
 use lib.Ieee.{Float}
 use Rattle.rows.specs.Region.{Only}
 use Rattle.rows.proofs.Regions.{only-none}
 use Rattle.rules.specs.Lists.{filter, any, has, count}
-use Rattle.rules.specs.Mesh.{Face, face, facesOf, pointsOf}
-use Rattle.rules.specs.Steps.{Step, step, walks, users, edges, qualityOf}
-use Rattle.rules.specs.Rank.{best}
+use Rattle.rules.specs.Mesh.{face, facesOf, pointsOf}
+use Rattle.rules.specs.Steps.{step, walks, users, edges}
 use Rattle.rules.specs.Pass3.{crowded, second, kept, marked3}
 use Rattle.rules.proofs.Counting.{count-append}
 use Rattle.rules.proofs.Flat.{length-points}
@@ -22,7 +21,7 @@ use Rattle.table.specs.Entries.{keysOf}
 use Rattle.table.specs.Table.{TableGives}
 use Rattle.table.proofs.Ids.{edges-keys}
 use Rattle.rank.specs.Ranks.{facesIn, valueOf, others, BestAsks, BestGives, SecondAsks, RankAsks}
-use Rattle.marking.specs.Marking.{pointCount, faceCount, edgeAt, MarkAsks, MarkGives, RunAsks, EntriesAsks, LostGives}
+use Rattle.marking.specs.Marking.{pointCount, faceCount, edgeAt, MarkAsks, RunAsks, LostGives}
 use Rattle.marking.proofs.Reading.{from, next, handedOn, region, bounds, handed-region, run-long, run-in, edge-read, run-users}
 use Rattle.marking.proofs.Running.{Passed, lostAmong, next-keys}
 use Rattle.marking.proofs.Running as running

@@ -1,6 +1,6 @@
 -- The marks that one entry adds: of its face, unless that is one of the two that are kept. Assumes nothing.
-use mathlib.Core.Path.{_≡_, refl, sym, ap, _∙_}
-use mathlib.Core.Bool.{Bool, true, false, not, _&&_, _||_}
+use mathlib.Core.Path.{_≡_, refl, sym, _∙_}
+use mathlib.Core.Bool.{true, false, not, _||_, or-false, or-true, and-false}
 use mathlib.Core.List.{List, [], _∷_, _++_}
 use Prim.Native.Nat.{ℕ}
 use native.Mathlib.Decide.{ℕ-discrete}
@@ -9,21 +9,6 @@ use lib.Dec.{eqb}
 use Rattle.rules.specs.Lists.{any, has}
 use Rattle.marking.proofs.Running.{any-snoc}
 use Rattle.resolve_nonmanifold_edges.specs.Crowds.{lostOf}
-
--- or with false
-or-false : (b : Bool) → (b || false) ≡ b
-or-false true = refl
-or-false false = refl
-
--- or with true
-or-true : (b : Bool) → (b || true) ≡ true
-or-true true = refl
-or-true false = refl
-
--- and with false
-and-false : (b : Bool) → (b && false) ≡ false
-and-false true = refl
-and-false false = refl
 
 -- among no entries nothing is lost
 pub lost-none : (one two i : ℕ) → lostOf [] one two i ≡ false

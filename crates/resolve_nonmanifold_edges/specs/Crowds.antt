@@ -10,7 +10,7 @@ use Rattle.rules.specs.Lists.{has}
 use Rattle.rules.specs.Mesh.{Face, facesOf, pointsOf}
 use Rattle.rules.specs.Steps.{Step, users}
 use Rattle.rules.specs.Pass3.{crowded, kept, marked3}
-use Rattle.rank.specs.Ranks.{facesIn, valueOf}
+use Rattle.rank.specs.Ranks.{valueOf}
 use Rattle.marking.specs.Marking.{pointCount, faceCount, edgeAt, MarkGives, LostGives}
 
 -- more than two entries meet at the edge e

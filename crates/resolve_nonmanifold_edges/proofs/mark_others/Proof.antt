@@ -1,12 +1,12 @@
 -- `resolve_nonmanifold_edges::mark_others` meets its contract: after k entries, their faces but for the two are marked. Assumes nothing.
-use mathlib.Core.Path.{_≡_, sym, ap, _∙_}
+use mathlib.Core.Path.{_≡_, sym, _∙_}
 use mathlib.Core.Logic.{⊎-elim}
 use mathlib.Core.Bool.{Bool, true, false, not, _||_}
 use mathlib.Core.List.{List}
 use Prim.Native.Nat.{ℕ, _+_, _-_, _/_, _<_}
 use native.Mathlib.Omega.{arith}
 use lib.Dec.{eqb}
-use lib.ListN.{length, getD, set}
+use lib.ListN.{getD, set}
 use Rattle.rows.specs.Region.{part}
 use Rattle.rank.specs.Ranks.{facesIn}
 use Rattle.marking.specs.Marking.{EntriesAsks}

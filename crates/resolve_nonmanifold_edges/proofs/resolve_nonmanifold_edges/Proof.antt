@@ -2,7 +2,6 @@
 use mathlib.Core.Path.{sym}
 use native.Mathlib.Omega.{arith}
 use Rattle.marking.proofs.Standing.{front-long, mark-ok, retain-ok, left}
-use borrow.Author.Needs.{needs}
 use Rattle.resolve_nonmanifold_edges.proofs.resolve_nonmanifold_edges.Statement.{statement}
 use Rattle.resolve_nonmanifold_edges.proofs.resolve_nonmanifold_edges.Tie as tie
 

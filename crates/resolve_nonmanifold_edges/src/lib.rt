@@ -19,8 +19,8 @@ ghost use Rattle.resolve_nonmanifold_edges.specs.Crowds.{lostOf, EdgeGiv
 
 // What the pass gives back: how many edges are crowded, and how many faces stay.
 pub struct Resolved {
-    edges: usize,
-    faces: usize,
+    pub edges: usize,
+    pub faces: usize,
 }
 
 // Whether face f is neither of the two that are kept.

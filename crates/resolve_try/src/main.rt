@@ -1,0 +1,82 @@
+// Runs faces of document 01's examples, and some more, through pass 3 and through the second half of pass 4, in a work room that is not zero. A line has
+// the number of crowded edges, in pass 3 alone, the number of faces that stay, and their corners.
+ghost use Prim.Native.Nat.{_≤_};
+ghost use lib.ListN.{length};
+ghost use Rattle.leaving.specs.Pass.{PassAsks};
+
+// Writes a number and a space.
+fn show(n: u64) {
+    io::print_decimal(1, n);
+    io::write_all(1, b" ");
+}
+
+// Writes the first n entries of a row.
+fn show_row(row: &[u32], n: usize)
+    requires { ⌜ n ≤ length (now row) ⌝ }
+{
+    let mut i = 0;
+    while i < n {
+        show(row[i] as u64);
+        i += 1;
+    }
+    io::write_all(1, b"\n");
+}
+
+// Pass 3.
+fn edges(points: &[f64], faces: &mut [u32], n: usize, work: &mut [u32])
+    requires { ⌜ PassAsks (now points) (now faces) n (now work) ⌝ }
+{
+    let r = resolve_nonmanifold_edges::resolve_nonmanifold_edges(points, faces, n, work);
+    show(r.edges as u64);
+    show(r.faces as u64);
+    show_row(faces, 3 * r.faces);
+}
+
+// The second half of pass 4.
+fn collisions(points: &[f64], faces: &mut [u32], n: usize, work: &mut [u32])
+    requires { ⌜ PassAsks (now points) (now faces) n (now work) ⌝ }
+{
+    let r = resolve_directed_collisions::resolve_directed_collisions(points, faces, n, work);
+    show(r as u64);
+    show_row(faces, 3 * r);
+}
+
+// A face that repeats its corners; three faces on one edge, which walk it alike or not; five points at the origin, walked by the first half already.
+fn main() {
+    let legs = [
+        0.0,
+        0.0,
+        0.0,
+        1.0,
+        0.0,
+        0.0,
+        0.0,
+        1.0,
+        0.0,
+        0.0,
+        -1.0,
+        0.0,
+        0.0,
+        0.0,
+        1.0,
+    ];
+    let origin = [0.0; 15];
+    edges(&origin, &mut [0, 0, 0], 1, &mut [7; 600]);
+    collisions(&origin, &mut [0, 0, 0], 1, &mut [7; 600]);
+    edges(&legs, &mut [0, 1, 2, 0, 1, 3, 0, 1, 4], 3, &mut [7; 600]);
+    edges(&legs, &mut [0, 1, 2, 0, 1, 3, 1, 0, 4], 3, &mut [7; 600]);
+    edges(
+        &legs,
+        &mut [0, 1, 2, 0, 1, 3, 1, 0, 4, 0, 1, 0, 9, 9, 9],
+        4,
+        &mut [7; 600],
+    );
+    collisions(&legs, &mut [0, 1, 2, 0, 1, 3, 0, 1, 4], 3, &mut [7; 600]);
+    collisions(&legs, &mut [0, 1, 0, 0, 1, 0, 1, 0, 4], 3, &mut [7; 600]);
+    collisions(
+        &origin,
+        &mut [0, 1, 2, 1, 3, 2, 2, 3, 4, 3, 0, 4, 4, 1, 0],
+        5,
+        &mut [7; 600],
+    );
+}

@@ -1,0 +1,17 @@
+-- `verdict::edge_verdict` meets its contract.
+use Rattle.verdict.proofs.Verdicts.{verdict-is}
+use borrow.Author.Needs.{needs}
+use Rattle.verdict.proofs.edge_verdict.Statement.{statement}
+use Rattle.verdict.proofs.edge_verdict.Tie as tie
+use Rattle.verdict.proofs.edge_verdict.Reads as reads
+use Rattle.verdict.proofs.edge_verdict.Lts as lts
+use Rattle.halves.proofs.decide.Reads as decide-reads
+
+decide-requires : tie.Need-decide-requires
+decide-requires c κs = search needs
+
+returns : tie.Need-returns
+returns c = verdict-is _ _ (c .before .before .pre) (c .decide .result) (c .decide .ensures)
+
+pub edge-verdict-spec : {M : Type 1} → statement M
+edge-verdict-spec = tie.close (tie.spec decide-requires returns)

@@ -1,0 +1,142 @@
+-- The verdict: 7 by the runs, 8 by the rows, or none. Assumes nothing.
+use mathlib.Core.Path.{_≡_, refl, sym, ap, _∙_, subst}
+use mathlib.Core.Bool.{false}
+use mathlib.Core.List.{List, [], _∷_}
+use Prim.Native.Nat.{ℕ, _+_, _*_, _/_, _≤_, _<_}
+use native.Mathlib.Nat.{add-assoc}
+use native.Mathlib.Omega.{arith}
+use lib.ListN.{length, getD}
+use Rattle.rows.specs.Region.{Only, Filled, Apart, Apart.before, Apart.after}
+use Rattle.rows.proofs.Regions.{only-none, only-both, only-more, holds-kept}
+use Rattle.rules.specs.Lists.{count, filter}
+use Rattle.rules.specs.Mesh.{facesOf}
+use Rattle.rules.specs.Refusal.{Check, ok, no, decided}
+use Rattle.rules.specs.Edges.{no7, no8}
+use Rattle.rules.specs.Rooms.{work-room}
+use Rattle.refuse.specs.Accepted.{Faces}
+use Rattle.refuse.specs.Verdicts.{checkOf}
+use Rattle.refuse.specs.declared.Verdict.{Verdict}
+use Rattle.refuse.specs.declared.Verdict.the-variants.{Fine, Refused}
+use Rattle.table.specs.Table.{TableAsks, TableGives}
+use Rattle.table.proofs.Places.{tabled-kept}
+use Rattle.boundary.specs.Rows.{FirstOf, long, uneven, onward, Counted, TraceAsks, TraceGives, BoundaryAsks, BoundaryGives}
+use Rattle.boundary.proofs.Uses.{runs-few, seven-none, seven-found}
+use Rattle.boundary.proofs.Faults.{eight-none, eight-found, next-row}
+
+-- ---- verdicts
+
+-- a refusal is not fine
+refused-not : (n p : ℕ) → Refused n p ≡ Fine → ⊥
+refused-not n p e = subst refused e tt
+  where
+    refused : Verdict → Type 0
+    refused Fine = ⊥
+    refused (Refused n p) = Unit
+
+-- a verdict that finds nothing is fine: where 7 and 8 are known not to be given, the verdict by the table is too
+pub is-fine : (v : Verdict) → checkOf v ≡ ok → v ≡ Fine
+is-fine Fine e = refl
+is-fine (Refused n p) e = absurd (subst found e tt)
+  where
+    found : Check → Type 0
+    found ok = ⊥
+    found (no n p) = Unit
+
+-- ---- rows that say what is so of no edges
+
+-- two rows of zeros, and one of P
+none-counted : {w : List ℕ} {P row : ℕ} → Filled row (2 * P) 0 w → Filled (row + 2 * P) P P w → Counted P row [] w
+unfolding count filter onward
+none-counted {w} {P} {row} z f =
+    record {
+      begins = record { each = λ v l. z .each v (omega arith) };
+      ends = record { each = λ v l. ap (λ k. getD w k 0) (add-assoc row P v) ∙ z .each (P + v) (omega arith) };
+      next = λ v l k. f .each v l;
+    }
+
+-- ---- the call
+
+module _ {w xs : List ℕ} {P at m row : ℕ} (p : BoundaryAsks w xs P at m row) where
+  -- there is one beginning more than runs
+  pub starts-fit : at + 4 * length xs + m + 1 ≤ length w
+  starts-fit = omega (arith, runs-few (p .tabled), p .tabled .asks .fit)
+
+  module _ {r : ℕ} (f : FirstOf (long w (at + 4 * length xs)) m r) where
+    -- 7, and nothing is written
+    pub refused-seven : r < m → BoundaryGives w xs P at m row w (Refused 7 r)
+    unfolding decided
+    refused-seven h =
+        record {
+          only = only-none row (3 * P) w;
+          tabled = p .tabled;
+          says = rw (seven-found (p .tabled) f h);
+          next = λ e. absurd (refused-not 7 r e);
+        }
+
+    module _ {w₁ w₂ : List ℕ} (h : m ≤ r) (o₁ : Only row (2 * P) w w₁) (z : Filled row (2 * P) 0 w₁) (o₂ : Only (row + 2 * P) P w₁ w₂) (g : Filled (row + 2 * P) P P w₂) where
+      -- the rows are written and nothing else
+      both : Only row (3 * P) w w₂
+      both = only-both (only-more (omega arith) (omega arith) o₁) (only-more (omega arith) (omega arith) o₂)
+
+      -- they say what is so of no edges
+      pub trace-asks : TraceAsks w₂ xs P at row
+      trace-asks =
+          record {
+            m = m;
+            points = p .points;
+            tabled = tabled-kept both (p .apart) (p .tabled);
+            fit = omega (arith, p .fit, both .long);
+            apart = p .apart;
+            counted = none-counted (holds-kept o₂ (before (omega arith)) z) g;
+          }
+
+      module _ {w₃ : List ℕ} (t : TraceGives w₂ xs P at row w₃) where
+        -- still only the rows
+        all-only : Only row (3 * P) w w₃
+        all-only = only-both both (t .only)
+
+        -- the rows are there
+        pub rows-fit : row + P + P ≤ length w₃
+        rows-fit = omega (arith, p .fit, all-only .long)
+
+        module _ {v : ℕ} (u : FirstOf (uneven w₃ row (row + P)) P v) where
+          -- 8
+          pub refused-eight : v < P → BoundaryGives w xs P at m row w₃ (Refused 8 v)
+          unfolding decided
+          refused-eight l =
+              record {
+                only = all-only;
+                tabled = tabled-kept all-only (p .apart) (p .tabled);
+                says = rw (seven-none (p .tabled) f h, eight-found xs (t .counted) u l);
+                next = λ e. absurd (refused-not 8 v e);
+              }
+
+          -- or nothing
+          pub fine : P ≤ v → BoundaryGives w xs P at m row w₃ Fine
+          unfolding decided
+          fine l =
+              record {
+                only = all-only;
+                tabled = tabled-kept all-only (p .apart) (p .tabled);
+                says = rw (seven-none (p .tabled) f h, eight-none xs (t .counted) u l);
+                next = λ e. next-row xs (t .counted) u l;
+              }
+
+-- ---- the edge call's work room
+
+module _ {P : ℕ} {xs w : List ℕ} (f : Faces P xs) (room : work-room P (length xs / 3) ≤ length w) where
+  -- the table at 0 is within it
+  pub table-asks : TableAsks w xs P 0
+  unfolding work-room
+  table-asks = record { whole = f .whole; few = omega (arith, f .few); fit = omega (arith, f .whole, room); inside = f .below }
+
+  -- and the rows are, behind the table
+  pub boundary-asks : {w′ : List ℕ} {m : ℕ} → TableGives w xs P false 0 w′ m → BoundaryAsks w′ xs P 0 m (5 * length xs + 1 + P)
+  unfolding work-room
+  boundary-asks g =
+      record {
+        points = omega (arith, f .points);
+        tabled = g .tabled;
+        fit = omega (arith, f .whole, room, g .only .long);
+        apart = before (omega arith);
+      }

@@ -1,0 +1,16 @@
+-- `Scans` has what a scan from the front gives.
+pub mod Scans
+-- `Uses` has how often an edge occurs, by the runs of the table, and refusal 7.
+pub mod Uses
+-- `Adding` has what one more boundary edge makes of the rows.
+pub mod Adding
+-- `Tracing` has the loop over all steps.
+pub mod Tracing
+-- `Faults` has refusal 8 from the rows.
+pub mod Faults
+-- `Onward` has where the boundary goes on, in the words of the rules.
+pub mod Onward
+-- `Zeros` has that a room of zeros, once cleared again, is as it was.
+pub mod Zeros
+-- `Ending` has the verdict.
+pub mod Ending

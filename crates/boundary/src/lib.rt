@@ -1,0 +1,146 @@
+// Refusals 7 and 8 of the edge call from a finished table of the undirected edges, and where the boundary goes on from each vertex.
+//
+// The rows stand in the work room from `row` on, outside the table:
+//
+//     row        P   how many boundary edges begin at each vertex
+//     row + P    P   how many end there
+//     row + 2P   P   where the boundary edge that begins at the vertex ends; P where none begins
+//
+// The work room of the edge call, with n = 3F, within 16P + 64F + 64:
+//
+//     0             5n + 1 + P   the table (crate table)
+//     5n + 1 + P    3P           the rows above
+//     5n + 1 + 4P   ..           free for the walk of the loops
+use refuse::Verdict;
+ghost use mathlib.Core.Path.{_≡_};
+ghost use Prim.Native.Nat.{_+_, _^_, _≤_, _<_};
+ghost use lib.Dec.{eqb};
+ghost use lib.ListN.{length, take};
+ghost use Rattle.rules.specs.Lists.{all};
+ghost use Rattle.rules.specs.Mesh.{facesOf};
+ghost use Rattle.table.specs.Entries.{next, stepAt};
+ghost use Rattle.boundary.specs.Rows.{FirstOf, long, uneven, alone, AloneAsks, AddAsks, AddGives, TraceAsks, TraceGives, BoundaryAsks, BoundaryGives};
+
+// Whether the first n entries are all 0.
+pub fn is_zero(work: &[u32], n: usize) -> bool
+    requires { ⌜ n ≤ length (now work) ⌝ }
+    ensures { λ r. ⌜ r ≡ all (eqb 0) (take n (now (work .entry))) ⌝ }
+{
+    let mut i = 0;
+    while i < n {
+        if work[i] != 0 {
+            return false;
+        }
+        i += 1;
+    }
+    true
+}
+
+// The first of the m runs that has more than two entries, or m: the runs begin where the row `starts` says, which has one entry more.
+fn crowded(work: &[u32], starts: usize, m: usize) -> usize
+    requires { ⌜ starts + m + 1 ≤ length (now work) ⌝ }
+    ensures { λ r. ⌜ FirstOf (long (now (work .entry)) starts) m r ⌝ }
+{
+    let mut i = 0;
+    while i < m {
+        let from = work[starts + i] as usize;
+        let to = work[starts + i + 1] as usize;
+        if from + 2 < to {
+            return i;
+        }
+        i += 1;
+    }
+    m
+}
+
+// Whether the edge of entry i occurs once: its run has one entry.
+fn alone(work: &[u32], faces: &[u32], at: usize, i: usize) -> bool
+    requires { ⌜ AloneAsks (now work) (now faces) at i ⌝ }
+    ensures { λ r. ⌜ r ≡ alone (facesOf (now (faces .entry))) (stepAt (facesOf (now (faces .entry))) i) ⌝ }
+{
+    let n = faces.len();
+    let r = work[at + 2 * n + i] as usize;
+    let from = work[at + 4 * n + r];
+    let to = work[at + 4 * n + r + 1];
+    to - from == 1
+}
+
+// The place of the corner that follows the one at place i of the flat list, in its face.
+fn after(i: usize) -> usize
+    requires { ⌜ i < 2 ^ 32 ⌝ }
+    ensures { λ r. ⌜ r ≡ next i ⌝ }
+{
+    if i % 3 == 2 { i - 2 } else { i + 1 }
+}
+
+// Counts the boundary edge from v to u at both ends, and notes where it ends.
+fn add(work: &mut [u32], count: usize, row: usize, v: usize, u: usize)
+    requires { ⌜ AddAsks (now work) count row v u ⌝ }
+    ensures { λ _. ⌜ AddGives (now (work .entry)) count row v u (now (work .exit)) ⌝ }
+{
+    work[row + v] = work[row + v] + 1;
+    work[row + count + u] = work[row + count + u] + 1;
+    work[row + 2 * count + v] = u as u32;
+}
+
+// Counts all boundary edges: those that occur once, in the direction of their face.
+fn trace(work: &mut [u32], faces: &[u32], count: usize, at: usize, row: usize)
+    requires { ⌜ TraceAsks (now work) (now faces) count at row ⌝ }
+    ensures { λ _. ⌜ TraceGives (now (work .entry)) (now (faces .entry)) count at row (now (work .exit)) ⌝ }
+{
+    let n = faces.len();
+    let mut i = 0;
+    while i < n {
+        if alone(work, faces, at, i) {
+            let j = after(i);
+            add(work, count, row, faces[i] as usize, faces[j] as usize);
+        }
+        i += 1;
+    }
+}
+
+// The lowest vertex that does not begin as many boundary edges as it ends, or more than one; or P.
+fn uneven(work: &[u32], count: usize, row: usize) -> usize
+    requires { ⌜ row + count + count ≤ length (now work) ⌝ }
+    ensures { λ r. ⌜ FirstOf (uneven (now (work .entry)) row (row + count)) count r ⌝ }
+{
+    let mut i = 0;
+    while i < count {
+        let begins = work[row + i];
+        if begins != work[row + count + i] {
+            return i;
+        }
+        if 1 < begins {
+            return i;
+        }
+        i += 1;
+    }
+    count
+}
+
+// 7, else 8, else nothing, from the table at `at` with m runs: 7 at the position of the first edge that occurs more than twice, 8 at the lowest
+// vertex at fault. Where it is nothing, the third row has where the boundary goes on from each vertex.
+pub fn boundary(
+    work: &mut [u32],
+    faces: &[u32],
+    count: usize,
+    at: usize,
+    m: usize,
+    row: usize,
+) -> Verdict
+    requires { ⌜ BoundaryAsks (now work) (now faces) count at m row ⌝ }
+    ensures { λ r. ⌜ BoundaryGives (now (work .entry)) (now (faces .entry)) count at m row (now (work .exit)) r ⌝ }
+{
+    let r = crowded(work, at + 4 * faces.len(), m);
+    if r < m {
+        return Verdict::Refused(7, r);
+    }
+    rows::clear(work, row, 2 * count);
+    rows::fill(work, row + 2 * count, count, count as u32);
+    trace(work, faces, count, at, row);
+    let v = uneven(work, count, row);
+    if v < count {
+        return Verdict::Refused(8, v);
+    }
+    Verdict::Fine
+}

@@ -80,6 +80,7 @@ module _ {w : List ℕ} {P row v u : ℕ} (p : AddAsks w P row v u) where
   pub long₁ : length w₁ ≡ length w
   long₁ = length-set w (row + v) (getD w (row + v) 0 + 1)
 
+  -- also the second
   pub long₂ : length w₂ ≡ length w
   long₂ = length-set w₁ (row + P + u) (getD w₁ (row + P + u) 0 + 1) ∙ long₁
 
@@ -87,9 +88,11 @@ module _ {w : List ℕ} {P row v u : ℕ} (p : AddAsks w P row v u) where
   only₁ : Only row P w w₁
   only₁ = only-set w (row + v) (getD w (row + v) 0 + 1) (omega arith) (omega (arith, p .from))
 
+  -- the second
   only₂ : Only (row + P) P w₁ w₂
   only₂ = only-set w₁ (row + P + u) (getD w₁ (row + P + u) 0 + 1) (omega arith) (omega (arith, p .to))
 
+  -- the third
   only₃ : Only (row + 2 * P) P w₂ w₃
   only₃ = only-set w₂ (row + 2 * P + v) u (omega arith) (omega (arith, p .from))
 

@@ -1,5 +1,4 @@
--- What the scan knows when it goes on from the vertex `at` to v: three cases.
--- Assumes nothing.
+-- What the scan knows when it goes on from the vertex `at` to v: three cases. Assumes nothing.
 use mathlib.Core.Path.{_≡_, refl, sym, ap, _∙_}
 use mathlib.Core.Logic.{⊎-elim}
 use Prim.Native.Nat.{ℕ, _+_, _*_, _≤_, _<_}

@@ -1,9 +1,8 @@
--- The laws of `halves` and `nextOf`.
--- Assumes nothing.
+-- The laws of `halves` and `nextOf`. Assumes nothing.
 use mathlib.Core.Path.{_≡_, refl, sym, ap, subst, _∙_}
 use mathlib.Core.List.{List}
 use Prim.Native.Nat.{ℕ, zero, suc, _+_, _-_, _*_, _/_, _%_, _≤_, _<_, _^_}
-use native.Mathlib.Nat.{mul-add-div-right, div-eq-of-lt, add-zero}
+use native.Mathlib.Nat.{mul-le-mul, mul-add-div-right, div-eq-of-lt, add-zero}
 use native.Mathlib.Omega.{arith}
 use native.Mathlib.Decide.{ℕ-discrete}
 use borrow.Author.Tests.{eq-eqb, ne-eqb}
@@ -13,10 +12,16 @@ use Rattle.halves.specs.Split.{hit, tally}
 use Rattle.halves.specs.Gather.{nextOf, halves}
 use Rattle.halves.proofs.Tallies.{hit-same, hit-other}
 
+-- a bound of a product
+pub bound : (A B : ℕ) {a b : ℕ} → a ≤ A → b ≤ B → a * b ≤ A * B
+bound A B h k = mul-le-mul h k
+
+-- after the last corner of a face comes its first
 pub next-last : (i : ℕ) → i % 3 ≡ 2 → nextOf i ≡ i - 2
 unfolding nextOf
 next-last i e = rw (eq-eqb (i % 3) 2 e)
 
+-- after any other the next
 pub next-more : (i : ℕ) → (i % 3 ≡ 2 → ⊥) → nextOf i ≡ i + 1
 unfolding nextOf
 next-more i e = rw (ne-eqb (i % 3) 2 e)
@@ -29,10 +34,12 @@ next-in f i t h = go (ℕ-discrete (i % 3) 2)
     go (yes e) = omega (arith, next-last i e)
     go (no e) = omega (arith, next-more i e)
 
+-- one more step has two half entries
 pub halves-suc : (f : List ℕ) (P i x : ℕ) → halves f P (suc i) x ≡ halves f P i x + (hit (2 * (getD f i 0 * P + getD f (nextOf i) 0)) x + hit (2 * (getD f (nextOf i) 0 * P + getD f i 0) + 1) x)
 unfolding halves
 halves-suc f P i x = refl
 
+-- no steps have none
 pub halves-zero : (f : List ℕ) (P x : ℕ) → halves f P 0 x ≡ 0
 unfolding halves
 halves-zero f P x = refl
@@ -56,6 +63,7 @@ pair-same P x y z w h k e =
     (f, omega arith)
 
 module _ (P f t v u : ℕ) (hf : f < P) (ht : t < P) (hv : v < P) (hu : u < P) where
+  -- a step is seen from both its ends
   hit-sym : hit (2 * (f * P + t)) (2 * (v * P + u)) ≡ hit (2 * (t * P + f) + 1) (2 * (u * P + v) + 1)
   hit-sym = go (ℕ-discrete f v) (ℕ-discrete t u)
     where

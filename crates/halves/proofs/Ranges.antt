@@ -1,5 +1,4 @@
--- The loop over ranges of keys: its beginning, a buffer that one key fills, a walk, and its end.
--- Assumes nothing.
+-- The loop over ranges of keys: its beginning, a buffer that one key fills, a walk, and its end. Assumes nothing.
 use mathlib.Core.Path.{_≡_, refl, sym, ap, subst, _∙_}
 use mathlib.Core.Bool.{Bool, true, false}
 use mathlib.Core.List.{List}
@@ -33,46 +32,46 @@ tally-two a s (suc n) k h = go (ℕ-discrete (getD a (s + n) 0) (2 * k)) (tally-
         let o : getD a (s + n) 0 ≡ 2 * k + 1 = omega arith in
         omega (arith, tally-suc a s n (2 * k), tally-suc a s n (2 * k + 1), ap (λ (z : ℕ). hit z (2 * k + 1)) o, hit-same (2 * k + 1), hit-other (getD a (s + n) 0) (2 * k) e)
 
+-- where there is a key there are points
 pub points : (P k : ℕ) → k < P * P → 0 < P
 points zero k h = omega arith
 points (suc P) k h = omega arith
 
 -- a key from a pair
 module _ (P v u : ℕ) (h : u < P) where
-  key-div : (v * P + u) / P ≡ v
+  -- its vertex
+  pub key-div : (v * P + u) / P ≡ v
   key-div =
       let p : 0 < P = omega arith in
       omega (arith, mul-add-div-right p v u, div-eq-of-lt h)
 
-  key-mod : (v * P + u) % P ≡ u
+  -- its other end
+  pub key-mod : (v * P + u) % P ≡ u
   key-mod = mul-add-mod-self-right v P u ∙ mod-eq-of-lt h
 
 -- a key with more than four half entries is crowded, and so is the same edge seen from its other end
 module _ {f : List ℕ} {P k : ℕ} (q : Faces P f) (b : k < P * P) (calm : Calm (halves f P (length f)) P k) (many : 4 < halves f P (length f) (2 * k) + halves f P (length f) (2 * k + 1)) where
-  c : ℕ → ℕ
-  c = halves f P (length f)
-
-  v : ℕ
-  v = k / P
-
-  u : ℕ
-  u = k % P
-
+  -- both ends of a key are points
   u-in : k % P < P
   u-in = mod-lt k (points P k b)
 
+  -- the vertex too
   v-in : k / P < P
   v-in = (div-lt-iff-lt-mul (points P k b)) .1 b
 
+  -- and make up the key
   key : k / P * P + k % P ≡ k
   key = div-add-mod' k P
 
+  -- the steps one way, from both ends
   sym₁ : halves f P (length f) (2 * k) ≡ halves f P (length f) (2 * (k % P * P + k / P) + 1)
   sym₁ = rw key at (halves-sym f P q (length f) (k / P) (k % P) (omega arith) v-in u-in)
 
+  -- the steps the other way
   sym₂ : halves f P (length f) (2 * (k % P * P + k / P)) ≡ halves f P (length f) (2 * k + 1)
   sym₂ = rw key at (halves-sym f P q (length f) (k % P) (k / P) (omega arith) u-in v-in)
 
+  -- from its lower end it has more than two users
   pub lower-many : k / P ≤ k % P → 2 < usersAt (halves f P (length f)) P k
   lower-many l = go (ℕ-discrete (k / P) (k % P))
     where
@@ -86,6 +85,7 @@ module _ {f : List ℕ} {P k : ℕ} (q : Faces P f) (b : k < P * P) (calm : Calm
           let w : halves f P (length f) (2 * k) ≡ halves f P (length f) (2 * k + 1) = sym₁ ∙ ap (λ (x : ℕ). halves f P (length f) (2 * x + 1)) z in
           omega (arith, s, users-same (k / P) (k % P) (halves f P (length f) (2 * k) + halves f P (length f) (2 * k + 1)) (halves f P (length f) (2 * k)) e)
 
+  -- from its higher end it would have been crowded before
   not-upper : k % P < k / P → ⊥
   not-upper l =
       let m : ℕ = k % P * P + k / P in
@@ -100,6 +100,7 @@ module _ {f : List ℕ} {P k : ℕ} (q : Faces P f) (b : k < P * P) (calm : Calm
       let o = users-other ((k % P * P + k / P) / P) ((k % P * P + k / P) % P) (halves f P (length f) (2 * (k % P * P + k / P)) + halves f P (length f) (2 * (k % P * P + k / P) + 1)) (halves f P (length f) (2 * (k % P * P + k / P))) (λ x. omega arith) in
       omega (arith, sym₁, sym₂)
 
+  -- so this is its lower end
   pub is-lower : k / P ≤ k % P
   is-lower = go (decLt (k % P) (k / P))
     where
@@ -125,6 +126,7 @@ upto-none c P =
       unfair = λ h. absurd (omega arith);
     }
 
+-- the keys before `from` are passed, and none was crowded
 pub record Going (f : List ℕ) (P : ℕ) (a₀ : List ℕ) (size : ℕ) (a : List ℕ) (from : ℕ) (t : State) : Type 0 where
   pub size-is : size ≡ length a₀
   pub long : length a ≡ length a₀
@@ -133,11 +135,13 @@ pub record Going (f : List ℕ) (P : ℕ) (a₀ : List ℕ) (size : ℕ) (a : Li
   pub small : Small from t
   pub upto : Upto (halves f P (length f)) P from (t .unique) (t .at) (t .begins) (t .ends) (t .bad)
 
+-- before the first
 pub begin : {f : List ℕ} {P : ℕ} {a : List ℕ} → RoundsAsks f P a → Going f P a (length a) a 0 (record { unique = 0; crowd = false; at = 0; begins = 0; ends = 0; bad = P })
 begin {f} {P} p =
     record { size-is = refl; long = refl; within = omega arith; going = refl; small = record { unique = omega arith; begins = omega arith; ends = omega arith }; upto = upto-none (halves f P (length f)) P }
 
 module _ {f : List ℕ} {P : ℕ} {a₀ : List ℕ} {size : ℕ} {a : List ℕ} {from : ℕ} {t : State} (p : RoundsAsks f P a₀) (w : Going f P a₀ size a from t) where
+  -- after the last
   pub done : P * P ≤ from → Told (halves f P (length f)) P (P * P) t
   done h =
       let l = w .within in
@@ -145,10 +149,12 @@ module _ {f : List ℕ} {P : ℕ} {a₀ : List ℕ} {size : ℕ} {a : List ℕ} 
       record { going = λ z. rw e at (w .upto); met = λ z. absurd (subst T (sym z ∙ w .going) tt) }
 
   module _ (h : from < P * P) where
+    -- the half entries of the next keys are gathered
     pub gather-asks : GatherAsks f P from (P * P) a
     gather-asks = let l = w .long in let r = p .room in record { faces = p .faces; above = h; room = omega arith }
 
     module _ {a₁ : List ℕ} {n to : ℕ} (g : GatherGives f P from (P * P) a a₁ n to) where
+      -- one key fills the buffer: its edge is crowded
       pub full : n ≡ size → Told (halves f P (length f)) P (P * P) (record { unique = t .unique; crowd = true; at = 0; begins = 0; ends = 0; bad = P })
       full e =
           let l = w .long in
@@ -166,9 +172,11 @@ module _ {f : List ℕ} {P : ℕ} {a₀ : List ℕ} {size : ℕ} {a : List ℕ} 
           }
 
       module _ (ne : n ≡ size → ⊥) where
+        -- else all of them are there
         less : n < length a
         less = let l = w .long in let s = w .size-is in let f₁ = g .holding .fewer in omega arith
 
+        -- and walked through
         pub walk-asks : WalkAsks a₁ 0 n from to P t
         walk-asks =
             let l = g .holding .long in
@@ -177,12 +185,15 @@ module _ {f : List ℕ} {P : ℕ} {a₀ : List ℕ} {size : ℕ} {a : List ℕ} 
             record { fit = omega arith; points = points P from h; top = g .holding .within; order = omega arith; inside = g .holding .inside; small = w .small }
 
         module _ {a₂ : List ℕ} {r : State} (k : WalkGives a₁ 0 n from to P t a₂ r) where
+          -- the keys before `to` are passed
           told : Told (halves f P (length f)) P to r
           told = k .told (halves f P (length f)) (g .counts less) (record { going = λ z. w .upto; met = λ z. absurd (subst T (sym z ∙ w .going) tt) })
 
+          -- a crowded edge ends the loop
           pub crowd : r .crowd ≡ true → Told (halves f P (length f)) P (P * P) r
           crowd e = record { going = λ z. absurd (subst T (sym e ∙ z) tt); met = told .met }
 
+          -- else it goes on
           pub again : r .crowd ≡ false → Going f P a₀ size a₂ to r
           again e =
               record {

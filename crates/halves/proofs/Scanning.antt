@@ -1,7 +1,6 @@
--- What the scan knows when it passes a key: one with half entries, one with none, and many with none.
--- Assumes nothing.
+-- What the scan knows when it passes a key: one with half entries, one with none, and many with none. Assumes nothing.
 use mathlib.Core.Path.{_≡_, refl, sym, ap, subst, _∙_}
-use mathlib.Core.Bool.{Bool, true, false, cond, _&&_}
+use mathlib.Core.Bool.{Bool, true, false, cond, _&&_, and-true, and-false}
 use Prim.Native.Nat.{ℕ, zero, suc, _+_, _-_, _*_, _/_, _%_, _≤_, _<_}
 use native.Mathlib.Nat.{add-suc, add-zero}
 use native.Mathlib.Omega.{arith}
@@ -12,31 +11,28 @@ use lib.Dec.{eqb, leb, ltb}
 use Rattle.halves.specs.Scan.{one, usersOf, outOf, intoOf, usersAt, edgeAt, edgesTo, beginsTo, endsTo, Fair, Calm, Upto, Crowded}
 use Rattle.halves.proofs.Weights.{users-same, users-other, out-one, out-none, into-none, one-false, crowds-not, crowds-lower, crowds-many}
 
-and-true : (x : Bool) → (x && true) ≡ x
-and-true true = refl
-and-true false = refl
-
-and-false : (x : Bool) → (x && false) ≡ false
-and-false true = refl
-and-false false = refl
-
 module _ (c : ℕ → ℕ) (P k : ℕ) where
+  -- one more key
   edges-suc : edgesTo c P (suc k) ≡ edgesTo c P k + edgeAt c P k
   unfolding edgesTo
   edges-suc = refl
 
+  -- it is an edge where it has half entries and is written from its lower end
   edge-some : 0 < c (2 * k) + c (2 * k + 1) → edgeAt c P k ≡ one (leb (k / P) (k % P))
   unfolding edgeAt
   edge-some h = rw (lt-ltb 0 (c (2 * k) + c (2 * k + 1)) h, and-true (leb (k / P) (k % P)))
 
+  -- and none where it has no half entry
   edge-none : c (2 * k) + c (2 * k + 1) ≡ 0 → edgeAt c P k ≡ 0
   unfolding edgeAt
   edge-none h = rw (le-ltb 0 (c (2 * k) + c (2 * k + 1)) (omega arith), and-false (leb (k / P) (k % P))) one-false
 
+  -- the users of its edge
   pub users-at : (n b : ℕ) → b ≡ c (2 * k) → n ≡ b + c (2 * k + 1) → usersAt c P k ≡ usersOf (k / P) (k % P) n b
   unfolding usersAt
   users-at n b e f = rw (f, e)
 
+  -- there are none without half entries
   users-none : c (2 * k) ≡ 0 → c (2 * k + 1) ≡ 0 → usersAt c P k ≡ 0
   users-none e f = users-at 0 0 (sym e) (omega arith) ∙ go (ℕ-discrete (k / P) (k % P))
     where
@@ -44,22 +40,27 @@ module _ (c : ℕ → ℕ) (P k : ℕ) where
       go (yes x) = users-same (k / P) (k % P) 0 0 x
       go (no x) = users-other (k / P) (k % P) 0 0 x
 
+  -- what the key adds at its own vertex
   begins-same : (v : ℕ) → k / P ≡ v → beginsTo c P (suc k) v ≡ beginsTo c P k v + outOf (usersAt c P k) (c (2 * k))
   unfolding beginsTo
   begins-same v e = rw (eq-eqb (k / P) v e)
 
+  -- and at others
   begins-other : (v : ℕ) → (k / P ≡ v → ⊥) → beginsTo c P (suc k) v ≡ beginsTo c P k v
   unfolding beginsTo
   begins-other v e = rw (ne-eqb (k / P) v e) (omega arith)
 
+  -- the same of what ends there
   ends-same : (v : ℕ) → k / P ≡ v → endsTo c P (suc k) v ≡ endsTo c P k v + intoOf (k / P) (k % P) (usersAt c P k) (c (2 * k + 1))
   unfolding endsTo
   ends-same v e = rw (eq-eqb (k / P) v e)
 
+  -- and elsewhere
   ends-other : (v : ℕ) → (k / P ≡ v → ⊥) → endsTo c P (suc k) v ≡ endsTo c P k v
   unfolding endsTo
   ends-other v e = rw (ne-eqb (k / P) v e) (omega arith)
 
+  -- a key with no half entry adds nothing
   begins-none : c (2 * k) ≡ 0 → c (2 * k + 1) ≡ 0 → (v : ℕ) → beginsTo c P (suc k) v ≡ beginsTo c P k v
   begins-none e f v = go (ℕ-discrete (k / P) v)
     where
@@ -67,6 +68,7 @@ module _ (c : ℕ → ℕ) (P k : ℕ) where
       go (yes x) = let u = users-none e f in omega (arith, begins-same v x, out-none (usersAt c P k) (c (2 * k)) (omega arith))
       go (no x) = begins-other v x
 
+  -- of either kind
   ends-none : c (2 * k) ≡ 0 → c (2 * k + 1) ≡ 0 → (v : ℕ) → endsTo c P (suc k) v ≡ endsTo c P k v
   ends-none e f v = go (ℕ-discrete (k / P) v)
     where
@@ -74,6 +76,7 @@ module _ (c : ℕ → ℕ) (P k : ℕ) where
       go (yes x) = let u = users-none e f in omega (arith, ends-same v x, into-none (k / P) (k % P) (usersAt c P k) (c (2 * k + 1)) (omega arith))
       go (no x) = ends-other v x
 
+  -- one more key that is not crowded
   calm-suc : Calm c P k → (k / P ≤ k % P → usersAt c P k ≤ 2) → Calm c P (suc k)
   calm-suc t h = record { few = λ j l q. go j l q (ℕ-discrete j k) }
     where
@@ -104,6 +107,7 @@ module _ {c : ℕ → ℕ} {P k unique at begins ends bad : ℕ} (t : Upto c P k
 
   -- a key with n half entries, of which b are even
   module _ {n b : ℕ} (even : b ≡ c (2 * k)) (odd : n ≡ b + c (2 * k + 1)) (some : 0 < n) (here : at ≡ k / P) where
+    -- it is not crowded
     pub pass : (leb (k / P) (k % P) && ltb 2 (usersOf (k / P) (k % P) n b)) ≡ false → Upto c P (suc k) (unique + one (leb (k / P) (k % P))) at (begins + outOf (usersOf (k / P) (k % P) n b) b) (ends + intoOf (k / P) (k % P) (usersOf (k / P) (k % P) n b) (n - b)) bad
     pass e =
         let u = users-at c P k n b even odd in
@@ -125,6 +129,7 @@ module _ {c : ℕ → ℕ} {P k unique at begins ends bad : ℕ} (t : Upto c P k
               (q, λ g. t .unfair h .1 (rw (begins-other c P k bad (λ x. omega arith), ends-other c P k bad (λ x. omega arith)) at g));
         }
 
+    -- it is
     pub meet : k < P * P → (leb (k / P) (k % P) && ltb 2 (usersOf (k / P) (k % P) n b)) ≡ true → Crowded c P unique
     meet w e =
         record {

@@ -1,5 +1,4 @@
--- The walk over one buffer of half entries: where it stops, where all keys are one, and where it goes through two halves.
--- Assumes nothing.
+-- The walk over one buffer of half entries: where it stops, where all keys are one, and where it goes through two halves. Assumes nothing.
 use mathlib.Core.Path.{_≡_, refl, sym, ap, subst, _∙_}
 use mathlib.Core.Bool.{Bool, true, false}
 use mathlib.Core.List.{List}
@@ -24,9 +23,11 @@ blank from to l h t =
     let e : from + (to - from) ≡ to = omega arith in
     rw e at (pass-many (to - from) t (λ j p q. h j p (omega arith)))
 
+-- whether or not a crowded edge was met
 blank-told : {c : ℕ → ℕ} {P : ℕ} {t : State} (from to : ℕ) → from ≤ to → ((j : ℕ) → from ≤ j → j < to → (c (2 * j) ≡ 0) × (c (2 * j + 1) ≡ 0)) → Told c P from t → Told c P to t
 blank-told from to l h w = record { going = λ z. blank from to l h (w .going z); met = w .met }
 
+-- a bound may be larger
 small-more : {t : State} {k l : ℕ} → k ≤ l → Small k t → Small l t
 small-more h s = record { unique = omega (arith, s .unique); begins = omega (arith, s .begins); ends = omega (arith, s .ends) }
 
@@ -49,6 +50,7 @@ inside-same a b s n from to e p = record { low = λ i h. low i h (decLt (getD b 
 
 -- what stands in the first and the second part after a split
 module _ {a : List ℕ} {s n mid : ℕ} {a₁ : List ℕ} {m : ℕ} (g : SplitGives a s n mid a₁ m) where
+  -- below the middle
   pub split-first : (x : ℕ) → x / 2 < mid → tally a₁ s m x ≡ tally a s n x
   split-first x k =
       let fw = g .fewer in
@@ -56,6 +58,7 @@ module _ {a : List ℕ} {s n mid : ℕ} {a₁ : List ℕ} {m : ℕ} (g : SplitGi
       let z = tally-none a₁ (s + m) (n - m) x (λ i j w. let y = g .high (m + i) (omega arith) (omega arith) in let u = ap (λ (v : ℕ). v / 2) (ap (λ (v : ℕ). getD a₁ v 0) (sym (add-assoc s m i)) ∙ w) in omega arith) in
       omega (arith, tally-add a₁ s m (n - m) x, ap (λ (v : ℕ). tally a₁ s v x) e, g .same x)
 
+  -- from the middle on
   pub split-second : (x : ℕ) → mid ≤ x / 2 → tally a₁ (s + m) (n - m) x ≡ tally a s n x
   split-second x k =
       let fw = g .fewer in
@@ -64,6 +67,7 @@ module _ {a : List ℕ} {s n mid : ℕ} {a₁ : List ℕ} {m : ℕ} (g : SplitGi
       omega (arith, tally-add a₁ s m (n - m) x, ap (λ (v : ℕ). tally a₁ s v x) e, g .same x)
 
 module _ {a : List ℕ} {s n from to P : ℕ} {t : State} (p : WalkAsks a s n from to P t) where
+  -- a crowded edge was met
   pub stop : t .crowd ≡ true → WalkGives a s n from to P t a t
   stop e =
       record {
@@ -72,6 +76,7 @@ module _ {a : List ℕ} {s n from to P : ℕ} {t : State} (p : WalkAsks a s n fr
         told = λ c q w. record { going = λ z. absurd (subst T (sym e ∙ z) tt); met = w .met };
       }
 
+  -- there is no half entry
   pub empty : n ≡ 0 → WalkGives a s n from to P t a t
   empty e =
       record {
@@ -84,25 +89,31 @@ module _ {a : List ℕ} {s n from to P : ℕ} {t : State} (p : WalkAsks a s n fr
       none c q x l r = sym (q .each x l r) ∙ ap (λ (z : ℕ). tally a s z x) e ∙ tally-zero a s x
 
   module _ {low high : ℕ} (f : (n ≡ 0) → ⊥) (q : SpanGives a s n low high) where
+    -- the least key is in the range
     pub low-in : from ≤ low
     low-in = q .low-at from (p .inside .low)
 
+    -- so is the greatest
     pub high-in : high < to
     high-in = q .high-at to (p .inside .high)
 
+    -- which is not below it
     pub low-high : low ≤ high
     low-high = let x = q .each-low 0 (omega arith) in let y = q .each-high 0 (omega arith) in omega arith
 
     module _ (e : low ≡ high) {b : ℕ} (v : EvensGives a s n b) where
+      -- where they are one, it is the key of all
       each : (i : ℕ) → i < n → getD a (s + i) 0 / 2 ≡ low
       each i h = let x = q .each-low i h in let y = q .each-high i h in omega arith
 
+      -- it is taken in
       pub visit-asks : to < 2 ^ 64 → t .crowd ≡ false → VisitAsks P low n b t
       visit-asks h g =
           let x = high-in in
           let y = p .top in
           record { points = p .points; below = omega arith; fits = omega arith; fewer = v .fewer; going = g; small = small-more low-in (p .small) }
 
+      -- and the other keys have no half entry
       pub leaf : {r : State} → VisitGives P low n b t r → WalkGives a s n from to P t a r
       leaf {r} g =
           let x = high-in in
@@ -124,19 +135,24 @@ module _ {a : List ℕ} {s n from to P : ℕ} {t : State} (p : WalkAsks a s n fr
     pub mid-above : low < low + (high - low) / 2 + 1
     mid-above = omega arith
 
+    -- it is not above the higher one
     pub mid-within : (low ≡ high → ⊥) → low + (high - low) / 2 + 1 ≤ high
     mid-within e = omega (arith, low-high)
 
+    -- the range below it is smaller
     pub left-falls : (low ≡ high → ⊥) → low + (high - low) / 2 + 1 - from < to - from
     left-falls e = omega (arith, mid-within e, high-in, low-in)
 
+    -- so is the range from it on
     pub right-falls : (low ≡ high → ⊥) → to - (low + (high - low) / 2 + 1) < to - from
     right-falls e = omega (arith, mid-within e, high-in, low-in)
 
     module _ {mid : ℕ} (l : low < mid) (h : mid ≤ high) {a₁ : List ℕ} {m : ℕ} (g : SplitGives a s n mid a₁ m) where
+      -- all are in the range after the split
       inside₁ : Inside a₁ s n from to
       inside₁ = inside-same a a₁ s n from to (g .same) (p .inside)
 
+      -- the lower part is walked
       pub left-asks : WalkAsks a₁ s m from mid P t
       left-asks =
           let x = high-in in
@@ -155,9 +171,11 @@ module _ {a : List ℕ} {s n from to P : ℕ} {t : State} (p : WalkAsks a s n fr
           }
 
       module _ {a₂ : List ℕ} {t₁ : State} (w₁ : WalkGives a₁ s m from mid P t a₂ t₁) where
+        -- the upper part stands still
         at₂ : (i : ℕ) → i < n - m → getD a₂ (s + m + i) 0 ≡ getD a₁ (s + (m + i)) 0
         at₂ i k = kept-at (w₁ .only) {b = s + m} {m = n - m} (after (omega arith)) i k ∙ ap (λ (v : ℕ). getD a₁ v 0) (add-assoc s m i)
 
+        -- then it is walked
         pub right-asks : WalkAsks a₂ (s + m) (n - m) mid to P t₁
         right-asks =
             let x = high-in in
@@ -174,6 +192,7 @@ module _ {a : List ℕ} {s n from to P : ℕ} {t : State} (p : WalkAsks a s n fr
               small = w₁ .small;
             }
 
+        -- both parts are
         pub both : {a₃ : List ℕ} {r : State} → WalkGives a₂ (s + m) (n - m) mid to P t₁ a₃ r → WalkGives a s n from to P t a₃ r
         both w₂ =
             let x = high-in in

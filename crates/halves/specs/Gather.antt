@@ -32,14 +32,17 @@ pub record Holding (size from top : ℕ) (a : List ℕ) (n to : ℕ) : Type 0 wh
   pub inside : Inside a 0 n from to
   pub full : n ≡ size → to ≡ from + 1
 
+-- a full buffer
 pub record ShrinkAsks (a : List ℕ) (from to : ℕ) : Type 0 where
   pub above : from < to
   pub inside : Inside a 0 (length a) from to
 
+-- it holds the entries of a smaller range, all of them, or those of one key
 pub record ShrinkGives (a : List ℕ) (from to : ℕ) (a′ : List ℕ) (n′ to′ : ℕ) : Type 0 where
   pub holding : Holding (length a) from to a′ n′ to′
   pub counts : (g : ℕ → ℕ) → Counts g a 0 (length a) from to → Counts g a′ 0 n′ from to′
 
+-- a half entry, and room for one
 pub record PutAsks (a : List ℕ) (n from to k d : ℕ) : Type 0 where
   pub room : n < length a
   pub above : from < to
@@ -47,10 +50,12 @@ pub record PutAsks (a : List ℕ) (n from to k d : ℕ) : Type 0 where
   pub bit : d ≤ 1
   pub fits : 2 * k + 1 < 2 ^ 64
 
+-- it is counted if it is in the range
 pub record PutGives (a : List ℕ) (n from to k d : ℕ) (a′ : List ℕ) (n′ to′ : ℕ) : Type 0 where
   pub holding : Holding (length a) from to a′ n′ to′
   pub counts : (g : ℕ → ℕ) → Counts g a 0 n from to → Counts (λ x. g x + hit (2 * k + d) x) a′ 0 n′ from to′
 
+-- a step, and room for one half entry
 pub record BothAsks (a : List ℕ) (n from to P v u : ℕ) : Type 0 where
   pub room : n < length a
   pub above : from < to
@@ -58,21 +63,25 @@ pub record BothAsks (a : List ℕ) (n from to P v u : ℕ) : Type 0 where
   pub fits : 2 * (v * P + u) + 1 < 2 ^ 64
   pub fits′ : 2 * (u * P + v) + 1 < 2 ^ 64
 
+-- both its half entries are counted, unless one key fills the buffer
 pub record BothGives (a : List ℕ) (n from to P v u : ℕ) (a′ : List ℕ) (n′ to′ : ℕ) : Type 0 where
   pub holding : Holding (length a) from to a′ n′ to′
   pub counts : n′ < length a → (g : ℕ → ℕ) → Counts g a 0 n from to → Counts (λ x. g x + (hit (2 * (v * P + u)) x + hit (2 * (u * P + v) + 1) x)) a′ 0 n′ from to′
   pub most : (g : ℕ → ℕ) → Counts g a 0 n from to → AtMost (λ x. g x + (hit (2 * (v * P + u)) x + hit (2 * (u * P + v) + 1) x)) a′ n′ from to′
 
+-- faces, a range that is not empty, and more room than two users of an edge have half entries
 pub record GatherAsks (f : List ℕ) (P from top : ℕ) (a : List ℕ) : Type 0 where
   pub faces : Faces P f
   pub above : from < top
   pub room : 4 < length a
 
+-- all half entries of a range are in the buffer, or one key fills it
 pub record GatherGives (f : List ℕ) (P from top : ℕ) (a a′ : List ℕ) (n to : ℕ) : Type 0 where
   pub holding : Holding (length a) from top a′ n to
   pub counts : n < length a → Counts (halves f P (length f)) a′ 0 n from to
   pub most : AtMost (halves f P (length f)) a′ n from to
 
+-- faces and such a buffer
 pub record RoundsAsks (f : List ℕ) (P : ℕ) (a : List ℕ) : Type 0 where
   pub faces : Faces P f
   pub room : 4 < length a

@@ -17,10 +17,12 @@ usersOf v u n b = cond (eqb v u) b n
 unfoldable pub outOf : ℕ → ℕ → ℕ
 outOf n b = cond (eqb n 1) b 0
 
+-- the same of what it ends: a boundary edge from a vertex to itself ends there too
 unfoldable pub intoOf : ℕ → ℕ → ℕ → ℕ → ℕ
 intoOf v u n e = cond (eqb n 1) (cond (eqb v u) 1 e) 0
 
 module _ (c : ℕ → ℕ) (P : ℕ) where
+  -- the users of the edge of key k
   unfoldable pub usersAt : ℕ → ℕ
   usersAt k = usersOf (k / P) (k % P) (c (2 * k) + c (2 * k + 1)) (c (2 * k))
 
@@ -38,10 +40,12 @@ module _ (c : ℕ → ℕ) (P : ℕ) where
   beginsTo zero v = 0
   beginsTo (suc k) v = beginsTo k v + cond (eqb (k / P) v) (outOf (usersAt k) (c (2 * k))) 0
 
+  -- how many end there
   unfoldable pub endsTo : ℕ → ℕ → ℕ
   endsTo zero v = 0
   endsTo (suc k) v = endsTo k v + cond (eqb (k / P) v) (intoOf (k / P) (k % P) (usersAt k) (c (2 * k + 1))) 0
 
+-- as many begin as end, and that is 0 or 1
 pub record Fair (b e : ℕ) : Type 0 where
   pub even : b ≡ e
   pub once : b ≤ 1
@@ -93,6 +97,7 @@ pub record CloseGives (P v : ℕ) (t r : State) : Type 0 where
   pub ends : r .ends ≤ t .ends
   pub upto : (c : ℕ → ℕ) (k : ℕ) → v * P ≤ k → v ≤ P → t .at ≤ v → Upto c P k (t .unique) (t .at) (t .begins) (t .ends) (t .bad) → Upto c P k (r .unique) (r .at) (r .begins) (r .ends) (r .bad)
 
+-- a key with n half entries, b of them even; no crowded edge so far
 pub record VisitAsks (P k n b : ℕ) (t : State) : Type 0 where
   pub points : 0 < P
   pub below : k < P * P
@@ -101,6 +106,7 @@ pub record VisitAsks (P k n b : ℕ) (t : State) : Type 0 where
   pub going : t .crowd ≡ false
   pub small : Small k t
 
+-- the key is passed
 pub record VisitGives (P k n b : ℕ) (t r : State) : Type 0 where
   pub small : Small (k + 1) r
   pub told : (c : ℕ → ℕ) → b ≡ c (2 * k) → n ≡ b + c (2 * k + 1) → 0 < n → Told c P k t → Told c P (k + 1) r

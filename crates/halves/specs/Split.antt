@@ -17,6 +17,7 @@ unfoldable pub tally : List ℕ → ℕ → ℕ → ℕ → ℕ
 tally a s zero x = 0
 tally a s (suc n) x = tally a s n x + hit (getD a (s + n) 0) x
 
+-- those below mid stand first, and each value as often as before
 pub record SplitGives (a : List ℕ) (s n mid : ℕ) (a′ : List ℕ) (m : ℕ) : Type 0 where
   pub only : Only s n a a′
   pub fewer : m ≤ n

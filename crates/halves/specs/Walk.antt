@@ -17,6 +17,7 @@ pub record Inside (a : List ℕ) (s n from to : ℕ) : Type 0 where
   pub low : (i : ℕ) → i < n → from ≤ getD a (s + i) 0 / 2
   pub high : (i : ℕ) → i < n → getD a (s + i) 0 / 2 < to
 
+-- a region of half entries in the range from `from` up to `to`
 pub record WalkAsks (a : List ℕ) (s n from to P : ℕ) (t : State) : Type 0 where
   pub fit : s + n ≤ length a
   pub points : 0 < P
@@ -25,6 +26,7 @@ pub record WalkAsks (a : List ℕ) (s n from to P : ℕ) (t : State) : Type 0 wh
   pub inside : Inside a s n from to
   pub small : Small from t
 
+-- the keys of the range are passed
 pub record WalkGives (a : List ℕ) (s n from to P : ℕ) (t : State) (a′ : List ℕ) (r : State) : Type 0 where
   pub only : Only s n a a′
   pub small : Small to r

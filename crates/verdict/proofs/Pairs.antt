@@ -2,12 +2,13 @@
 use mathlib.Core.Path.{_≡_, refl, sym, _∙_}
 use mathlib.Core.List.{List, [], _∷_, _++_, map, append-assoc, append-nil, map-append, map-map}
 use Prim.Native.Nat.{ℕ, zero, suc, _+_, _*_, _/_, _%_, _<_}
-use native.Mathlib.Nat.{add-suc, add-zero, mul-add-div-right, div-eq-of-lt, mul-add-mod-self-right, mod-eq-of-lt}
+use native.Mathlib.Nat.{add-suc, add-zero}
 use native.Mathlib.Omega.{arith}
 use Rattle.rules.specs.Lists.{below, each}
 use Rattle.rules.specs.Steps.{Step, step, pairs}
 use Rattle.rules.proofs.Lists.{each-append}
 use Rattle.rules.proofs.Rising.{all-imp, below-all, map-same}
+use Rattle.halves.proofs.Ranges.{key-div, key-mod}
 
 -- the pair of a key
 abbrev pub pair : ℕ → ℕ → Step
@@ -21,11 +22,7 @@ below-add a (suc m) = rw (add-suc a m, below-add a m, map-append (λ y. a + y) (
 
 -- the key of a pair has that pair
 pair-key : (P n y : ℕ) → y < P → pair P (n * P + y) ≡ step n y
-pair-key P n y h =
-    let p : 0 < P = omega arith in
-    let d : (n * P + y) / P ≡ n = omega (arith, mul-add-div-right p n y, div-eq-of-lt h) in
-    let m : (n * P + y) % P ≡ y = mul-add-mod-self-right n P y ∙ mod-eq-of-lt h in
-    cc (d, m)
+pair-key P n y h = cc (key-div P n y h, key-mod P n y h)
 
 -- the pairs with first points below n
 rows-keys : (P n : ℕ) → each (λ x. map (λ y. step x y) (below P)) (below n) ≡ map (pair P) (below (n * P))

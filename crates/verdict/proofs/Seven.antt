@@ -1,5 +1,4 @@
--- The rules' refusal 7 from what the scan knows.
--- Assumes nothing.
+-- The rules' refusal 7 from what the scan knows. Assumes nothing.
 use mathlib.Core.Path.{_≡_, refl, sym, ap, _∙_, subst}
 use mathlib.Core.Logic.{⊎-elim}
 use mathlib.Core.Bool.{Bool, true, false, not, _&&_, _||_, cond}
@@ -54,16 +53,19 @@ any-count p (x ∷ xs) = go (p x) refl (any-count p xs)
         rw e (r ∙ ap (λ (n : ℕ). ltb 0 n) z)
 
 module _ {A B : Type 0} (g : B → Bool) (h : A → B) where
+  -- the first of changed elements
   first-map : (xs : List A) → first g (map h xs) ≡ first (λ x. g (h x)) xs
   unfolding first
   first-map [] = refl
   first-map (x ∷ xs) = rw (first-map xs)
 
+  -- all of them
   all-map : (xs : List A) → all g (map h xs) ≡ all (λ x. g (h x)) xs
   unfolding all
   all-map [] = refl
   all-map (x ∷ xs) = rw (all-map xs)
 
+-- the first fault among them
 at-first-map : {A B : Type 0} (n : ℕ) (g : B → Bool) (h : A → B) (xs : List A) → at-first n g (map h xs) ≡ at-first n (λ x. g (h x)) xs
 unfolding at-first
 at-first-map n g h xs = rw (first-map g h xs, all-map (λ x. not (g x)) h xs)
@@ -75,27 +77,30 @@ upper-none fs v u h = users-count fs (step v u) ∙ count-zero (λ s. same (step
 
 module _ (f : List ℕ) (P : ℕ) (q : Faces P f) where
   module _ (k : ℕ) (b : k < P * P) where
+    -- both ends of a key are points
     pub u-in : k % P < P
     u-in = mod-lt k (points P k b)
 
+    -- the vertex too
     pub v-in : k / P < P
     v-in = (div-lt-iff-lt-mul (points P k b)) .1 b
 
+    -- and make up the key
     pub key : k / P * P + k % P ≡ k
     key = div-add-mod' k P
 
+    -- the even half entries of a key are the steps from its vertex to the other end
     pub even-is : halves f P (length f) (2 * k) ≡ count (same (step (k / P) (k % P))) (each steps (facesOf f))
     even-is = ap (λ (z : ℕ). halves f P (length f) (2 * z)) (sym key) ∙ halves-count P (k / P) (k % P) v-in u-in f q
 
+    -- the odd ones are those back
     pub odd-is : halves f P (length f) (2 * k + 1) ≡ count (same (step (k % P) (k / P))) (each steps (facesOf f))
     odd-is =
         ap (λ (z : ℕ). halves f P (length f) (2 * z + 1)) (sym key)
         ∙ sym (halves-sym f P q (length f) (k % P) (k / P) (omega arith) u-in v-in)
         ∙ halves-count P (k % P) (k / P) u-in v-in f q
 
-    sum : ℕ
-    sum = halves f P (length f) (2 * k) + halves f P (length f) (2 * k + 1)
-
+    -- the users of its edge, by both
     pub at-is : usersAt (halves f P (length f)) P k ≡ usersOf (k / P) (k % P) (halves f P (length f) (2 * k) + halves f P (length f) (2 * k + 1)) (halves f P (length f) (2 * k))
     at-is = users-at (halves f P (length f)) P k (halves f P (length f) (2 * k) + halves f P (length f) (2 * k + 1)) (halves f P (length f) (2 * k)) refl refl
 
@@ -105,6 +110,7 @@ module _ (f : List ℕ) (P : ℕ) (q : Faces P f) where
       some : 0 < halves f P (length f) (2 * k) + halves f P (length f) (2 * k + 1) → 0 < length (users (facesOf f) (step (k / P) (k % P)))
       few : length (users (facesOf f) (step (k / P) (k % P))) ≤ halves f P (length f) (2 * k) + halves f P (length f) (2 * k + 1)
 
+    -- it is so from the lower end
     pub lower-users : k / P ≤ k % P → Users
     lower-users l = go (ℕ-discrete (k / P) (k % P))
       where
@@ -127,39 +133,34 @@ module _ (f : List ℕ) (P : ℕ) (q : Faces P f) where
             let i = at-is in
             record { users-is = omega arith; some = λ h. omega arith; few = omega arith }
 
-    eps : Bool
-    eps = any (λ n. same (pair P k) (edge (n .along))) (entries (facesOf f))
-
-    eps-users : any (λ n. same (pair P k) (edge (n .along))) (entries (facesOf f)) ≡ ltb 0 (length (users (facesOf f) (step (k / P) (k % P))))
+    -- a pair is an edge of the rules where it has users
+    used-users : any (λ n. same (pair P k) (edge (n .along))) (entries (facesOf f)) ≡ ltb 0 (length (users (facesOf f) (step (k / P) (k % P))))
     unfolding users count
-    eps-users =
+    used-users =
         any-count (λ n. same (pair P k) (edge (n .along))) (entries (facesOf f))
         ∙ ap (λ (n : ℕ). ltb 0 n) (sym (length-map (filter (λ n. same (pair P k) (edge (n .along))) (entries (facesOf f))) (λ n. n .by)) ∙ refl)
 
-    eps-is : any (λ n. same (pair P k) (edge (n .along))) (entries (facesOf f)) ≡ (leb (k / P) (k % P) && ltb 0 (halves f P (length f) (2 * k) + halves f P (length f) (2 * k + 1)))
-    eps-is = eps-users ∙ go (decLe (k / P) (k % P)) (decLt 0 (halves f P (length f) (2 * k) + halves f P (length f) (2 * k + 1)))
+    -- that is where the scan counts one
+    used-is : any (λ n. same (pair P k) (edge (n .along))) (entries (facesOf f)) ≡ (leb (k / P) (k % P) && ltb 0 (halves f P (length f) (2 * k) + halves f P (length f) (2 * k + 1)))
+    used-is = used-users ∙ go (decLe (k / P) (k % P)) (decLt 0 (halves f P (length f) (2 * k) + halves f P (length f) (2 * k + 1)))
       where
         go : Dec (k / P ≤ k % P) → Dec (0 < halves f P (length f) (2 * k) + halves f P (length f) (2 * k + 1)) → ltb 0 (length (users (facesOf f) (step (k / P) (k % P)))) ≡ (leb (k / P) (k % P) && ltb 0 (halves f P (length f) (2 * k) + halves f P (length f) (2 * k + 1)))
         go (no n) d = rw (lt-leb (k / P) (k % P) (omega arith)) (le-ltb 0 (length (users (facesOf f) (step (k / P) (k % P)))) (omega (arith, upper-none (facesOf f) (k / P) (k % P) (omega arith))))
         go (yes l) (yes s) = rw (le-leb (k / P) (k % P) l, lt-ltb 0 (halves f P (length f) (2 * k) + halves f P (length f) (2 * k + 1)) s) (lt-ltb 0 (length (users (facesOf f) (step (k / P) (k % P)))) (lower-users l .some s))
         go (yes l) (no s) = rw (le-leb (k / P) (k % P) l, le-ltb 0 (halves f P (length f) (2 * k) + halves f P (length f) (2 * k + 1)) (omega arith)) (le-ltb 0 (length (users (facesOf f) (step (k / P) (k % P)))) (omega (arith, lower-users l .few)))
 
-    eps-lower : any (λ n. same (pair P k) (edge (n .along))) (entries (facesOf f)) ≡ true → k / P ≤ k % P
-    eps-lower e = leb-true (k / P) (k % P) (go (leb (k / P) (k % P)) (ltb 0 (halves f P (length f) (2 * k) + halves f P (length f) (2 * k + 1))) (sym eps-is ∙ e))
+    -- an edge is written from its lower end
+    used-lower : any (λ n. same (pair P k) (edge (n .along))) (entries (facesOf f)) ≡ true → k / P ≤ k % P
+    used-lower e = leb-true (k / P) (k % P) (go (leb (k / P) (k % P)) (ltb 0 (halves f P (length f) (2 * k) + halves f P (length f) (2 * k + 1))) (sym used-is ∙ e))
       where
         go : (x y : Bool) → (x && y) ≡ true → x ≡ true
         go true y h = refl
         go false y h = h
 
+    -- so it adds one to the position
     edge-is : edgeAt (halves f P (length f)) P k ≡ one (any (λ n. same (pair P k) (edge (n .along))) (entries (facesOf f)))
     unfolding edgeAt
-    edge-is = ap one (sym eps-is)
-
-  abbrev ε : ℕ → Bool
-  ε k = any (λ n. same (pair P k) (edge (n .along))) (entries (facesOf f))
-
-  abbrev φ : ℕ → Bool
-  φ k = ltb 2 (length (users (facesOf f) (pair P k)))
+    edge-is = ap one (sym used-is)
 
   -- the edges before a key
   edges-are : (k : ℕ) → k ≤ P * P → count (λ j. any (λ n. same (pair P j) (edge (n .along))) (entries (facesOf f))) (below k) ≡ edgesTo (halves f P (length f)) P k
@@ -169,6 +170,7 @@ module _ (f : List ℕ) (P : ℕ) (q : Faces P f) where
       count-below (λ j. any (λ n. same (pair P j) (edge (n .along))) (entries (facesOf f))) k
       ∙ cc (edges-are k (omega arith), edge-is k (omega arith))
 
+  -- 7 looks at the keys that are edges
   no7-is : no7 P (facesOf f) ≡ at-first 7 (λ k. ltb 2 (length (users (facesOf f) (pair P k)))) (filter (λ k. any (λ n. same (pair P k) (edge (n .along))) (entries (facesOf f))) (below (P * P)))
   unfolding no7 edges
   no7-is =
@@ -176,12 +178,14 @@ module _ (f : List ℕ) (P : ℕ) (q : Faces P f) where
       ∙ ap (λ (l : List Step). at-first 7 (λ e. ltb 2 (length (users (facesOf f) e))) l) (filter-map (λ e. any (λ n. same e (edge (n .along))) (entries (facesOf f))) (pair P) (below (P * P)))
       ∙ at-first-map 7 (λ e. ltb 2 (length (users (facesOf f) e))) (pair P) (filter (λ k. any (λ n. same (pair P k) (edge (n .along))) (entries (facesOf f))) (below (P * P)))
 
+  -- none that is passed is crowded
   calm-below : (k : ℕ) → k ≤ P * P → Calm (halves f P (length f)) P k → (j : ℕ) → j < k → any (λ n. same (pair P j) (edge (n .along))) (entries (facesOf f)) ≡ true → ltb 2 (length (users (facesOf f) (pair P j))) ≡ false
   calm-below k h t j l e =
       let b : j < P * P = omega arith in
-      let o = eps-lower j b e in
+      let o = used-lower j b e in
       le-ltb 2 (length (users (facesOf f) (pair P j))) (omega (arith, t .few j l o, lower-users j b o .users-is))
 
+  -- so 7 is not given
   pub seven-none : Calm (halves f P (length f)) P (P * P) → no7 P (facesOf f) ≡ ok
   seven-none t = no7-is ∙ no-fault (λ k. any (λ n. same (pair P k) (edge (n .along))) (entries (facesOf f))) (λ k. ltb 2 (length (users (facesOf f) (pair P k)))) 7 (P * P) (calm-below (P * P) (omega arith) t)
 
@@ -195,6 +199,6 @@ module _ (f : List ℕ) (P : ℕ) (q : Faces P f) where
       no7-is
       ∙ a-fault (λ k. any (λ n. same (pair P k) (edge (n .along))) (entries (facesOf f))) (λ k. ltb 2 (length (users (facesOf f) (pair P k)))) 7 (P * P) (t .key) b
       (calm-below (t .key) (omega arith) (t .calm))
-      (true-is (eps-users (t .key) b ∙ lt-ltb 0 (length (users (facesOf f) (step (t .key / P) (t .key % P)))) (omega arith)))
+      (true-is (used-users (t .key) b ∙ lt-ltb 0 (length (users (facesOf f) (step (t .key / P) (t .key % P)))) (omega arith)))
       (true-is (lt-ltb 2 (length (users (facesOf f) (pair P (t .key)))) (omega arith)))
       ∙ ap (λ (z : ℕ). rule.no 7 z) (edges-are (t .key) (omega arith) ∙ sym (t .counted))

@@ -1,5 +1,4 @@
--- The counts of half entries are counts of the rules' steps, and so are an edge's users.
--- Assumes nothing.
+-- The counts of half entries are counts of the rules' steps, and so are an edge's users. Assumes nothing.
 use mathlib.Core.Path.{_≡_, refl, sym, ap, _∙_, subst}
 use mathlib.Core.Bool.{Bool, true, false, not, _&&_, _||_, cond}
 use mathlib.Core.List.{List, [], _∷_, _++_, map}
@@ -26,10 +25,12 @@ use Rattle.halves.proofs.Weights.{one-true, one-false}
 use Rattle.halves.proofs.Halves.{next-last, next-more, halves-zero, halves-suc, pair-same}
 
 module _ {A : Type 0} (p : A → Bool) where
+  -- none of no elements
   pub count-none : count p [] ≡ 0
   unfolding count filter
   count-none = refl
 
+  -- one more element
   pub count-cons : (x : A) (xs : List A) → count p (x ∷ xs) ≡ one (p x) + count p xs
   unfolding count filter one
   count-cons x xs = go (p x)
@@ -38,19 +39,23 @@ module _ {A : Type 0} (p : A → Bool) where
       go true = omega arith
       go false = omega arith
 
+  -- three more at the end
   pub count-three : (xs : List A) (a b c : A) → count p (xs ++ (a ∷ b ∷ c ∷ [])) ≡ count p xs + (one (p a) + (one (p b) + one (p c)))
   count-three xs a b c = omega (arith, count-append p xs (a ∷ b ∷ c ∷ []), count-cons a (b ∷ c ∷ []), count-cons b (c ∷ []), count-cons c [], count-none)
 
+-- the steps of one face
 pub last : (t : Face) → each steps (t ∷ []) ≡ steps t
 unfolding each
 last t = refl
 
 -- ---- half entries
 
+-- a step is itself
 pub same-yes : (v u x y : ℕ) → v ≡ x → u ≡ y → one (same (step v u) (step x y)) ≡ 1
 unfolding same
 same-yes v u x y e f = rw (eq-eqb v x e, eq-eqb u y f) one-true
 
+-- and no other
 pub same-no : (v u x y : ℕ) → ((v ≡ x) × (u ≡ y) → ⊥) → one (same (step v u) (step x y)) ≡ 0
 unfolding same
 same-no v u x y n = go (ℕ-discrete v x) (ℕ-discrete u y)
@@ -61,6 +66,7 @@ same-no v u x y n = go (ℕ-discrete v x) (ℕ-discrete u y)
     go (no e) d = rw (ne-eqb v x e) one-false
 
 module _ (P v u : ℕ) (hv : v < P) (hu : u < P) where
+  -- half entries by their steps
   hit-step : (x y : ℕ) → x < P → y < P → hit (2 * (x * P + y)) (2 * (v * P + u)) ≡ one (same (step v u) (step x y))
   hit-step x y hx hy = go (ℕ-discrete v x) (ℕ-discrete u y)
     where
@@ -73,17 +79,20 @@ module _ (P v u : ℕ) (hv : v < P) (hu : u < P) where
       go (no e) d = none (λ q. e (q .0))
 
   module _ (f : List ℕ) (q : Faces P f) where
+    -- one more step
     half-one : (j x y : ℕ) → getD f j 0 ≡ x → getD f (nextOf j) 0 ≡ y → x < P → y < P → halves f P (suc j) (2 * (v * P + u)) ≡ halves f P j (2 * (v * P + u)) + one (same (step v u) (step x y))
     half-one j x y ex ey hx hy =
         let s = rw (ex, ey) at (halves-suc f P j (2 * (v * P + u))) in
         omega (arith, hit-step x y hx hy, hit-other (2 * (y * P + x) + 1) (2 * (v * P + u)) (λ e. omega arith))
 
+    -- one more face
     steps-suc : (i : ℕ) → 3 * i + 2 < length f → each steps (facesOf (take (3 * suc i) f)) ≡ each steps (facesOf (take (3 * i) f)) ++ (step (getD f (3 * i) 0) (getD f (3 * i + 1) 0) ∷ step (getD f (3 * i + 1) 0) (getD f (3 * i + 2) 0) ∷ step (getD f (3 * i + 2) 0) (getD f (3 * i) 0) ∷ [])
     steps-suc i h =
         ap (λ (l : List Face). each steps l) (faces-take f i h)
         ∙ each-append steps (facesOf (take (3 * i) f)) (record { a = getD f (3 * i) 0; b = getD f (3 * i + 1) 0; c = getD f (3 * i + 2) 0 } ∷ [])
         ∙ ap (λ (l : List Step). each steps (facesOf (take (3 * i) f)) ++ l) (last (record { a = getD f (3 * i) 0; b = getD f (3 * i + 1) 0; c = getD f (3 * i + 2) 0 }))
 
+    -- the steps of the first faces
     walk-count : (i : ℕ) → 3 * i ≤ length f → halves f P (3 * i) (2 * (v * P + u)) ≡ count (same (step v u)) (each steps (facesOf (take (3 * i) f)))
     unfolding each facesOf
     walk-count zero h = halves-zero f P (2 * (v * P + u)) ∙ sym (count-none (same (step v u)))
@@ -118,11 +127,13 @@ pub count-sum : {A : Type 0} (p a b : A → Bool) → ((x : A) → one (p x) ≡
 count-sum p a b h [] = omega (arith, count-none p, count-none a, count-none b)
 count-sum p a b h (x ∷ xs) = omega (arith, count-cons p x xs, count-cons a x xs, count-cons b x xs, h x, count-sum p a b h xs)
 
+-- or another one where each element agrees
 pub count-eq : {A : Type 0} (p a : A → Bool) → ((x : A) → one (p x) ≡ one (a x)) → (xs : List A) → count p xs ≡ count a xs
 count-eq p a h [] = count-none p ∙ sym (count-none a)
 count-eq p a h (x ∷ xs) = omega (arith, count-cons p x xs, count-cons a x xs, h x, count-eq p a h xs)
 
 module _ (v u : ℕ) where
+  -- a step is along an edge one way or the other
   edge-one : v < u → (s : Step) → one (same (step v u) (edge s)) ≡ one (same (step v u) s) + one (same (step u v) s)
   unfolding edge
   edge-one h s = go (ℕ-discrete (s .from) v)
@@ -146,6 +157,7 @@ module _ (v u : ℕ) where
       go (yes a) = on a (ℕ-discrete (s .to) u)
       go (no a) = off a (ℕ-discrete (s .from) u)
 
+  -- of an edge from a vertex to itself there is one way
   edge-same : (s : Step) → one (same (step v v) (edge s)) ≡ one (same (step v v) s)
   unfolding edge
   edge-same s = go (ℕ-discrete (s .from) v) (ℕ-discrete (s .to) v)
@@ -155,8 +167,10 @@ module _ (v u : ℕ) where
       go (no a) b = same-no v v (min (s .from) (s .to)) (max (s .from) (s .to)) (λ z. omega (arith, z .0, z .1)) ∙ sym (same-no v v (s .from) (s .to) (λ z. a (sym (z .0))))
       go (yes a) (no b) = same-no v v (min (s .from) (s .to)) (max (s .from) (s .to)) (λ z. omega (arith, z .0, z .1)) ∙ sym (same-no v v (s .from) (s .to) (λ z. b (sym (z .1))))
 
+  -- so the users of an edge are the steps both ways
   pub users-two : v < u → (fs : List Face) → length (users fs (step v u)) ≡ count (same (step v u)) (each steps fs) + count (same (step u v)) (each steps fs)
   users-two h fs = users-count fs (step v u) ∙ count-sum (λ s. same (step v u) (edge s)) (same (step v u)) (same (step u v)) (edge-one h) (each steps fs)
 
+  -- or the one way
   pub users-loop : (fs : List Face) → length (users fs (step v v)) ≡ count (same (step v v)) (each steps fs)
   users-loop fs = users-count fs (step v v) ∙ count-eq (λ s. same (step v v) (edge s)) (same (step v v)) edge-same (each steps fs)

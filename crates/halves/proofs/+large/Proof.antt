@@ -1,4 +1,4 @@
--- The proof of the cycle of calls {large}: it never calls itself, since `bad` is at most p.
+-- `halves::large` meets its contract: it never calls itself, since `bad` is at most P. Assumes nothing.
 use native.Mathlib.Omega.{arith}
 use borrow.Author.Needs.{needs}
 use lib.ListN.{replicate}
@@ -14,12 +14,15 @@ use Rattle.halves.proofs.rounds.Reads as rounds-reads
 use Rattle.halves.proofs.+large.{statement}
 use Rattle.halves.proofs.+large.Tie.{close}
 
+-- no call of itself is ever made, so any measure serves
 abbrev μ-large : Measures 1 large-kinds.ps ℕ
 μ-large κs a = 0
 
+-- what is asked at a measure
 abbrev large-at : ℕ → In 1 large-kinds.ps
 large-at t = and 1 large-kinds.ps (is 1 large-kinds.ps μ-large t) large.Pre
 
+-- and at a smaller one
 abbrev large-below : ℕ → In 1 large-kinds.ps
 large-below t = and 1 large-kinds.ps (falls 1 large-kinds.ps _<_ μ-large t) large.Pre
 

@@ -1,3 +1,4 @@
+-- `halves::walk` meets its contract, which calls itself on both halves of a range of keys. Assumes nothing.
 use Prim.Native.Nat.{ℕ, _<_, _-_}
 use mathlib.Core.Path.{_≡_, refl, sym, ap, subst, _∙_}
 use native.Mathlib.Omega.{arith}
@@ -14,12 +15,15 @@ use Rattle.halves.proofs.visit.Reads as visit-reads
 use Rattle.halves.proofs.+walk.{statement}
 use Rattle.halves.proofs.+walk.Tie.{close}
 
+-- the number of keys in the range
 abbrev μ-walk : Measures 1 walk-kinds.ps ℕ
 μ-walk κs a = a .1 .1 .1 .1 .0 - a .1 .1 .1 .0
 
+-- what is asked at a measure
 abbrev walk-at : ℕ → In 1 walk-kinds.ps
 walk-at t = and 1 walk-kinds.ps (is 1 walk-kinds.ps μ-walk t) walk.Pre
 
+-- and at a smaller one
 abbrev walk-below : ℕ → In 1 walk-kinds.ps
 walk-below t = and 1 walk-kinds.ps (falls 1 walk-kinds.ps _<_ μ-walk t) walk.Pre
 

@@ -1,3 +1,4 @@
+-- `halves::close` meets its contract. Assumes nothing.
 use mathlib.Core.Path.{_≡_, refl, sym, ap, _∙_}
 use native.Mathlib.Omega.{arith}
 use Rattle.halves.specs.Scan.{CloseGives, Fair}
@@ -5,8 +6,6 @@ use Rattle.halves.proofs.Closing.{close-bad, close-fair, close-late}
 use borrow.Author.Needs.{needs}
 use Rattle.halves.proofs.close.Statement.{statement}
 use Rattle.halves.proofs.close.Tie as tie
-use Rattle.halves.proofs.close.Reads as reads
-use Rattle.halves.proofs.close.Lts as lts
 
 returns : tie.Need-returns
 returns c = search needs

@@ -1,9 +1,8 @@
+-- `halves::crowds` meets its contract. Assumes nothing.
 use mathlib.Core.Path.{_≡_, refl, sym, ap, _∙_}
 use borrow.Author.Tests.{le-leb, lt-leb}
 use Rattle.halves.proofs.crowds.Statement.{statement}
 use Rattle.halves.proofs.crowds.Tie as tie
-use Rattle.halves.proofs.crowds.Reads as reads
-use Rattle.halves.proofs.crowds.Lts as lts
 
 returns : tie.Need-returns
 returns c = rw (le-leb (c .before .args .v) (c .before .args .u) (c .if1 .taken))

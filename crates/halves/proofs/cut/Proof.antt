@@ -1,12 +1,9 @@
--- `halves::cut` meets its contract. How well it parts the entries is measured and not proved.
+-- `halves::cut` meets its contract. How well it parts the entries is measured and not proved. Assumes nothing.
 use Prim.Native.Nat.{ℕ, _+_, _-_, _≤_, _<_}
 use native.Mathlib.Omega.{arith}
 use borrow.Author.Needs.{needs}
 use Rattle.halves.proofs.cut.Statement.{statement}
 use Rattle.halves.proofs.cut.Tie as tie
-use Rattle.halves.proofs.cut.Reads as reads
-use Rattle.halves.proofs.cut.Lts as lts
-use Rattle.halves.proofs.under.Reads as under-reads
 
 abbrev Inv-loop : tie.InvT-loop
 Inv-loop a from to n few most l₀ h₀ l h = (from ≤ l) × (l < h) × (h ≤ to)

@@ -1,4 +1,4 @@
--- `halves::evens` meets its contract.
+-- `halves::evens` meets its contract. Assumes nothing.
 use mathlib.Core.Path.{_≡_, refl, sym, ap, _∙_}
 use mathlib.Core.Logic.{⊎-elim}
 use mathlib.Core.List.{List}
@@ -12,19 +12,20 @@ use Rattle.halves.specs.Split.{hit, tally, EvensGives}
 use Rattle.halves.proofs.Tallies.{tally-zero, tally-suc, hit-same, hit-other}
 use Rattle.halves.proofs.evens.Statement.{statement}
 use Rattle.halves.proofs.evens.Tie as tie
-use Rattle.halves.proofs.evens.Reads as reads
-use Rattle.halves.proofs.evens.Lts as lts
 
+-- b of the first i entries are even
 record Inv (a : List ℕ) (s n b i : ℕ) : Type 0 where
   at-most : i ≤ n
   fewer : b ≤ i
   even : (k : ℕ) → ((j : ℕ) → j < i → getD a (s + j) 0 / 2 ≡ k) → b ≡ tally a s i (2 * k)
   odd : (k : ℕ) → ((j : ℕ) → j < i → getD a (s + j) 0 / 2 ≡ k) → i ≡ b + tally a s i (2 * k + 1)
 
+-- before the first
 begin : {a : List ℕ} {s n : ℕ} → s + n ≤ length a → Inv a s n 0 0
 begin {a} {s} p = record { at-most = omega arith; fewer = omega arith; even = λ k h. sym (tally-zero a s (2 * k)); odd = λ k h. omega (arith, tally-zero a s (2 * k + 1)) }
 
 module _ {a : List ℕ} {s n b i : ℕ} (p : s + n ≤ length a) (v : Inv a s n b i) (h : i < n) where
+  -- an even one
   counts : getD a (s + i) 0 % 2 ≡ 0 → Inv a s n (b + 1) (i + 1)
   counts e =
       record {
@@ -39,6 +40,7 @@ module _ {a : List ℕ} {s n b i : ℕ} (p : s + n ≤ length a) (v : Inv a s n 
             rw (add-one i) (omega (arith, tally-suc a s i (2 * k + 1), v .odd k (λ j l. g j (omega arith)), hit-other (getD a (s + i) 0) (2 * k + 1) (omega arith)));
       }
 
+  -- an odd one
   skips : (getD a (s + i) 0 % 2 ≡ 0 → ⊥) → Inv a s n b (i + 1)
   skips e =
       record {
@@ -53,6 +55,7 @@ module _ {a : List ℕ} {s n b i : ℕ} (p : s + n ≤ length a) (v : Inv a s n 
             rw (add-one i) (omega (arith, tally-suc a s i (2 * k + 1), v .odd k (λ j l. g j (omega arith)), ap (λ (z : ℕ). hit z (2 * k + 1)) x, hit-same (2 * k + 1)));
       }
 
+-- after the last
 done : {a : List ℕ} {s n b i : ℕ} → s + n ≤ length a → Inv a s n b i → n ≤ i → EvensGives a s n b
 done {a} {s} {n} {b} {i} p v l =
     let m = v .at-most in

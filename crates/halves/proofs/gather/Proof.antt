@@ -1,8 +1,7 @@
--- `halves::gather` meets its contract. The invariant: the buffer holds the half entries of the first i steps that lie from from up to to.
+-- `halves::gather` meets its contract. The invariant: the buffer holds the half entries of the first i steps with keys from `from` up to `to`. Assumes nothing.
 use mathlib.Core.Path.{_≡_, refl, sym, ap, _∙_}
 use mathlib.Core.List.{List}
 use Prim.Native.Nat.{ℕ, zero, suc, _+_, _-_, _*_, _/_, _%_, _≤_, _<_, _^_}
-use native.Mathlib.Nat.{mul-le-mul}
 use native.Mathlib.Omega.{arith}
 use native.Mathlib.Numerals.{add-one}
 use borrow.Author.Needs.{needs}
@@ -11,14 +10,11 @@ use Rattle.halves.specs.Split.{hit, tally}
 use Rattle.halves.specs.Walk.{Counts, Inside}
 use Rattle.halves.specs.Gather.{nextOf, halves, AtMost, Holding, BothAsks, BothGives, GatherAsks, GatherGives}
 use Rattle.halves.proofs.Tallies.{tally-zero}
-use Rattle.halves.proofs.Halves.{next-in, halves-suc, halves-zero, halves-more}
+use Rattle.halves.proofs.Halves.{bound, next-in, halves-suc, halves-zero, halves-more}
 use Rattle.halves.proofs.gather.Statement.{statement}
 use Rattle.halves.proofs.gather.Tie as tie
-use Rattle.halves.proofs.gather.Reads as reads
-use Rattle.halves.proofs.gather.Lts as lts
-use Rattle.halves.proofs.next.Reads as next-reads
-use Rattle.halves.proofs.put_both.Reads as put-both-reads
 
+-- the half entries of the first i steps are counted
 record Inv (P : ℕ) (f : List ℕ) (from top : ℕ) (a₀ : List ℕ) (size : ℕ) (a : List ℕ) (to n i : ℕ) : Type 0 where
   size-is : size ≡ length a₀
   at-most : i ≤ length f
@@ -26,6 +22,7 @@ record Inv (P : ℕ) (f : List ℕ) (from top : ℕ) (a₀ : List ℕ) (size : �
   going : n < size
   counts : Counts (halves f P i) a 0 n from to
 
+-- both corners of a step are there, and are points
 record Turn (P : ℕ) (f : List ℕ) (i j : ℕ) : Type 0 where
   i-in : i < length f
   j-in : j < length f
@@ -33,6 +30,7 @@ record Turn (P : ℕ) (f : List ℕ) (i j : ℕ) : Type 0 where
   u-small : getD f j 0 < P
   points : P ≤ 4194304
 
+-- before the first step
 begin : {P : ℕ} {f : List ℕ} {from top : ℕ} {a : List ℕ} → GatherAsks f P from top a → Inv P f from top a (length a) a top 0 0
 begin {P} {f} {from} {top} {a} p =
     let r = p .room in
@@ -44,16 +42,15 @@ begin {P} {f} {from} {top} {a} p =
       counts = record { each = λ x l u. tally-zero a 0 x ∙ sym (halves-zero f P x) };
     }
 
-bound : (A B : ℕ) {a b : ℕ} → a ≤ A → b ≤ B → a * b ≤ A * B
-bound A B h k = mul-le-mul h k
-
 module _ {P : ℕ} {f : List ℕ} {from top : ℕ} {a₀ : List ℕ} {size : ℕ} {a : List ℕ} {to n i : ℕ} (p : GatherAsks f P from top a₀) (v : Inv P f from top a₀ size a to n i) where
   module _ (h : i < length f) {j : ℕ} (e : j ≡ nextOf i) where
+    -- the bounds
     turn : Turn P f i j
     turn =
         let q = next-in f i (p .faces .whole) h in
         record { i-in = h; j-in = omega arith; v-small = p .faces .below i h; u-small = p .faces .below j (omega arith); points = p .faces .points }
 
+    -- the half entries of a step fit
     both-asks : BothAsks a n from to P (getD f i 0) (getD f j 0)
     both-asks =
         let t = turn in
@@ -71,6 +68,7 @@ module _ {P : ℕ} {f : List ℕ} {from top : ℕ} {a₀ : List ℕ} {size : ℕ
         }
 
     module _ {a′ : List ℕ} {n′ to′ : ℕ} (g : BothGives a n from to P (getD f i 0) (getD f j 0) a′ n′ to′) where
+      -- the buffer holds half entries of the range still
       holding′ : Holding size from top a′ n′ to′
       holding′ =
           let l = v .holding .long in
@@ -81,9 +79,11 @@ module _ {P : ℕ} {f : List ℕ} {from top : ℕ} {a₀ : List ℕ} {size : ℕ
           let q₃ = q .fewer in
           record { long = omega arith; above = q .above; within = omega arith; fewer = omega arith; inside = q .inside; full = λ z. q .full (omega arith) }
 
+      -- what one more step adds
       step : (x : ℕ) → halves f P (i + 1) x ≡ halves f P i x + (hit (2 * (getD f i 0 * P + getD f j 0)) x + hit (2 * (getD f j 0 * P + getD f i 0) + 1) x)
       step x = rw (add-one, e) (halves-suc f P i x)
 
+      -- there is room for another step
       again : (n′ ≡ size → ⊥) → Inv P f from top a₀ size a′ to′ n′ (i + 1)
       again z =
           let l = v .holding .long in
@@ -96,6 +96,7 @@ module _ {P : ℕ} {f : List ℕ} {from top : ℕ} {a₀ : List ℕ} {size : ℕ
             counts = record { each = λ x s t. g .counts (omega arith) (halves f P i) (v .counts) .each x s t ∙ sym (step x) };
           }
 
+      -- one key fills the buffer
       full : n′ ≡ size → GatherGives f P from top a₀ a′ n′ to′
       full z =
           let s = v .size-is in
@@ -106,6 +107,7 @@ module _ {P : ℕ} {f : List ℕ} {from top : ℕ} {a₀ : List ℕ} {size : ℕ
             most = record { each = λ x b t. omega (arith, g .most (halves f P i) (v .counts) .each x b t, step x, halves-more f P (i + 1) (length f - (i + 1)) x, ap (λ (y : ℕ). halves f P y x) d) };
           }
 
+  -- after the last step
   done : length f ≤ i → GatherGives f P from top a₀ a n to
   done h =
       let s = v .size-is in

@@ -1,9 +1,8 @@
+-- `halves::into_of` meets its contract. Assumes nothing.
 use mathlib.Core.Path.{_≡_, refl, sym, ap, _∙_}
 use Rattle.halves.proofs.Weights.{into-same, into-other, into-none}
 use Rattle.halves.proofs.into_of.Statement.{statement}
 use Rattle.halves.proofs.into_of.Tie as tie
-use Rattle.halves.proofs.into_of.Reads as reads
-use Rattle.halves.proofs.into_of.Lts as lts
 
 returns : tie.Need-returns
 returns c = sym (into-same (c .before .before .args .v) (c .before .before .args .u) (c .before .before .args .users) (c .before .before .args .e) (c .before .if1 .taken) (c .if2 .taken))

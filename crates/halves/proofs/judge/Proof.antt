@@ -1,10 +1,8 @@
+-- `halves::judge` meets its contract. Assumes nothing.
 use Rattle.halves.proofs.Judging.{edge-right, vertex-right, fine-right}
 use borrow.Author.Needs.{needs}
 use Rattle.halves.proofs.judge.Statement.{statement}
 use Rattle.halves.proofs.judge.Tie as tie
-use Rattle.halves.proofs.judge.Reads as reads
-use Rattle.halves.proofs.judge.Lts as lts
-use Rattle.halves.proofs.close.Reads as close-reads
 
 returns : tie.Need-returns
 returns c = edge-right (c .if1 .taken)

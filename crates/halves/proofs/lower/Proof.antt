@@ -1,10 +1,9 @@
+-- `halves::lower` meets its contract. Assumes nothing.
 use mathlib.Core.Path.{_≡_, refl, sym, ap, _∙_}
 use borrow.Author.Tests.{le-leb, lt-leb}
 use Rattle.halves.proofs.Weights.{one-true, one-false}
 use Rattle.halves.proofs.lower.Statement.{statement}
 use Rattle.halves.proofs.lower.Tie as tie
-use Rattle.halves.proofs.lower.Reads as reads
-use Rattle.halves.proofs.lower.Lts as lts
 
 returns : tie.Need-returns
 returns c = rw (le-leb (c .before .args .v) (c .before .args .u) (c .if1 .taken)) (sym one-true)

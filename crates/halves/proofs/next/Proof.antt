@@ -1,10 +1,9 @@
+-- `halves::next` meets its contract. Assumes nothing.
 use mathlib.Core.Path.{_≡_, sym}
 use Rattle.halves.proofs.Halves.{next-last, next-more}
 use borrow.Author.Needs.{needs}
 use Rattle.halves.proofs.next.Statement.{statement}
 use Rattle.halves.proofs.next.Tie as tie
-use Rattle.halves.proofs.next.Reads as reads
-use Rattle.halves.proofs.next.Lts as lts
 
 sub-result : tie.Need-sub-result
 sub-result c = search needs

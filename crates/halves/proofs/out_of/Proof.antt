@@ -1,9 +1,8 @@
+-- `halves::out_of` meets its contract. Assumes nothing.
 use mathlib.Core.Path.{_≡_, refl, sym, ap, _∙_}
 use Rattle.halves.proofs.Weights.{out-one, out-none}
 use Rattle.halves.proofs.out_of.Statement.{statement}
 use Rattle.halves.proofs.out_of.Tie as tie
-use Rattle.halves.proofs.out_of.Reads as reads
-use Rattle.halves.proofs.out_of.Lts as lts
 
 returns : tie.Need-returns
 returns c = sym (out-one (c .before .args .users) (c .before .args .b) (c .if1 .taken))

@@ -1,12 +1,10 @@
+-- `halves::put` meets its contract. Assumes nothing.
 use mathlib.Core.Path.{_≡_, refl, sym, ap, _∙_}
 use lib.ListN.{length-set}
 use Rattle.halves.proofs.Gathering.{put-low, put-high, put-more, shrink-asks, put-shrunk}
 use borrow.Author.Needs.{needs}
 use Rattle.halves.proofs.put.Statement.{statement}
 use Rattle.halves.proofs.put.Tie as tie
-use Rattle.halves.proofs.put.Reads as reads
-use Rattle.halves.proofs.put.Lts as lts
-use Rattle.halves.proofs.shrink.Reads as shrink-reads
 
 returns : tie.Need-returns
 returns c = put-low (c .before .before .pre) (c .if1 .taken)

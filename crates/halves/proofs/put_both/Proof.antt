@@ -1,10 +1,8 @@
+-- `halves::put_both` meets its contract. Assumes nothing.
 use Rattle.halves.proofs.Gathering.{first-asks, both-full, second-asks, both-put}
 use borrow.Author.Needs.{needs}
 use Rattle.halves.proofs.put_both.Statement.{statement}
 use Rattle.halves.proofs.put_both.Tie as tie
-use Rattle.halves.proofs.put_both.Reads as reads
-use Rattle.halves.proofs.put_both.Lts as lts
-use Rattle.halves.proofs.put.Reads as put-reads
 
 mul-put : tie.Need-mul-put
 mul-put c = search needs

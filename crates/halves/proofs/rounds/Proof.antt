@@ -1,19 +1,12 @@
--- `halves::rounds` meets its contract. The invariant: the keys below from are passed, and no edge there is crowded.
+-- `halves::rounds` meets its contract. The invariant: the keys below `from` are passed, and no edge there is crowded. Assumes nothing.
 use mathlib.Core.Path.{_≡_, refl, sym, ap, _∙_}
 use Prim.Native.Nat.{ℕ, _+_, _-_, _*_, _≤_, _<_, _^_}
-use native.Mathlib.Nat.{mul-le-mul}
 use native.Mathlib.Omega.{arith}
 use lib.ListN.{length}
+use Rattle.halves.proofs.Halves.{bound}
 use Rattle.halves.proofs.Ranges.{Going, begin, done, gather-asks, full, walk-asks, crowd, again}
 use Rattle.halves.proofs.rounds.Statement.{statement}
 use Rattle.halves.proofs.rounds.Tie as tie
-use Rattle.halves.proofs.rounds.Reads as reads
-use Rattle.halves.proofs.rounds.Lts as lts
-use Rattle.halves.proofs.gather.Reads as gather-reads
-use Rattle.halves.proofs.walk.Reads as walk-reads
-
-bound : (A B : ℕ) {a b : ℕ} → a ≤ A → b ≤ B → a * b ≤ A * B
-bound A B h k = mul-le-mul h k
 
 abbrev Inv-loop : tie.InvT-loop
 Inv-loop p faces a₀ size top from₀ t₀ a from t = Going faces p a₀ size a from t

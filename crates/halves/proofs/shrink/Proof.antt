@@ -1,4 +1,4 @@
--- `halves::shrink` meets its contract. The invariant: the buffer's first n entries are all those below h.
+-- `halves::shrink` meets its contract. The invariant: the buffer's first n entries are all those below h. Assumes nothing.
 use mathlib.Core.Path.{_≡_, refl, sym, ap, _∙_}
 use mathlib.Core.List.{List}
 use Prim.Native.Nat.{ℕ, zero, suc, _+_, _-_, _*_, _/_, _≤_, _<_, _^_}
@@ -10,11 +10,8 @@ use Rattle.halves.specs.Gather.{Holding, ShrinkAsks, ShrinkGives}
 use Rattle.halves.proofs.Walking.{inside-same, split-first}
 use Rattle.halves.proofs.shrink.Statement.{statement}
 use Rattle.halves.proofs.shrink.Tie as tie
-use Rattle.halves.proofs.shrink.Reads as reads
-use Rattle.halves.proofs.shrink.Lts as lts
-use Rattle.halves.proofs.cut.Reads as cut-reads
-use Rattle.halves.proofs.split.Reads as split-reads
 
+-- the first n entries of the buffer are all those of the range up to h
 record Inv (a₀ : List ℕ) (from to size : ℕ) (a : List ℕ) (h n : ℕ) : Type 0 where
   size-is : size ≡ length a₀
   long : length a ≡ length a₀
@@ -24,10 +21,12 @@ record Inv (a₀ : List ℕ) (from to size : ℕ) (a : List ℕ) (h n : ℕ) : T
   inside : Inside a 0 n from h
   counts : (g : ℕ → ℕ) → Counts g a₀ 0 (length a₀) from to → Counts g a 0 n from h
 
+-- all, at first
 begin : {a : List ℕ} {from to : ℕ} → ShrinkAsks a from to → Inv a from to (length a) a to (length a)
 begin p = record { size-is = refl; long = refl; above = p .above; within = omega arith; fewer = omega arith; inside = p .inside; counts = λ g q. q }
 
 module _ {a₀ : List ℕ} {from to size : ℕ} {a : List ℕ} {h n : ℕ} (v : Inv a₀ from to size a h n) where
+  -- a smaller range
   again : {a′ : List ℕ} {m n′ : ℕ} → n ≡ size → (from < m) × (m < h) → SplitGives a 0 size m a′ n′ → Inv a₀ from to size a′ m n′
   again {a′} {m} {n′} e c g =
       let fw = g .fewer in
@@ -45,12 +44,14 @@ module _ {a₀ : List ℕ} {from to size : ℕ} {a : List ℕ} {h n : ℕ} (v : 
         counts = λ f q. record { each = λ x l k. split-first g x k ∙ ap (λ (z : ℕ). tally a 0 z x) (sym e) ∙ v .counts f q .each x l (omega arith) };
       }
 
+  -- it is one key
   stop : h ≡ from + 1 → ShrinkGives a₀ from to a n h
   stop e =
       let s = v .size-is in
       let f = v .fewer in
       record { holding = record { long = v .long; above = v .above; within = v .within; fewer = omega arith; inside = v .inside; full = λ q. e }; counts = v .counts }
 
+  -- there is room
   done : (n ≡ size → ⊥) → ShrinkGives a₀ from to a n h
   done e =
       let s = v .size-is in

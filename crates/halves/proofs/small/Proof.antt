@@ -1,11 +1,8 @@
+-- `halves::small` meets its contract. Assumes nothing.
 use Rattle.halves.proofs.Judging.{five}
 use borrow.Author.Needs.{needs}
 use Rattle.halves.proofs.small.Statement.{statement}
 use Rattle.halves.proofs.small.Tie as tie
-use Rattle.halves.proofs.small.Reads as reads
-use Rattle.halves.proofs.small.Lts as lts
-use Rattle.halves.proofs.judge.Reads as judge-reads
-use Rattle.halves.proofs.rounds.Reads as rounds-reads
 
 slice-aggregate-rounds : tie.Need-slice-aggregate-rounds
 slice-aggregate-rounds c = search needs

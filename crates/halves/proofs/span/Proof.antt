@@ -1,4 +1,4 @@
--- `halves::span` meets its contract.
+-- `halves::span` meets its contract. Assumes nothing.
 use mathlib.Core.Path.{_≡_, refl, sym, ap, _∙_}
 use mathlib.Core.Logic.{⊎-elim}
 use mathlib.Core.List.{List}
@@ -11,11 +11,8 @@ use lib.ListN.{length, getD}
 use Rattle.halves.specs.Split.{SpanGives}
 use Rattle.halves.proofs.span.Statement.{statement}
 use Rattle.halves.proofs.span.Tie as tie
-use Rattle.halves.proofs.span.Reads as reads
-use Rattle.halves.proofs.span.Lts as lts
-use Rattle.halves.proofs.greater.Reads as greater-reads
-use Rattle.halves.proofs.lesser.Reads as lesser-reads
 
+-- the least and the greatest of the first i keys
 record Inv (a : List ℕ) (s n low high i : ℕ) : Type 0 where
   at-most : i ≤ n
   each-low : (j : ℕ) → j < i → low ≤ getD a (s + j) 0 / 2
@@ -23,6 +20,7 @@ record Inv (a : List ℕ) (s n low high i : ℕ) : Type 0 where
   low-at : (from : ℕ) → ((j : ℕ) → j < n → from ≤ getD a (s + j) 0 / 2) → from ≤ low
   high-at : (to : ℕ) → ((j : ℕ) → j < n → getD a (s + j) 0 / 2 < to) → high < to
 
+-- of the first key
 begin : {a : List ℕ} {s n : ℕ} → (s + n ≤ length a) × (0 < n) → Inv a s n (getD a s 0 / 2) (getD a s 0 / 2) 1
 begin {a} {s} {n} p =
     let z : s + 0 ≡ s = omega arith in
@@ -35,6 +33,7 @@ begin {a} {s} {n} p =
     }
 
 module _ {a : List ℕ} {s n low high i : ℕ} (p : (s + n ≤ length a) × (0 < n)) (v : Inv a s n low high i) (h : i < n) where
+  -- one more key
   again : {low′ high′ : ℕ} → low′ ≡ min low (getD a (s + i) 0 / 2) → high′ ≡ max high (getD a (s + i) 0 / 2) → Inv a s n low′ high′ (i + 1)
   again {low′} {high′} e f =
       record {
@@ -53,6 +52,7 @@ module _ {a : List ℕ} {s n low high i : ℕ} (p : (s + n ≤ length a) × (0 <
       to j l (yes t) = rw t (omega arith)
       to j l (no t) = omega (arith, v .each-high j (omega arith))
 
+-- after the last
 done : {a : List ℕ} {s n low high i : ℕ} → (s + n ≤ length a) × (0 < n) → Inv a s n low high i → n ≤ i → SpanGives a s n low high
 done {a} {s} {n} {low} {high} {i} p v l = record { each-low = λ j h. v .each-low j (omega arith); each-high = λ j h. v .each-high j (omega arith); low-at = v .low-at; high-at = v .high-at }
 

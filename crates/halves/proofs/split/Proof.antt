@@ -1,4 +1,4 @@
--- `halves::split` meets its contract. The invariant: of the first i entries the m whose key is below `mid` stand first.
+-- `halves::split` meets its contract. The invariant: of the first i entries the m whose key is below `mid` stand first. Assumes nothing.
 use mathlib.Core.Path.{_≡_, refl, sym, ap, _∙_}
 use mathlib.Core.Logic.{⊎-elim}
 use mathlib.Core.List.{List}
@@ -14,9 +14,8 @@ use Rattle.halves.specs.Split.{tally, SplitGives}
 use Rattle.halves.proofs.Tallies.{tally-swap, at-swap}
 use Rattle.halves.proofs.split.Statement.{statement}
 use Rattle.halves.proofs.split.Tie as tie
-use Rattle.halves.proofs.split.Reads as reads
-use Rattle.halves.proofs.split.Lts as lts
 
+-- of the first i entries the m below mid stand first
 record Inv (a₀ : List ℕ) (s n mid : ℕ) (a : List ℕ) (i m : ℕ) : Type 0 where
   at-most : i ≤ n
   fewer : m ≤ i
@@ -25,17 +24,21 @@ record Inv (a₀ : List ℕ) (s n mid : ℕ) (a : List ℕ) (i m : ℕ) : Type 0
   high : (j : ℕ) → m ≤ j → j < i → mid ≤ getD a (s + j) 0 / 2
   same : (x : ℕ) → tally a s n x ≡ tally a₀ s n x
 
+-- the bounds of a turn
 record Turn (s n : ℕ) (a : List ℕ) (i m : ℕ) : Type 0 where
   fit : s + n ≤ length a
   fewer : m ≤ i
 
+-- before the first
 begin : {a : List ℕ} {s n mid : ℕ} → s + n ≤ length a → Inv a s n mid a 0 0
 begin p = record { at-most = omega arith; fewer = omega arith; only = only-none _ _ _; low = λ j l. omega arith; high = λ j l h. omega arith; same = λ x. refl }
 
 module _ {a₀ : List ℕ} {s n mid : ℕ} {a : List ℕ} {i m : ℕ} (p : s + n ≤ length a₀) (v : Inv a₀ s n mid a i m) (h : i < n) where
+  -- they hold
   turn : Turn s n a i m
   turn = let l = v .only .long in record { fit = omega arith; fewer = v .fewer }
 
+  -- an entry that stays
   skips : mid ≤ getD a (s + i) 0 / 2 → Inv a₀ s n mid a (i + 1) m
   skips e = record { at-most = omega arith; fewer = omega (arith, v .fewer); only = v .only; low = v .low; high = λ j l q. go j l q (ℕ-discrete j i); same = v .same }
     where
@@ -43,6 +46,7 @@ module _ {a₀ : List ℕ} {s n mid : ℕ} {a : List ℕ} {i m : ℕ} (p : s + n
       go j l q (yes t) = rw t e
       go j l q (no t) = v .high j l (omega arith)
 
+  -- an entry that is exchanged with the first of those not below mid
   keeps : getD a (s + i) 0 / 2 < mid → Inv a₀ s n mid (set (set a (s + i) (getD a (s + m) 0)) (s + m) (getD a (s + i) 0)) (i + 1) (m + 1)
   keeps e =
       let f = v .fewer in
@@ -78,6 +82,7 @@ module _ {a₀ : List ℕ} {s n mid : ℕ} {a : List ℕ} {i m : ℕ} (p : s + n
       high′ j l q (no t) =
           rw (getD-set-other b (s + m) (s + j) (getD a (s + i) 0) 0 (omega arith), getD-set-other a (s + i) (s + j) (getD a (s + m) 0) 0 (omega arith)) (v .high j (omega arith) (omega arith))
 
+-- after the last
 done : {a₀ : List ℕ} {s n mid : ℕ} {a : List ℕ} {i m : ℕ} → s + n ≤ length a₀ → Inv a₀ s n mid a i m → n ≤ i → SplitGives a₀ s n mid a m
 done {a₀} {s} {n} {mid} {a} {i} {m} p v l = let f = v .fewer in let g = v .at-most in record { only = v .only; fewer = omega arith; low = v .low; high = λ j q r. v .high j q (omega arith); same = v .same }
 

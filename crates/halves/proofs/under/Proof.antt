@@ -1,11 +1,10 @@
+-- `halves::under` meets its contract. Assumes nothing.
 use Prim.Native.Nat.{ℕ, _+_, _-_, _≤_, _<_}
 use native.Mathlib.Omega.{arith}
 use mathlib.Core.Logic.{⊎-elim}
 use lib.ListN.{length}
 use Rattle.halves.proofs.under.Statement.{statement}
 use Rattle.halves.proofs.under.Tie as tie
-use Rattle.halves.proofs.under.Reads as reads
-use Rattle.halves.proofs.under.Lts as lts
 
 abbrev Inv-loop : tie.InvT-loop
 Inv-loop a x c₀ i₀ c i = (i ≤ length a) × (c ≤ i)

@@ -1,9 +1,8 @@
+-- `halves::users_of` meets its contract. Assumes nothing.
 use mathlib.Core.Path.{_≡_, refl, sym, ap, _∙_}
 use Rattle.halves.proofs.Weights.{users-same, users-other}
 use Rattle.halves.proofs.users_of.Statement.{statement}
 use Rattle.halves.proofs.users_of.Tie as tie
-use Rattle.halves.proofs.users_of.Reads as reads
-use Rattle.halves.proofs.users_of.Lts as lts
 
 returns : tie.Need-returns
 returns c = sym (users-same (c .before .args .v) (c .before .args .u) (c .before .args .n) (c .before .args .b) (c .if1 .taken))

@@ -1,4 +1,4 @@
--- `halves::visit` meets its contract.
+-- `halves::visit` meets its contract. Assumes nothing.
 use mathlib.Core.Path.{_≡_, refl, sym, ap, subst, _∙_}
 use mathlib.Core.Bool.{Bool, true, false, _&&_}
 use Prim.Native.Nat.{ℕ, zero, suc, _+_, _-_, _*_, _/_, _%_, _≤_, _<_, _^_}
@@ -13,16 +13,9 @@ use Rattle.halves.proofs.Scanning.{pass, meet}
 use borrow.Author.Needs.{needs}
 use Rattle.halves.proofs.visit.Statement.{statement}
 use Rattle.halves.proofs.visit.Tie as tie
-use Rattle.halves.proofs.visit.Reads as reads
-use Rattle.halves.proofs.visit.Lts as lts
-use Rattle.halves.proofs.close.Reads as close-reads
-use Rattle.halves.proofs.crowds.Reads as crowds-reads
-use Rattle.halves.proofs.into_of.Reads as into-of-reads
-use Rattle.halves.proofs.lower.Reads as lower-reads
-use Rattle.halves.proofs.out_of.Reads as out-of-reads
-use Rattle.halves.proofs.users_of.Reads as users-of-reads
 
 module _ {P k n b : ℕ} {t o : State} (p : VisitAsks P k n b t) (q : CloseGives P (k / P) t o) where
+  -- what is known when the vertex is the next
   prior : (c : ℕ → ℕ) → Told c P k t → Upto c P k (o .unique) (o .at) (o .begins) (o .ends) (o .bad)
   prior c w =
       let u = w .going (p .going) in
@@ -30,9 +23,11 @@ module _ {P k n b : ℕ} {t o : State} (p : VisitAsks P k n b t) (q : CloseGives
       q .upto c k (div-mul-le-self k P) (omega arith) ((le-div-iff-mul-le (p .points)) .1 (u .near)) u
 
   module _ {users : ℕ} {r : Bool} (eu : users ≡ usersOf (k / P) (k % P) n b) (er : r ≡ (leb (k / P) (k % P) && ltb 2 users)) where
+    -- the test of a crowded edge
     test : (z : Bool) → r ≡ z → (leb (k / P) (k % P) && ltb 2 (usersOf (k / P) (k % P) n b)) ≡ z
     test z e = rw (← eu) (sym er ∙ e)
 
+    -- it is met
     met : r ≡ true → VisitGives P k n b t (record { unique = o .unique; crowd = true; at = k / P; begins = 0; ends = 0; bad = o .bad })
     met e =
         let s = p .small in
@@ -43,15 +38,19 @@ module _ {P k n b : ℕ} {t o : State} (p : VisitAsks P k n b t) (q : CloseGives
         }
 
     module _ {l x y : ℕ} (el : l ≡ one (leb (k / P) (k % P))) (ex : x ≡ outOf users b) (ey : y ≡ intoOf (k / P) (k % P) users (n - b)) where
+      -- no number wraps
       unique-fits : o .unique + l ≤ k + 1
       unique-fits = let s = p .small .unique in let u = q .unique in omega (arith, one-most (leb (k / P) (k % P)))
 
+      -- nor what begins
       begins-fits : o .begins + x ≤ k + 1
       begins-fits = let s = p .small .begins in let u = q .begins in omega (arith, out-most (k / P) (k % P) n b (p .fewer), ap (λ (z : ℕ). outOf z b) eu)
 
+      -- nor what ends
       ends-fits : o .ends + y ≤ k + 1
       ends-fits = let s = p .small .ends in let u = q .ends in omega (arith, into-most (k / P) (k % P) n b (p .fewer), ap (λ (z : ℕ). intoOf (k / P) (k % P) z (n - b)) eu)
 
+      -- the key is passed
       on : r ≡ false → VisitGives P k n b t (record { unique = o .unique + l; crowd = false; at = o .at; begins = o .begins + x; ends = o .ends + y; bad = o .bad })
       on e =
           record {

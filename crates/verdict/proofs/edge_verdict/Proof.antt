@@ -1,11 +1,8 @@
--- `verdict::edge_verdict` meets its contract.
+-- `verdict::edge_verdict` meets its contract. Assumes nothing.
 use Rattle.verdict.proofs.Verdicts.{verdict-is}
 use borrow.Author.Needs.{needs}
 use Rattle.verdict.proofs.edge_verdict.Statement.{statement}
 use Rattle.verdict.proofs.edge_verdict.Tie as tie
-use Rattle.verdict.proofs.edge_verdict.Reads as reads
-use Rattle.verdict.proofs.edge_verdict.Lts as lts
-use Rattle.halves.proofs.decide.Reads as decide-reads
 
 decide-requires : tie.Need-decide-requires
 decide-requires c κs = search needs

@@ -1,0 +1,74 @@
+-- `verdict_try::both` is safe and ends: the table and the rows are within the stated work room. Assumes nothing.
+use native.Mathlib.Omega.{arith}
+use Rattle.boundary.proofs.Ending.{table-asks, boundary-asks}
+use borrow.Author.Needs.{needs}
+use Rattle.verdict_try.proofs.both.Statement.{statement}
+use Rattle.verdict_try.proofs.both.Tie as tie
+
+edge-verdict-requires : tie.Need-edge-verdict-requires
+edge-verdict-requires c κs = search needs
+
+show-requires : tie.Need-show-requires
+show-requires c κs = search needs
+
+table-requires : tie.Need-table-requires
+table-requires c κs = let p = c .before .before .before .before .before .pre in table-asks (p .input) (p .room-work)
+
+mul-row : tie.Need-mul-row
+mul-row c = search needs
+
+add-row : tie.Need-add-row
+add-row c = search needs
+
+add-row-2 : tie.Need-add-row-2
+add-row-2 c = search needs
+
+boundary-requires : tie.Need-boundary-requires
+boundary-requires c κs = let p = c .before .before .before .before .before .before .before .before .before .pre in boundary-asks (p .input) (p .room-work) (c .before .before .before .table .ensures)
+
+show-requires-2 : tie.Need-show-requires-2
+show-requires-2 c κs = search needs
+
+mul-show-row : tie.Need-mul-show-row
+mul-show-row c = search needs
+
+add-show-row : tie.Need-add-show-row
+add-show-row c = search needs
+
+show-row-requires : tie.Need-show-row-requires
+show-row-requires c κs =
+    let p = c .before .before .before .before .before .before .before .before .before .before .before .before .before .before .pre in
+    let asks = boundary-asks (p .input) (p .room-work) (c .before .before .before .before .before .before .before .before .table .ensures) in
+    omega (arith, asks .fit, c .before .before .before .before .boundary .ensures .only .long)
+
+slice-aggregate-write-all : tie.Need-slice-aggregate-write-all
+slice-aggregate-write-all c = search needs
+
+write-all-requires : tie.Need-write-all-requires
+write-all-requires c κs = search needs
+
+same-length : tie.Need-same-length
+same-length c = search needs
+
+returns : tie.Need-returns
+returns c = search needs
+
+pub both-spec : {M : Type 1} → statement M
+both-spec =
+    tie.close
+    (tie.spec
+    edge-verdict-requires
+    show-requires
+    table-requires
+    mul-row
+    add-row
+    add-row-2
+    boundary-requires
+    show-requires-2
+    mul-show-row
+    add-show-row
+    show-row-requires
+    slice-aggregate-write-all
+    write-all-requires
+    same-length
+    returns)

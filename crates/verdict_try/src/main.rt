@@ -1,0 +1,95 @@
+// Runs real values through both ways to the verdict of the edge call. A line has the verdict from the faces, the verdict from the table, and the
+// third row as it then stands: where it is fine, the vertex to which the boundary goes on from each, and the number of points where it does not.
+use refuse::Verdict;
+ghost use Prim.Native.Nat.{_+_, _≤_};
+ghost use lib.ListN.{length};
+ghost use Rattle.refuse.specs.Accepted.{CheckAccepted};
+
+// Writes a number and a space.
+fn show_number(n: u64) {
+    io::print_decimal(1, n);
+    io::write_all(1, b" ");
+}
+
+// Writes a verdict.
+fn show(found: Verdict) {
+    match found {
+        Verdict::Fine => {
+            io::write_all(1, b"fine ");
+        }
+        Verdict::Refused(number, place) => {
+            show_number(number as u64);
+            io::write_all(1, b"at ");
+            show_number(place as u64);
+        }
+    }
+}
+
+// Writes the n entries from `from` on.
+fn show_row(work: &[u32], from: usize, n: usize)
+    requires { ⌜ from + n ≤ length (now work) ⌝ }
+{
+    let mut i = 0;
+    while i < n {
+        show_number(work[from + i] as u64);
+        i += 1;
+    }
+}
+
+// Both ways, one after the other, in a room that may hold anything.
+fn both(count: usize, faces: &[u32], work: &mut [u32])
+    requires { ⌜ CheckAccepted count (now faces) (length (now work)) ⌝ }
+{
+    show(verdict::edge_verdict(count, faces));
+    let m = table::table(work, faces, count, false, 0);
+    let row = 5 * faces.len() + 1 + count;
+    show(boundary::boundary(work, faces, count, 0, m, row));
+    show_row(work, row + 2 * count, count);
+    io::write_all(1, b"\n");
+}
+
+// Both ways for faces over a number of points, in a room of 400 entries that all are 7.
+fn run(count: usize, faces: &[u32]) {
+    let mut work = [7; 400];
+    match refuse::check_check(count, faces, 400) {
+        Verdict::Fine => {
+            both(count, faces, &mut work);
+        }
+        Verdict::Refused(_, _) => {
+            io::write_all(1, b"refused before\n");
+        }
+    }
+}
+
+// Fine: no faces, a face, two that share an edge, a face that repeats a corner, a closed shell, two loops.
+fn fine_ones() {
+    let faces = [0, 1, 2, 0, 2, 3];
+    run(2, &faces[..0]);
+    run(3, &faces[..3]);
+    run(4, &faces);
+    run(2, &[0, 0, 1]);
+    run(4, &[0, 1, 2, 0, 2, 3, 0, 3, 1, 1, 3, 2]);
+    run(6, &[0, 2, 4, 5, 3, 1]);
+}
+
+// 7: an edge that occurs three times, first and last of all; one that a single face uses three times.
+fn crowded_ones() {
+    run(5, &[0, 1, 2, 0, 1, 3, 0, 1, 4]);
+    run(5, &[3, 4, 2, 3, 4, 1, 4, 3, 0]);
+    run(2, &[1, 1, 1]);
+}
+
+// 8: faces that meet in one point, faces turned against each other, and 5 before either.
+fn split_ones() {
+    run(5, &[0, 1, 2, 0, 3, 4]);
+    run(5, &[3, 0, 1, 3, 2, 4]);
+    run(4, &[0, 1, 2, 0, 1, 3]);
+    run(4, &[2, 3, 0, 2, 3, 1]);
+    run(2, &[0, 1, 2]);
+}
+
+fn main() {
+    fine_ones();
+    crowded_ones();
+    split_ones();
+}

@@ -1,0 +1,8 @@
+-- `Reading` has what the work room says of the walk.
+pub mod Reading
+-- `Visiting` has one face that is visited or reached.
+pub mod Visiting
+-- `Meeting` has who of a run does not make a step.
+pub mod Meeting
+-- `Running` has the loops over a run.
+pub mod Running

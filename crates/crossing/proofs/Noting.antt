@@ -1,0 +1,114 @@
+-- Who disagrees is noted of an edge, and read again; the component is marked. Assumes nothing.
+use mathlib.Core.Path.{_≡_, refl, sym, ap, _∙_}
+use mathlib.Core.Bool.{Bool, true, false, not, _&&_, _||_, cond, or-false, or-true}
+use mathlib.Core.List.{List, [], _∷_}
+use Prim.Native.Nat.{ℕ, zero, suc, _+_, _*_, _≤_, _<_, min, max}
+use native.Mathlib.Omega.{arith}
+use native.Mathlib.Numerals.{add-one}
+use native.Mathlib.Decide.{ℕ-discrete}
+use borrow.Author.Tests.{eq-eqb, ne-eqb, le-leb, lt-leb}
+use lib.Dec.{eqb, leb}
+use lib.ListN.{length, getD, set, length-set}
+use lib.Seq.{getD-set-same, getD-set-other}
+use Rattle.rows.specs.Region.{part, Only}
+use Rattle.rows.proofs.Regions.{part-eq, only-none, only-both, only-set}
+use Rattle.rules.specs.Mesh.{Face, facesOf}
+use Rattle.rules.specs.Steps.{step}
+use Rattle.rules.specs.Pass4.{Walk, remark}
+use Rattle.orienting.specs.Reaching.{other, lone}
+use Rattle.reaching.specs.Walking.{stackOf, walkOf, facesIn, RunAsks}
+use Rattle.reaching.proofs.Reading.{stack-same}
+use Rattle.crossing.specs.Crossing.{NoteAsks, NoteGives, WhoAsks, disagreeing, MarkAsks, MarkGives}
+
+-- ---- note
+
+-- the bounds of the three stores
+pub record Bounds (w : List ℕ) (n r : ℕ) : Type 0 where
+  pub few : n ≤ 4194304
+  pub fit : 3 + 11 * n ≤ length w
+  pub here : r < 3 * n
+
+module _ {w xs : List ℕ} {n r from to : ℕ} (p : NoteAsks w xs n r from to) where
+  pub note-bounds : Bounds w n r
+  note-bounds = record { few = p .run .ready .fits .few; fit = p .run .ready .fits .fit; here = p .here }
+
+module _ {w xs : List ℕ} {n r from to : ℕ} (p : NoteAsks w xs n r from to) (low high up down : ℕ) where
+  abbrev w₁ : List ℕ
+  w₁ = set w (3 + 5 * n + r) up
+
+  abbrev w₂ : List ℕ
+  w₂ = set w₁ (3 + 8 * n + r) down
+
+  abbrev w₃ : List ℕ
+  w₃ = set w₂ (3 + 2 * n + r) 1
+
+  -- the other entries are as they were
+  others : (q : ℕ) → (q ≡ 3 + 2 * n + r → ⊥) → (q ≡ 3 + 8 * n + r → ⊥) → (q ≡ 3 + 5 * n + r → ⊥) → getD w₃ q 0 ≡ getD w q 0
+  others q a b c = getD-set-other w₂ (3 + 2 * n + r) q 1 0 a ∙ getD-set-other w₁ (3 + 8 * n + r) q down 0 b ∙ getD-set-other w (3 + 5 * n + r) q up 0 c
+
+  pub note-gives :
+      up ≡ lone (n + 1) (walkOf (facesOf xs) n w .faces) (step high low) (facesIn w from to)
+      → down ≡ lone (n + 1) (walkOf (facesOf xs) n w .faces) (step low high) (facesIn w from to)
+      → NoteGives w xs n r from to low high w₃
+  note-gives u d =
+      let k = note-bounds p in
+      let l₁ = length-set w (3 + 5 * n + r) up in
+      let l₂ = length-set w₁ (3 + 8 * n + r) down in
+      record {
+        only =
+            only-both (only-set w (3 + 5 * n + r) up (omega arith) (omega (arith, k)))
+            (only-both (only-set w₁ (3 + 8 * n + r) down (omega arith) (omega (arith, k)))
+            (only-set w₂ (3 + 2 * n + r) 1 (omega arith) (omega (arith, k))));
+        others = λ q ne h. (
+          others (3 + 2 * n + q) (λ z. ne (omega arith)) (λ z. absurd (omega arith)) (λ z. absurd (omega arith)),
+          others (3 + 5 * n + q) (λ z. absurd (omega (arith, k))) (λ z. absurd (omega arith)) (λ z. ne (omega arith)),
+          others (3 + 8 * n + q) (λ z. absurd (omega (arith, k))) (λ z. ne (omega arith)) (λ z. absurd (omega (arith, k))),
+        );
+        up = getD-set-other w₂ (3 + 2 * n + r) (3 + 5 * n + r) 1 0 (λ z. absurd (omega (arith, k)))
+            ∙ getD-set-other w₁ (3 + 8 * n + r) (3 + 5 * n + r) down 0 (λ z. absurd (omega (arith, k)))
+            ∙ getD-set-same w (3 + 5 * n + r) up 0 (omega (arith, k)) ∙ u;
+        down = getD-set-other w₂ (3 + 2 * n + r) (3 + 8 * n + r) 1 0 (λ z. absurd (omega (arith, k)))
+            ∙ getD-set-same w₁ (3 + 8 * n + r) down 0 (omega (arith, k)) ∙ d;
+      }
+
+-- ---- who
+
+-- as it is noted for the way of the step
+pub who-up : {w : List ℕ} {n r : ℕ} → WhoAsks w n r → (x y : ℕ) → x ≤ y → getD w (3 + 5 * n + r) 0 ≡ disagreeing w n r x y
+who-up p x y h = rw (le-leb x y h)
+
+pub who-down : {w : List ℕ} {n r : ℕ} → WhoAsks w n r → (x y : ℕ) → y < x → getD w (3 + 8 * n + r) 0 ≡ disagreeing w n r x y
+who-down p x y h = rw (lt-leb x y h)
+
+-- ---- mark
+
+module _ {w : List ℕ} {n j known : ℕ} (p : MarkAsks w n j) where
+  -- nobody
+  pub mark-none : known ≡ 0 → MarkGives w n j known w
+  unfolding other remark
+  mark-none e = record { only = only-none 2 1 w; walk = λ fs. rw (eq-eqb known 0 e, or-false (walkOf fs n w .mark)) }
+
+  -- the face itself
+  pub mark-self : (known ≡ 0 → ⊥) → known ≡ j + 1 → MarkGives w n j known w
+  unfolding other remark
+  mark-self z e = record { only = only-none 2 1 w; walk = λ fs. rw (ne-eqb known 0 z, eq-eqb known (suc j) (e ∙ add-one j), or-false (walkOf fs n w .mark)) }
+
+  -- another
+  pub mark-other : (known ≡ 0 → ⊥) → (known ≡ j + 1 → ⊥) → MarkGives w n j known (set w 2 1)
+  unfolding other remark walkOf
+  mark-other z e =
+      let l = length-set w 2 1 in
+      record {
+        only = only-set w 2 1 (omega arith) (omega arith);
+        walk = λ fs.
+            let s : part (set w 2 1) 3 n ≡ part w 3 n =
+            part-eq (set w 2 1) w 3 3 n (omega (arith, p .fit)) (omega (arith, p .fit)) (λ i q. getD-set-other w 2 (3 + i) 1 0 (λ y. absurd (omega arith)))
+            in
+            let top : getD (set w 2 1) 0 0 ≡ getD w 0 0 = getD-set-other w 2 0 1 0 (λ y. absurd (omega arith)) in
+            let k : stackOf (set w 2 1) (3 + n) (getD (set w 2 1) 0 0) ≡ stackOf w (3 + n) (getD w 0 0) =
+            ap (stackOf (set w 2 1) (3 + n)) top ∙ stack-same w (set w 2 1) (3 + n) (getD w 0 0) (λ i q. getD-set-other w 2 (3 + n + i) 1 0 (λ y. absurd (omega arith)))
+            in
+            let x : getD (set w 2 1) 1 0 ≡ getD w 1 0 = getD-set-other w 2 1 1 0 (λ y. absurd (omega arith)) in
+            let m : getD (set w 2 1) 2 0 ≡ 1 = getD-set-same w 2 1 0 (omega (arith, p .fit)) in
+            rw (s, k, x, m, ne-eqb known 0 z, ne-eqb known (suc j) (λ q. e (q ∙ sym (add-one j))), or-true (not (eqb (getD w 2 0) 0)));
+      }

@@ -1,0 +1,124 @@
+-- A face crosses its edges: what is known of edges that were crossed, and what the functions ask and give. xs are the corners of the n faces as
+-- they were, w and w′ the work room before and after. Definitions only.
+use mathlib.Core.Path.{_≡_}
+use mathlib.Core.Bool.{Bool, true, false, not, cond}
+use mathlib.Core.List.{List, [], _∷_}
+use Prim.Native.Nat.{ℕ, zero, suc, _+_, _*_, _≤_, _<_}
+use lib.Dec.{leb}
+use lib.ListN.{length, getD}
+use Rattle.rows.specs.Region.{Only}
+use Rattle.rules.specs.Lists.{through}
+use Rattle.rules.specs.Mesh.{Face, facesOf, face}
+use Rattle.rules.specs.Steps.{Step, step, steps, edge, opposite, users, edges}
+use Rattle.rules.specs.Pass4.{Walk, remark, across}
+use Rattle.rules.proofs.Rising.{All}
+use Rattle.table.specs.Entries.{stepAt}
+use Rattle.table.specs.Table.{Tabled}
+use Rattle.table.proofs.Places.{none}
+use Rattle.orienting.specs.Reaching.{reach, other, lone}
+use Rattle.reaching.specs.Walking.{walkOf, facesIn, Ready, RunAsks}
+
+-- edge e, of number r, was crossed: all its users are visited, and it is noted who disagrees with a step along it, either way
+pub record Crossed (w xs : List ℕ) (n : ℕ) (e : Step) (r : ℕ) : Type 0 where
+  pub seen : All (λ i. getD (walkOf (facesOf xs) n w .visited) i false ≡ true) (users (facesOf xs) e)
+  pub up : getD w (3 + 5 * n + r) 0 ≡ lone (n + 1) (walkOf (facesOf xs) n w .faces) (opposite e) (users (facesOf xs) e)
+  pub down : getD w (3 + 8 * n + r) 0 ≡ lone (n + 1) (walkOf (facesOf xs) n w .faces) e (users (facesOf xs) e)
+
+-- a sound walk, the table of the faces as they were, and what is noted of crossed edges
+pub record Going (w xs : List ℕ) (n : ℕ) : Type 0 where
+  pub ready : Ready w xs n
+  pub points : ℕ
+  pub runs : ℕ
+  pub tabled : Tabled w xs points false (3 + 11 * n) runs
+  pub crossed : (r : ℕ) → r < runs → (getD w (3 + 2 * n + r) 0 ≡ 0 → ⊥) → Crossed w xs n (getD (edges points (facesOf xs)) r none) r
+
+-- a run of entries, and the number of an edge
+pub record NoteAsks (w xs : List ℕ) (n r from to : ℕ) : Type 0 where
+  pub run : RunAsks w xs n from to
+  pub here : r < 3 * n
+
+-- it is noted of edge r who disagrees, either way
+pub record NoteGives (w xs : List ℕ) (n r from to low high : ℕ) (w′ : List ℕ) : Type 0 where
+  pub only : Only (3 + 2 * n) (9 * n) w w′
+  pub others : (q : ℕ) → (q ≡ r → ⊥) → q < 3 * n → (getD w′ (3 + 2 * n + q) 0 ≡ getD w (3 + 2 * n + q) 0) × (getD w′ (3 + 5 * n + q) 0 ≡ getD w (3 + 5 * n + q) 0) × (getD w′ (3 + 8 * n + q) 0 ≡ getD w (3 + 8 * n + q) 0)
+  pub up : getD w′ (3 + 5 * n + r) 0 ≡ lone (n + 1) (walkOf (facesOf xs) n w .faces) (step high low) (facesIn w from to)
+  pub down : getD w′ (3 + 8 * n + r) 0 ≡ lone (n + 1) (walkOf (facesOf xs) n w .faces) (step low high) (facesIn w from to)
+
+-- the step from x to y is along edge r
+pub record SettleAsks (w xs : List ℕ) (n r x y : ℕ) : Type 0 where
+  pub going : Going w xs n
+  pub here : r < going .runs
+  pub along : getD (edges (going .points) (facesOf xs)) r none ≡ edge (step x y)
+
+-- its users are reached, and then it is crossed
+pub record SettleGives (w xs : List ℕ) (n r x y : ℕ) (w′ : List ℕ) : Type 0 where
+  pub only : Only 0 (3 + 11 * n) w w′
+  pub going : Going w′ xs n
+  pub walk : walkOf (facesOf xs) n w′ ≡ through (reach (step x y)) (walkOf (facesOf xs) n w) (users (facesOf xs) (edge (step x y)))
+  pub few : r < 3 * n
+  pub crossed : Crossed w′ xs n (edge (step x y)) r
+
+-- r is the number of an edge
+pub record WhoAsks (w : List ℕ) (n r : ℕ) : Type 0 where
+  pub few : n ≤ 4194304
+  pub fit : 3 + 11 * n ≤ length w
+  pub here : r < 3 * n
+
+-- who disagrees with a step from x to y, as it is noted
+abbrev pub disagreeing : List ℕ → ℕ → ℕ → ℕ → ℕ → ℕ
+disagreeing w n r x y = cond (leb x y) (getD w (3 + 5 * n + r) 0) (getD w (3 + 8 * n + r) 0)
+
+-- j is a face
+pub record MarkAsks (w : List ℕ) (n j : ℕ) : Type 0 where
+  pub few : n ≤ 4194304
+  pub fit : 3 + 11 * n ≤ length w
+  pub here : j < n
+
+-- the component is marked, if another than face j is known
+pub record MarkGives (w : List ℕ) (n j known : ℕ) (w′ : List ℕ) : Type 0 where
+  pub only : Only 2 1 w w′
+  pub walk : (fs : List Face) → walkOf fs n w′ ≡ remark (not (other j known)) (walkOf fs n w)
+
+-- face j is visited, and the step from x to y is along the edge of entry `id`
+pub record CrossAsks (w xs : List ℕ) (n j id x y : ℕ) : Type 0 where
+  pub going : Going w xs n
+  pub here : j < n
+  pub seen : getD (walkOf (facesOf xs) n w .visited) j false ≡ true
+  pub entry : id < 3 * n
+  pub along : edge (stepAt (facesOf xs) id) ≡ edge (step x y)
+
+-- face j crosses by that step; those visited stay so
+pub record CrossGives (w xs : List ℕ) (n j x y : ℕ) (w′ : List ℕ) : Type 0 where
+  pub only : Only 0 (3 + 11 * n) w w′
+  pub going : Going w′ xs n
+  pub walk : walkOf (facesOf xs) n w′ ≡ across j (walkOf (facesOf xs) n w) (step x y)
+  pub stay : getD (walkOf (facesOf xs) n w′ .visited) j false ≡ true
+
+-- face j is visited, and entries are under the edges of a, b and c
+pub record ThreeAsks (w xs : List ℕ) (n j a b c first last : ℕ) : Type 0 where
+  pub going : Going w xs n
+  pub here : j < n
+  pub seen : getD (walkOf (facesOf xs) n w .visited) j false ≡ true
+  pub is-first : first < 3 * n
+  pub is-last : last < 3 * n
+  pub along-first : edge (stepAt (facesOf xs) first) ≡ edge (step a b)
+  pub along-second : edge (stepAt (facesOf xs) (3 * j + 1)) ≡ edge (step b c)
+  pub along-last : edge (stepAt (facesOf xs) last) ≡ edge (step c a)
+
+-- face j crosses them in order
+pub record ThreeGives (w xs : List ℕ) (n j a b c : ℕ) (w′ : List ℕ) : Type 0 where
+  pub only : Only 0 (3 + 11 * n) w w′
+  pub going : Going w′ xs n
+  pub walk : walkOf (facesOf xs) n w′ ≡ through (across j) (walkOf (facesOf xs) n w) (step a b ∷ step b c ∷ step c a ∷ [])
+
+-- face j is visited
+pub record FaceAsks (w xs : List ℕ) (n j : ℕ) : Type 0 where
+  pub going : Going w xs n
+  pub here : j < n
+  pub seen : getD (walkOf (facesOf xs) n w .visited) j false ≡ true
+
+-- it crosses its edges as it stands
+pub record FaceGives (w xs : List ℕ) (n j : ℕ) (w′ : List ℕ) : Type 0 where
+  pub only : Only 0 (3 + 11 * n) w w′
+  pub going : Going w′ xs n
+  pub walk : walkOf (facesOf xs) n w′ ≡ through (across j) (walkOf (facesOf xs) n w) (steps (face (walkOf (facesOf xs) n w .faces) j))

@@ -1,0 +1,10 @@
+-- `Popping` has one turn of the walk, and the walk until the stack is empty.
+pub mod Popping
+-- `Starting` has a component that is started.
+pub mod Starting
+-- `Beginning` has component after component.
+pub mod Beginning
+-- `Turning` has the faces under their states.
+pub mod Turning
+-- `Orienting` has the whole.
+pub mod Orienting

@@ -1,0 +1,48 @@
+-- `drops_try::thin_ones` meets what its calls ask: antt computes the lengths and the corners. Assumes nothing.
+use mathlib.Core.Path.{refl}
+use Rattle.rules.specs.Rooms.{work-room}
+use Rattle.drops_try.proofs.Ready.{stands}
+use borrow.Author.Needs.{needs}
+use Rattle.drops_try.proofs.thin_ones.Statement.{statement}
+use Rattle.drops_try.proofs.thin_ones.Tie as tie
+
+slice-aggregate-degenerate : tie.Need-slice-aggregate-degenerate
+slice-aggregate-degenerate c = search needs
+
+slice-aggregate-degenerate-2 : tie.Need-slice-aggregate-degenerate-2
+slice-aggregate-degenerate-2 c = search needs
+
+slice-aggregate-degenerate-3 : tie.Need-slice-aggregate-degenerate-3
+slice-aggregate-degenerate-3 c = search needs
+
+degenerate-requires : tie.Need-degenerate-requires
+degenerate-requires c κs = record { whole = refl; stand = unfold work-room in (stands _ _ _ _ refl refl refl refl refl) }
+
+slice-aggregate-degenerate-4 : tie.Need-slice-aggregate-degenerate-4
+slice-aggregate-degenerate-4 c = search needs
+
+slice-aggregate-degenerate-5 : tie.Need-slice-aggregate-degenerate-5
+slice-aggregate-degenerate-5 c = search needs
+
+slice-aggregate-degenerate-6 : tie.Need-slice-aggregate-degenerate-6
+slice-aggregate-degenerate-6 c = search needs
+
+degenerate-requires-2 : tie.Need-degenerate-requires-2
+degenerate-requires-2 c κs = record { whole = refl; stand = unfold work-room in (stands _ _ _ _ refl refl refl refl refl) }
+
+returns : tie.Need-returns
+returns c = search needs
+
+pub thin-ones-spec : {M : Type 1} → statement M
+thin-ones-spec =
+    tie.close
+    (tie.spec
+    slice-aggregate-degenerate
+    slice-aggregate-degenerate-2
+    slice-aggregate-degenerate-3
+    degenerate-requires
+    slice-aggregate-degenerate-4
+    slice-aggregate-degenerate-5
+    slice-aggregate-degenerate-6
+    degenerate-requires-2
+    returns)

@@ -1,0 +1,170 @@
+// Runs passes 1, 2 and 6 on small rooms. A line has how many faces or points stay, and the room of the faces after the pass: beyond the faces that
+// the pass was given it holds 9, as before.
+ghost use Rattle.leaving.specs.Pass.{FacesStand, PassAsks};
+ghost use Rattle.drop_isolated_vertices.specs.Unused.{UnusedAsks};
+
+// A u32 as a u64.
+fn wide(x: u32) -> u64 {
+    x as u64
+}
+
+// Writes a number and a space.
+fn show_number(n: u64) {
+    io::print_decimal(1, n);
+    io::write_all(1, b" ");
+}
+
+// Writes the numbers of a row, and ends the line.
+fn show(row: &[u32]) {
+    let mut i = 0;
+    while i < row.len() {
+        show_number(wide(row[i]));
+        i += 1;
+    }
+    io::write_all(1, b"\n");
+}
+
+// Writes how many entries of two rows of floats are equal, from the front on.
+fn show_equal(row: &[f64], other: &[f64]) {
+    let mut i = 0;
+    while i < row.len() {
+        if i >= other.len() {
+            break;
+        }
+        if row[i] != other[i] {
+            break;
+        }
+        i += 1;
+    }
+    show_number(i as u64);
+    io::write_all(1, b"\n");
+}
+
+// Pass 1.
+fn degenerate(points: &[f64], s: f64, faces: &mut [u32], n: usize, work: &mut [u32])
+    requires { ⌜ PassAsks (now points) (now faces) n (now work) ⌝ }
+{
+    show_number(drop_degenerate::drop_degenerate(points, s, faces, n, work) as u64);
+    show(faces);
+}
+
+// Pass 2.
+fn duplicate(faces: &mut [u32], n: usize, count: usize, work: &mut [u32])
+    requires { ⌜ FacesStand count (now faces) n (now work) ⌝ }
+{
+    show_number(drop_duplicate_faces::drop_duplicate_faces(faces, n, count, work) as u64);
+    show(faces);
+}
+
+// Pass 6.
+fn isolated(points: &mut [f64], count: usize, faces: &mut [u32], n: usize, work: &mut [u32])
+    requires { ⌜ UnusedAsks (now points) count (now faces) n (now work) ⌝ }
+{
+    show_number(
+        drop_isolated_vertices::drop_isolated_vertices(points, count, faces, n, work) as u64,
+    );
+    show(faces);
+}
+
+// A good face, one with its corners in line, one that repeats a corner, and a good one. At the threshold 1 the right angles are degenerate too.
+fn thin_ones() {
+    let points = [
+        0.0,
+        0.0,
+        0.0,
+        1.0,
+        0.0,
+        0.0,
+        0.0,
+        1.0,
+        0.0,
+        0.0,
+        0.0,
+        1.0,
+        2.0,
+        0.0,
+        0.0,
+    ];
+    let mut work = [7; 400];
+    let mut faces = [0, 1, 2, 0, 1, 4, 1, 1, 2, 3, 0, 2, 9, 9, 9];
+    degenerate(&points, 0.0009765625, &mut faces, 4, &mut work);
+    let mut others = [0, 1, 2, 0, 1, 4, 1, 1, 2, 3, 0, 2, 9, 9, 9];
+    let mut room = [7; 400];
+    degenerate(&points, 1.0, &mut others, 4, &mut room);
+}
+
+// Faces with the same corners in another order, and faces that repeat a corner: two of one point and one of the other, and the other way.
+fn alike_ones() {
+    let mut work = [7; 704];
+    let mut faces = [
+        0,
+        1,
+        2,
+        3,
+        1,
+        2,
+        2,
+        1,
+        0,
+        1,
+        0,
+        0,
+        1,
+        2,
+        3,
+        1,
+        1,
+        0,
+        1,
+        0,
+        2,
+        0,
+        1,
+        1,
+        0,
+        0,
+        1,
+        9,
+        9,
+    ];
+    duplicate(&mut faces, 9, 4, &mut work);
+    let mut same = [1, 1, 1, 1, 1, 1, 1, 1, 1, 9];
+    let mut room = [7; 300];
+    duplicate(&mut same, 3, 2, &mut room);
+}
+
+// Of five points two are unused, and what lies beyond them stays. Of one point with no face none stays.
+fn unused_ones() {
+    let mut work = [7; 12];
+    let mut points = [
+        0.0,
+        0.0,
+        0.0,
+        1.0,
+        0.0,
+        0.0,
+        0.0,
+        1.0,
+        0.0,
+        0.0,
+        0.0,
+        1.0,
+        2.0,
+        0.0,
+        0.0,
+        5.0,
+        6.0,
+        7.0,
+    ];
+    let mut faces = [4, 1, 2, 4, 2, 1, 9];
+    isolated(&mut points, 5, &mut faces, 2, &mut work);
+    show_equal(&points, &[1.0, 0.0, 0.0, 0.0, 1.0, 0.0, 2.0, 0.0, 0.0]);
+    show_equal(&points[15..], &[5.0, 6.0, 7.0]);
+    isolated(&mut points, 1, &mut faces, 0, &mut work);
+}
+
+fn main() {
+    thin_ones();
+    alike_ones();
+    unused_ones();
+}

@@ -2,18 +2,18 @@
 use mathlib.Core.Path.{_≡_, refl, sym, ap, _∙_}
 use mathlib.Core.Bool.{Bool, true, false, not, _&&_, _||_, cond}
 use mathlib.Core.List.{List, [], _∷_}
-use Prim.Native.Nat.{ℕ, _+_, _-_, _*_, _/_, _≤_, _<_}
+use Prim.Native.Nat.{ℕ, _+_, _-_, _/_, _≤_, _<_}
 use native.Mathlib.Omega.{arith}
 use borrow.Author.Tests.{lt-ltb, le-ltb}
 use lib.Dec.{eqb}
-use lib.ListN.{length, getD, take, length-map}
+use lib.ListN.{length, take, length-map}
 use lib.Seq.{take-length}
 use lib.Ieee.{Float}
 use Rattle.rows.specs.Region.{Only}
 use Rattle.rows.proofs.Regions.{only-none}
 use Rattle.rules.specs.Lists.{filter, any, has, count}
 use Rattle.rules.specs.Mesh.{face, facesOf, pointsOf}
-use Rattle.rules.specs.Steps.{step, walks, users, edges}
+use Rattle.rules.specs.Steps.{Step, walks, users, edges}
 use Rattle.rules.specs.Pass3.{crowded, second, kept, marked3}
 use Rattle.rules.proofs.Counting.{count-append}
 use Rattle.rules.proofs.Flat.{length-points}
@@ -22,7 +22,7 @@ use Rattle.table.specs.Table.{TableGives}
 use Rattle.table.proofs.Ids.{edges-keys}
 use Rattle.rank.specs.Ranks.{facesIn, valueOf, others, BestAsks, BestGives, SecondAsks, RankAsks}
 use Rattle.marking.specs.Marking.{pointCount, faceCount, edgeAt, MarkAsks, RunAsks, LostGives}
-use Rattle.marking.proofs.Reading.{from, next, handedOn, region, bounds, handed-region, run-long, run-in, edge-read, run-users}
+use Rattle.marking.proofs.Reading.{from, next, handedOn, region, bounds, handed-region, run-long, run-in, run-users}
 use Rattle.marking.proofs.Running.{Passed, lostAmong, next-keys}
 use Rattle.marking.proofs.Running as running
 use Rattle.resolve_nonmanifold_edges.specs.Crowds.{crowds, lostAt, lostOf, EdgeGives, EdgesGives}
@@ -48,26 +48,20 @@ module _ {ps : List Float} {xs w : List ℕ} {marks r : ℕ} (p : RunAsks false 
       let z : crowds (facesOf xs) (edgeAt false ps xs r) ≡ false = le-ltb 2 (length (users (facesOf xs) (edgeAt false ps xs r))) (omega (arith, users-long)) in
       record { lost = record { only = only-none _ _ _; added = record { each = λ i q. rw z } }; counted = rw z }
 
-  module _ (h : 2 < next xs w r - from xs w r) {one : ℕ} (b : BestGives ps xs (handedOn xs w r) one) where
+  module _ {one : ℕ} (b : BestGives ps xs (handedOn xs w r) one) where
     -- a second choice may be asked for
-    pub second-ok : SecondAsks ps xs (handedOn xs w r) one
-    second-ok = record { rank = rank-ok; two = omega (arith, run-long p); one-in = b .here }
+    pub second-ok : 1 < next xs w r - from xs w r → SecondAsks ps xs (handedOn xs w r) one
+    second-ok h = record { rank = rank-ok; two = omega (arith, run-long p); one-in = b .here }
 
-    abbrev lower : ℕ
-    lower = getD w (getD w (3 * length xs + from xs w r) 0) 0
-
-    abbrev higher : ℕ
-    higher = getD w (length xs + getD w (3 * length xs + from xs w r) 0) 0
-
-    module _ {two : ℕ} (s : two ≡ second (valueOf ps xs) one (facesIn (handedOn xs w r)) (others (facesOf xs) (step lower higher) (walks (face (facesOf xs) one) (step lower higher)) (facesIn (handedOn xs w r)))) where
+    module _ {e : Step} (ee : e ≡ edgeAt false ps xs r) {two : ℕ} (s : two ≡ second (valueOf ps xs) one (facesIn (handedOn xs w r)) (others (facesOf xs) e (walks (face (facesOf xs) one) e) (facesIn (handedOn xs w r)))) where
       -- the two are those that the rules keep
       kept-is : (i : ℕ) → kept (valueOf ps xs) (facesOf xs) (edgeAt false ps xs r) (users (facesOf xs) (edgeAt false ps xs r)) i ≡ (eqb i one || eqb i two)
       unfolding kept others
-      kept-is i = rw (s, edge-read p, run-users p, b .first, run-users p)
+      kept-is i = rw (s, ee, run-users p, b .first, run-users p)
 
       -- a crowded edge: all but the two are lost, and it is counted
-      pub many : {w′ : List ℕ} → LostGives (lostOf (facesIn (region xs w r)) one two) w marks (faceCount xs) w′ → EdgeGives ps xs w marks r w′ 1
-      many g =
+      pub many : 2 < next xs w r - from xs w r → {w′ : List ℕ} → LostGives (lostOf (facesIn (region xs w r)) one two) w marks (faceCount xs) w′ → EdgeGives ps xs w marks r w′ 1
+      many h g =
           let z : crowds (facesOf xs) (edgeAt false ps xs r) ≡ true = lt-ltb 2 (length (users (facesOf xs) (edgeAt false ps xs r))) (omega (arith, users-long)) in
           let u : facesIn (region xs w r) ≡ users (facesOf xs) (edgeAt false ps xs r) = ap facesIn (sym (handed-region p)) ∙ run-users p in
           record {

@@ -1,7 +1,7 @@
 -- `resolve_nonmanifold_edges::resolve_edge` meets its contract: an edge with few entries loses nothing, and of a crowded one two faces are kept.
 -- Assumes nothing.
 use native.Mathlib.Omega.{arith}
-use Rattle.marking.proofs.Reading.{bounds, entries-ok}
+use Rattle.marking.proofs.Reading.{bounds, entries-ok, edge-read}
 use Rattle.resolve_nonmanifold_edges.proofs.Crowding.{best-ok, few, second-ok, many}
 use borrow.Author.Needs.{needs}
 use Rattle.resolve_nonmanifold_edges.proofs.resolve_edge.Statement.{statement}
@@ -46,7 +46,7 @@ sub-if1 c = omega (arith, bounds (c .before .before .before .before .before .pre
 returns : tie.Need-returns
 returns c =
     let start = c .before .before .before .before .before .before in
-    few (start .pre) (c .if1 .taken)
+    few (start .pre) (omega (arith, c .if1 .taken))
 
 mul-first : tie.Need-mul-first
 mul-first c = search needs
@@ -117,7 +117,7 @@ second-requires : tie.Need-second-requires
 second-requires c κs =
     let at-best = c .before .before .before .before .before in
     let start = at-best .before .before .before .before .before .before .before .before .before in
-    second-ok (start .pre) (at-best .before .before .before .if1 .left) (at-best .best .ensures)
+    second-ok (start .pre) (at-best .best .ensures) (omega (arith, at-best .before .before .before .if1 .left))
 
 sub-mark-others : tie.Need-sub-mark-others
 sub-mark-others c = search needs
@@ -138,7 +138,7 @@ returns-2 c =
     let at-second = at-mark-others .before .before in
     let at-best = at-second .before .before .before .before .before .before in
     let start = at-best .before .before .before .before .before .before .before .before .before in
-    many (start .pre) (at-best .before .before .before .if1 .left) (at-best .best .ensures) (at-second .second .ensures) (at-mark-others .mark-others .ensures)
+    many (start .pre) (at-best .best .ensures) (edge-read (start .pre)) (at-second .second .ensures) (omega (arith, at-best .before .before .before .if1 .left)) (at-mark-others .mark-others .ensures)
 
 pub resolve-edge-spec : {M : Type 1} → statement M
 resolve-edge-spec =

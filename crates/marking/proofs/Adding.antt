@@ -34,6 +34,7 @@ module _ (lost : ℕ → ℕ → Bool) {w₀ : List ℕ} {from len marks F : ℕ
       pub same-entry : getD w (from + k) 0 ≡ getD w₀ (from + k) 0
       same-entry = kept-at (v .only) (before (p .behind)) k h
 
+      -- a turn may be made
       pub turn : Turn w from len marks F k
       turn =
           let l = v .only .long in

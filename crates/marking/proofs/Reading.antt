@@ -1,4 +1,5 @@
--- What is read of run r of the table at the front of the work room: bounds, the run as it is handed on and as a region, and its edge. Assumes nothing.
+-- What is read of run r of the table at the front of the work room: bounds, the run as it is handed on to be ranked and as a region, and its edge.
+-- Assumes nothing.
 use mathlib.Core.Path.{_≡_, ap}
 use mathlib.Core.Bool.{Bool, true, false}
 use mathlib.Core.List.{List, map}
@@ -14,12 +15,14 @@ use Rattle.rules.specs.Steps.{step, users, walkers}
 use Rattle.table.proofs.Ids.{edges-keys, directed-keys}
 use Rattle.table.proofs.Theorems.{key-row}
 use Rattle.table.proofs.Handing.{at-run, handed-long, handed-in, handed-users, handed-walkers}
+use Rattle.rank.specs.Ranks.{RankAsks, BestAsks}
 use Rattle.marking.specs.Marking.{pointCount, faceCount, edgeAt, RunAsks, EntriesAsks}
 
--- where run r begins and where the next one does
+-- where run r begins
 abbrev pub from : List ℕ → List ℕ → ℕ → ℕ
 from xs w r = getD w (4 * length xs + r) 0
 
+-- where the next one does
 abbrev pub next : List ℕ → List ℕ → ℕ → ℕ
 next xs w r = getD w (4 * length xs + r + 1) 0
 
@@ -33,15 +36,16 @@ pub record Bounds (xs w : List ℕ) (marks r : ℕ) : Type 0 where
   pub last : next xs w r ≤ length xs
   pub id : getD w (3 * length xs + from xs w r) 0 < length xs
 
--- the run as it is handed on, and as a region
+-- the run as it is handed on: the part of the slice from its first to its last entry
 abbrev pub handedOn : List ℕ → List ℕ → ℕ → List ℕ
 handedOn xs w r = take (3 * length xs + next xs w r - (3 * length xs + from xs w r)) (drop (3 * length xs + from xs w r) w)
 
+-- the run as a region
 abbrev pub region : List ℕ → List ℕ → ℕ → List ℕ
 region xs w r = part w (3 * length xs + from xs w r) (next xs w r - from xs w r)
 
 module _ {d : Bool} {ps : List Float} {xs w : List ℕ} {marks r : ℕ} (p : RunAsks d ps xs w marks r) where
-  -- they hold
+  -- a run that is asked for has them
   pub bounds : Bounds xs w marks r
   bounds =
       let b = at-run (p .tabled) r (p .here) in
@@ -62,7 +66,15 @@ module _ {d : Bool} {ps : List Float} {xs w : List ℕ} {marks r : ℕ} (p : Run
   pub run-in : (i : ℕ) → i < length (handedOn xs w r) → getD (handedOn xs w r) i 0 < length xs
   run-in = simp zero-add at (handed-in (p .tabled) r (p .here))
 
-  -- so their faces may be marked
+  -- they may be ranked
+  pub rank-ok : RankAsks ps xs (handedOn xs w r)
+  rank-ok = record { faces = record { whole = p .tabled .asks .whole; corners = p .tabled .asks .inside }; ids = run-in }
+
+  -- one of them ranks first
+  pub best-ok : BestAsks ps xs (handedOn xs w r)
+  best-ok = record { rank = rank-ok; some = omega (arith, run-long, bounds) }
+
+  -- their faces may be marked
   pub entries-ok : EntriesAsks w (3 * length xs + from xs w r) (next xs w r - from xs w r) marks (faceCount xs)
   entries-ok =
       let b = bounds in

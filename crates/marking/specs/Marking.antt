@@ -11,10 +11,11 @@ use Rattle.rules.specs.Steps.{Step, step}
 use Rattle.table.specs.Entries.{keysOf}
 use Rattle.table.specs.Table.{TableAsks, Tabled, runCount}
 
--- how many points, and how many faces, there are
+-- how many points there are
 abbrev pub pointCount : List Float → ℕ
 pointCount ps = length ps / 3
 
+-- how many faces there are
 abbrev pub faceCount : List ℕ → ℕ
 faceCount xs = length xs / 3
 

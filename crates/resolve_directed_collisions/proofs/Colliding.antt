@@ -17,9 +17,9 @@ use Rattle.rules.specs.Pass4.{marked4}
 use Rattle.rules.proofs.Flat.{length-points}
 use Rattle.table.specs.Entries.{keysOf}
 use Rattle.table.proofs.Ids.{directed-keys}
-use Rattle.rank.specs.Ranks.{facesIn, valueOf, BestAsks, BestGives}
+use Rattle.rank.specs.Ranks.{facesIn, valueOf, BestGives}
 use Rattle.marking.specs.Marking.{pointCount, faceCount, edgeAt, RunAsks, LostGives}
-use Rattle.marking.proofs.Reading.{from, next, handedOn, region, bounds, handed-region, run-long, run-in, run-walkers}
+use Rattle.marking.proofs.Reading.{from, next, handedOn, region, handed-region, run-long, run-walkers}
 use Rattle.marking.proofs.Running.{lostAmong}
 use Rattle.resolve_directed_collisions.specs.Collisions.{afterFirst}
 
@@ -31,14 +31,6 @@ none-after q (u ∷ []) i h = rw (eq-eqb u u refl)
 none-after q (u ∷ v ∷ us) i h = absurd (not-suc-le-zero (le-of-suc-le-suc h))
 
 module _ {ps : List Float} {xs w : List ℕ} {marks r : ℕ} (p : RunAsks true ps xs w marks r) where
-  -- the run's faces, over the points, and its entries, which are not none
-  pub best-ok : BestAsks ps xs (handedOn xs w r)
-  best-ok =
-      record {
-        rank = record { faces = record { whole = p .tabled .asks .whole; corners = p .tabled .asks .inside }; ids = run-in p };
-        some = omega (arith, run-long p, bounds p);
-      }
-
   -- as many entries as walkers
   walkers-long : length (walkers (facesOf xs) (edgeAt true ps xs r)) ≡ next xs w r - from xs w r
   walkers-long = ap length (sym (run-walkers p)) ∙ length-map (handedOn xs w r) (λ id. id / 3) ∙ run-long p

@@ -34,10 +34,11 @@ without-snoc one (u ∷ us) f = go (eqb one u) (without-snoc one us f)
     go false e = ap (λ l. u ∷ l) e
 
 module _ (one : ℕ) (us : List ℕ) (f : ℕ) where
-  -- it is: it loses nothing, and `one` is seen
+  -- it is: it loses nothing
   pub lost-first : (not (has one us) && eqb one f) ≡ true → (i : ℕ) → has i (without one (us ++ (f ∷ []))) ≡ has i (without one us)
   lost-first e i = ap (has i) (without-snoc one us f ∙ ap (λ b. without one us ++ cond b [] (f ∷ [])) e ∙ append-nil (without one us))
 
+  -- and `one` is seen
   pub seen-first : (not (has one us) && eqb one f) ≡ true → true ≡ has one (us ++ (f ∷ []))
   unfolding has
   seen-first e = sym (any-snoc (eqb one) us f ∙ go (any (eqb one) us) (eqb one f) e)
@@ -46,19 +47,21 @@ module _ (one : ℕ) (us : List ℕ) (f : ℕ) where
       go true b h = refl
       go false b h = h
 
-  -- it is not: what is lost of its face, and of another
+  -- it is not: it is left
   rest : (not (has one us) && eqb one f) ≡ false → without one (us ++ (f ∷ [])) ≡ without one us ++ (f ∷ [])
   rest e = without-snoc one us f ∙ ap (λ b. without one us ++ cond b [] (f ∷ [])) e
 
+  -- so its face is lost
   pub lost-here : (not (has one us) && eqb one f) ≡ false → has f (without one (us ++ (f ∷ []))) ≡ true
   unfolding has
   lost-here e = ap (any (eqb f)) (rest e) ∙ any-snoc (eqb f) (without one us) f ∙ rw (eq-eqb f f refl) (or-true (any (eqb f) (without one us)))
 
+  -- whether another face is lost stays as it is
   pub lost-other : (not (has one us) && eqb one f) ≡ false → (i : ℕ) → (f ≡ i → ⊥) → has i (without one (us ++ (f ∷ []))) ≡ has i (without one us)
   unfolding has
   lost-other e i n = ap (any (eqb i)) (rest e) ∙ any-snoc (eqb i) (without one us) f ∙ rw (ne-eqb i f (λ s. n (sym s))) (or-false (any (eqb i) (without one us)))
 
-  -- and whether `one` is seen stays as it is
+  -- and so does whether `one` is seen
   pub seen-rest : (not (has one us) && eqb one f) ≡ false → has one us ≡ has one (us ++ (f ∷ []))
   unfolding has
   seen-rest e = sym (any-snoc (eqb one) us f ∙ go (any (eqb one) us) (eqb one f) e)

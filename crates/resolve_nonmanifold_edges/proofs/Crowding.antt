@@ -20,9 +20,9 @@ use Rattle.rules.proofs.Flat.{length-points}
 use Rattle.table.specs.Entries.{keysOf}
 use Rattle.table.specs.Table.{TableGives}
 use Rattle.table.proofs.Ids.{edges-keys}
-use Rattle.rank.specs.Ranks.{facesIn, valueOf, others, BestAsks, BestGives, SecondAsks, RankAsks}
+use Rattle.rank.specs.Ranks.{facesIn, valueOf, others, BestGives, SecondAsks}
 use Rattle.marking.specs.Marking.{pointCount, faceCount, edgeAt, MarkAsks, RunAsks, LostGives}
-use Rattle.marking.proofs.Reading.{from, next, handedOn, region, bounds, handed-region, run-long, run-in, run-users}
+use Rattle.marking.proofs.Reading.{from, next, handedOn, region, handed-region, run-long, rank-ok, run-users}
 use Rattle.marking.proofs.Running.{Passed, lostAmong, next-keys}
 use Rattle.marking.proofs.Running as running
 use Rattle.resolve_nonmanifold_edges.specs.Crowds.{crowds, lostAt, lostOf, EdgeGives, EdgesGives}
@@ -30,14 +30,6 @@ use Rattle.resolve_nonmanifold_edges.specs.Crowds.{crowds, lostAt, lostO
 -- ---- one edge
 
 module _ {ps : List Float} {xs w : List ℕ} {marks r : ℕ} (p : RunAsks false ps xs w marks r) where
-  -- its faces, over the points, and its entries
-  rank-ok : RankAsks ps xs (handedOn xs w r)
-  rank-ok = record { faces = record { whole = p .tabled .asks .whole; corners = p .tabled .asks .inside }; ids = run-in p }
-
-  -- they are not none
-  pub best-ok : BestAsks ps xs (handedOn xs w r)
-  best-ok = record { rank = rank-ok; some = omega (arith, run-long p, bounds p) }
-
   -- as many entries as users
   users-long : length (users (facesOf xs) (edgeAt false ps xs r)) ≡ next xs w r - from xs w r
   users-long = ap length (sym (run-users p)) ∙ length-map (handedOn xs w r) (λ id. id / 3) ∙ run-long p
@@ -51,7 +43,7 @@ module _ {ps : List Float} {xs w : List ℕ} {marks r : ℕ} (p : RunAsks false 
   module _ {one : ℕ} (b : BestGives ps xs (handedOn xs w r) one) where
     -- a second choice may be asked for
     pub second-ok : 1 < next xs w r - from xs w r → SecondAsks ps xs (handedOn xs w r) one
-    second-ok h = record { rank = rank-ok; two = omega (arith, run-long p); one-in = b .here }
+    second-ok h = record { rank = rank-ok p; two = omega (arith, run-long p); one-in = b .here }
 
     module _ {e : Step} (ee : e ≡ edgeAt false ps xs r) {two : ℕ} (s : two ≡ second (valueOf ps xs) one (facesIn (handedOn xs w r)) (others (facesOf xs) e (walks (face (facesOf xs) one) e) (facesIn (handedOn xs w r)))) where
       -- the two are those that the rules keep

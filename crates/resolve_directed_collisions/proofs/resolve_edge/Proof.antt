@@ -1,8 +1,8 @@
 -- `resolve_directed_collisions::resolve_edge` meets its contract: a directed edge that is used once loses nothing, and of one that is used more often
 -- the first in rank stays. Assumes nothing.
 use native.Mathlib.Omega.{arith}
-use Rattle.marking.proofs.Reading.{bounds, entries-ok}
-use Rattle.resolve_directed_collisions.proofs.Colliding.{best-ok, one-use, more-uses}
+use Rattle.marking.proofs.Reading.{bounds, best-ok, entries-ok}
+use Rattle.resolve_directed_collisions.proofs.Colliding.{one-use, more-uses}
 use Rattle.resolve_directed_collisions.proofs.resolve_edge.Statement.{statement}
 use Rattle.resolve_directed_collisions.proofs.resolve_edge.Tie as tie
 

@@ -1,8 +1,8 @@
 -- `resolve_nonmanifold_edges::resolve_edge` meets its contract: an edge with few entries loses nothing, and of a crowded one two faces are kept.
 -- Assumes nothing.
 use native.Mathlib.Omega.{arith}
-use Rattle.marking.proofs.Reading.{bounds, entries-ok, edge-read}
-use Rattle.resolve_nonmanifold_edges.proofs.Crowding.{best-ok, few, second-ok, many}
+use Rattle.marking.proofs.Reading.{bounds, best-ok, entries-ok, edge-read}
+use Rattle.resolve_nonmanifold_edges.proofs.Crowding.{few, second-ok, many}
 use borrow.Author.Needs.{needs}
 use Rattle.resolve_nonmanifold_edges.proofs.resolve_edge.Statement.{statement}
 use Rattle.resolve_nonmanifold_edges.proofs.resolve_edge.Tie as tie

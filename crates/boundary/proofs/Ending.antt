@@ -1,8 +1,7 @@
 -- The verdict: 7 by the runs, 8 by the rows, or none. Assumes nothing.
-use mathlib.Core.Path.{_≡_, refl, sym, ap, _∙_, subst}
-use mathlib.Core.Bool.{false}
+use mathlib.Core.Path.{_≡_, ap, _∙_, subst}
 use mathlib.Core.List.{List, [], _∷_}
-use Prim.Native.Nat.{ℕ, _+_, _*_, _/_, _≤_, _<_}
+use Prim.Native.Nat.{ℕ, _+_, _*_, _≤_, _<_}
 use native.Mathlib.Nat.{add-assoc}
 use native.Mathlib.Omega.{arith}
 use lib.ListN.{length, getD}
@@ -10,14 +9,10 @@ use Rattle.rows.specs.Region.{Only, Filled, Apart, Apart.before, Apart.after}
 use Rattle.rows.proofs.Regions.{only-none, only-both, only-more, holds-kept}
 use Rattle.rules.specs.Lists.{count, filter}
 use Rattle.rules.specs.Mesh.{facesOf}
-use Rattle.rules.specs.Refusal.{Check, ok, no, decided}
+use Rattle.rules.specs.Refusal.{decided}
 use Rattle.rules.specs.Edges.{no7, no8}
-use Rattle.rules.specs.Rooms.{work-room}
-use Rattle.refuse.specs.Accepted.{Faces}
-use Rattle.refuse.specs.Verdicts.{checkOf}
 use Rattle.refuse.specs.declared.Verdict.{Verdict}
 use Rattle.refuse.specs.declared.Verdict.the-variants.{Fine, Refused}
-use Rattle.table.specs.Table.{TableAsks, TableGives}
 use Rattle.table.proofs.Places.{tabled-kept}
 use Rattle.boundary.specs.Rows.{FirstOf, long, uneven, onward, Counted, TraceAsks, TraceGives, BoundaryAsks, BoundaryGives}
 use Rattle.boundary.proofs.Uses.{runs-few, seven-none, seven-found}
@@ -32,15 +27,6 @@ refused-not n p e = subst refused e tt
     refused : Verdict → Type 0
     refused Fine = ⊥
     refused (Refused n p) = Unit
-
--- a verdict that finds nothing is fine: where 7 and 8 are known not to be given, the verdict by the table is too
-pub is-fine : (v : Verdict) → checkOf v ≡ ok → v ≡ Fine
-is-fine Fine e = refl
-is-fine (Refused n p) e = absurd (subst found e tt)
-  where
-    found : Check → Type 0
-    found ok = ⊥
-    found (no n p) = Unit
 
 -- ---- rows that say what is so of no edges
 
@@ -121,22 +107,3 @@ module _ {w xs : List ℕ} {P at m row : ℕ} (p : BoundaryAsks w xs P at m row)
                 says = rw (seven-none (p .tabled) f h, eight-none xs (t .counted) u l);
                 next = λ e. next-row xs (t .counted) u l;
               }
-
--- ---- the edge call's work room
-
-module _ {P : ℕ} {xs w : List ℕ} (f : Faces P xs) (room : work-room P (length xs / 3) ≤ length w) where
-  -- the table at 0 is within it
-  pub table-asks : TableAsks w xs P 0
-  unfolding work-room
-  table-asks = record { whole = f .whole; few = omega (arith, f .few); fit = omega (arith, f .whole, room); inside = f .below }
-
-  -- and the rows are, behind the table
-  pub boundary-asks : {w′ : List ℕ} {m : ℕ} → TableGives w xs P false 0 w′ m → BoundaryAsks w′ xs P 0 m (5 * length xs + 1 + P)
-  unfolding work-room
-  boundary-asks g =
-      record {
-        points = omega (arith, f .points);
-        tabled = g .tabled;
-        fit = omega (arith, f .whole, room, g .only .long);
-        apart = before (omega arith);
-      }

@@ -14,3 +14,5 @@ pub mod Onward
 pub mod Zeros
 -- `Ending` has the verdict.
 pub mod Ending
+-- `Calling` has what the edge call needs of it.
+pub mod Calling

@@ -1,6 +1,6 @@
 -- `verdict_try::both` is safe and ends: the table and the rows are within the stated work room. Assumes nothing.
 use native.Mathlib.Omega.{arith}
-use Rattle.boundary.proofs.Ending.{table-asks, boundary-asks}
+use Rattle.boundary.proofs.Calling.{table-asks, boundary-asks}
 use borrow.Author.Needs.{needs}
 use Rattle.verdict_try.proofs.both.Statement.{statement}
 use Rattle.verdict_try.proofs.both.Tie as tie

@@ -6,15 +6,16 @@ use Prim.Native.Nat.{ℕ, _<_}
 use native.Mathlib.Omega.{arith}
 use borrow.Author.Tests.{lt-ltb, le-ltb}
 use lib.ListN.{length, getD}
-use lib.Dec.{T, eqb, ltb}
+use lib.Dec.{T, eqb, ltb, eqb→eq, eqb-refl}
+use lib.Ieee.Bits.{is-true}
 use Rattle.rules.specs.Lists.{filter, any}
 use Rattle.rules.specs.Mesh.{Face}
 use Rattle.rules.specs.Steps.{Step}
 use Rattle.rules.specs.Edges.{boundary, next}
-use Rattle.rules.proofs.Members.{in-all, any-mem, none-filter, mem-filter, mem-left, some-length}
+use Rattle.rules.proofs.Members.{in-all, any-intro, any-mem, none-filter, mem-filter, mem-left, some-length}
 use Rattle.rules.proofs.Rising.{All}
 use Rattle.rules.proofs.Once.{Inside}
-use Rattle.rules.proofs.Next.{boundary-inside}
+use Rattle.rules.proofs.Next.{On, boundary-inside}
 use Rattle.boundary.specs.Rows.{onward}
 
 -- the end of the first of some edges does not hang on what is said for none
@@ -58,3 +59,11 @@ onward-begins P fs h v = go (any (λ s. eqb (s .from) v) (boundary fs)) refl
         lt-ltb (onward P (boundary fs) v) P
         (unfold onward in (end-below P P (filter (λ s. eqb (s .from) v) (boundary fs)) (some-begin (boundary fs) v e) ends-inside))
     go false e = le-ltb (onward P (boundary fs) v) P (omega (arith, onward-none P (boundary fs) v e))
+
+-- the same in the words of the rules' theorems on loops: an edge begins at v
+pub on-any : (b : List Step) (v : ℕ) → On b v → any (λ s. eqb (s .from) v) b ≡ true
+on-any b v (s, m, e) = is-true (any (λ t. eqb (t .from) v) b) (any-intro (λ t. eqb (t .from) v) s b m (subst (λ k. T (eqb (s .from) k)) e (eqb-refl (s .from))))
+
+-- and back
+pub any-on : (b : List Step) (v : ℕ) → any (λ s. eqb (s .from) v) b ≡ true → On b v
+any-on b v e = let w = any-mem (λ s. eqb (s .from) v) b (subst T (sym e) tt) in (w .0, w .1, eqb→eq (w .0 .from) v (w .2))

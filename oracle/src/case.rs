@@ -1,0 +1,128 @@
+//! A case: a call, its input and the rooms that are lent to it.
+
+#[derive(Clone, Copy, PartialEq, Eq, Debug)]
+pub enum Call {
+    Repair,
+    Edges,
+    Check,
+    Patches,
+    Line,
+}
+
+pub const CALLS: [Call; 5] = [Call::Repair, Call::Edges, Call::Check, Call::Patches, Call::Line];
+
+impl Call {
+    pub fn name(self) -> &'static str {
+        ["repair", "edges", "check", "patches", "line"][self as usize]
+    }
+
+    /// The names of the call's rooms, in checking order.
+    pub fn rooms(self) -> &'static [&'static str] {
+        match self {
+            Call::Repair => &["points", "faces", "report", "work"],
+            Call::Edges => &["edges", "lengths", "face edges", "loop vertices", "loop ends", "work"],
+            Call::Check => &["work"],
+            Call::Patches => &["face counts", "numbers", "flags", "work"],
+            Call::Line => &["line"],
+        }
+    }
+}
+
+pub const MOST_POINTS: u64 = 4_194_304;
+pub const MOST_FACES: u64 = 1_048_576;
+pub const MOST_PATCHES: u64 = 1_048_576;
+pub const NO_PATCH: u32 = u32::MAX;
+
+/// The patch filter: bit k of `set` says whether limit k is there; an absent limit's number means nothing.
+#[derive(Clone, Copy, Default)]
+pub struct Filter {
+    pub set: u32,
+    pub min_faces: u64,
+    pub reals: [f64; 3], // min_area, min_aabb_diagonal, min_area_fraction
+    pub keep_largest_n: u64,
+}
+
+/// A room: how many entries it has more than stated (fewer, if negative) but at most, and the seed of what it holds; 0 is clean.
+#[derive(Clone, Copy)]
+pub struct Room {
+    pub extra: i128,
+    pub most: usize,
+    pub dirt: u64,
+}
+
+/// A room that is exact and clean. A harness has no endless memory: no room is longer than 2^27.
+pub const EXACT: Room = Room { extra: 0, most: 1 << 27, dirt: 0 };
+
+/// The input of every call in one record; a call reads its own part of it.
+#[derive(Clone)]
+pub struct Case {
+    pub call: Call,
+    pub points: Vec<f64>,
+    pub point_count: u64,
+    pub faces: Vec<u32>,
+    pub threshold: f64,
+    pub options: u32,
+    pub labels: Vec<u32>,
+    pub patch_count: u64,
+    pub filter: Filter,
+    pub counts: Vec<u32>,
+    pub rooms: Vec<Room>,
+}
+
+impl Case {
+    /// A case of no points and no faces, with exact and clean rooms.
+    pub fn new(call: Call) -> Self {
+        Case {
+            call,
+            points: vec![],
+            point_count: 0,
+            faces: vec![],
+            threshold: 0.0,
+            options: 0,
+            labels: vec![],
+            patch_count: 0,
+            filter: Filter::default(),
+            counts: vec![],
+            rooms: vec![EXACT; call.rooms().len()],
+        }
+    }
+
+    /// P: for the edge check a number of its own.
+    pub fn p(&self) -> u64 {
+        if self.call == Call::Check { self.point_count } else { self.points.len() as u64 / 3 }
+    }
+
+    /// F.
+    pub fn f(&self) -> u64 {
+        self.faces.len() as u64 / 3
+    }
+
+    /// The corners of face i.
+    pub fn face(&self, i: usize) -> [u32; 3] {
+        [self.faces[3 * i], self.faces[3 * i + 1], self.faces[3 * i + 2]]
+    }
+
+    /// The faces by threes.
+    pub fn triples(&self) -> Vec<[u32; 3]> {
+        (0..self.faces.len() / 3).map(|i| self.face(i)).collect()
+    }
+
+    /// For each room the bytes of an entry and the stated number of entries.
+    pub fn stated(&self) -> Vec<(usize, u128)> {
+        let (p, f, c) = (self.p() as u128, self.f() as u128, self.patch_count as u128);
+        let work = (4, 16 * p + 64 * f + 64);
+        match self.call {
+            Call::Repair => vec![(8, 3 * (p + 3 * f)), (4, 3 * f), (4, 10), work],
+            Call::Edges => vec![(4, 6 * f), (8, 3 * f), (4, 3 * f), (4, 3 * f), (4, 3 * f), work],
+            Call::Check => vec![work],
+            Call::Patches => vec![(4, c), (8, 7 * c), (4, c), (4, 4 * c)],
+            Call::Line => vec![(1, 512)],
+        }
+    }
+
+    /// How many entries each room has.
+    pub fn lengths(&self) -> Vec<usize> {
+        let length = |((_, stated), room): ((usize, u128), &Room)| (stated as i128 + room.extra).clamp(0, room.most as i128) as usize;
+        self.stated().into_iter().zip(&self.rooms).map(length).collect()
+    }
+}

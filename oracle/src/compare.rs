@@ -1,0 +1,58 @@
+//! One case through the library, and whether it came out as it must.
+
+use crate::case::{Call, Case};
+use crate::fault::Fault;
+use crate::here::{self, Inputs, Reply};
+use crate::lent::Lent;
+use crate::there::Outcome;
+
+/// The rooms of a case as they are lent.
+pub fn rooms(case: &Case) -> Vec<Lent> {
+    let lengths = case.lengths();
+    let room = |k: usize, (size, stated): (usize, u128)| Lent::room(size, lengths[k], stated, case.rooms[k].dirt);
+    case.stated().into_iter().enumerate().map(|(k, entry)| room(k, entry)).collect()
+}
+
+/// What is wrong with the library's answer, if anything. A call that the library does not have has nothing wrong. With a fault the answer is altered
+/// first, and a call that is not there is played from the outcome, so that each fault can be tried for each call.
+pub fn difference(case: &Case, wanted: &Outcome, fault: Option<Fault>) -> Option<String> {
+    let mut input = Inputs::new(case);
+    let mut rooms = rooms(case);
+    let mut reply = match here::run(case, &mut input, &mut rooms) {
+        Some(reply) => reply,
+        None if fault.is_some() => crate::fault::play(case, wanted, &mut rooms),
+        None => return None,
+    };
+    if let Some(fault) = fault {
+        fault.alter(case, &mut reply, &mut input, &mut rooms);
+    }
+    let must = Reply { number: wanted.number, place: wanted.place, counts: wanted.counts.clone() };
+    if reply != must {
+        return Some(format!("it gives back {}, and must give back {}", told(&reply), told(&must)));
+    }
+    input.changed().or_else(|| wrong_room(case, wanted, &mut rooms))
+}
+
+fn told(reply: &Reply) -> String {
+    format!("number {} place {} counts {:?}", reply.number, reply.place, reply.counts)
+}
+
+/// The first room that does not hold what it must. Of a patch's box the two zeros are equal.
+fn wrong_room(case: &Case, wanted: &Outcome, rooms: &mut [Lent]) -> Option<String> {
+    for (k, (_, stated)) in case.stated().into_iter().enumerate() {
+        let room = &mut rooms[k];
+        let wrong = if wanted.number != 0 {
+            room.changed()
+        } else {
+            let mut answer = wanted.rows.get(k).cloned().unwrap_or_default();
+            if case.call == Call::Patches && k == 1 {
+                (0..answer.len() / 8).filter(|i| i % 7 != 0).for_each(|i| room.forgive_zero(i, &mut answer));
+            }
+            room.wrong(stated, &answer)
+        };
+        if let Some(what) = wrong {
+            return Some(format!("room {}: {what}", case.call.rooms()[k]));
+        }
+    }
+    None
+}

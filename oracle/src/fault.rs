@@ -1,0 +1,81 @@
+//! Faults put into the library's answer, to show that the harness sees them.
+
+use crate::case::Case;
+use crate::here::{Inputs, Reply};
+use crate::lent::Lent;
+use crate::there::Outcome;
+
+#[derive(Clone, Copy, PartialEq, Debug)]
+pub enum Fault {
+    None,
+    Number,
+    Place,
+    Count,
+    Answer,
+    AnswerOfTwoFaces,
+    NotCleared,
+    WorkLeft,
+    BehindStated,
+    BehindRoom,
+    BeforeRoom,
+    RefusalWrites,
+    InputChanged,
+}
+
+pub const FAULTS: [Fault; 12] = [
+    Fault::Number,
+    Fault::Place,
+    Fault::Count,
+    Fault::Answer,
+    Fault::AnswerOfTwoFaces,
+    Fault::NotCleared,
+    Fault::WorkLeft,
+    Fault::BehindStated,
+    Fault::BehindRoom,
+    Fault::BeforeRoom,
+    Fault::RefusalWrites,
+    Fault::InputChanged,
+];
+
+/// The outcome written as the library must write it.
+pub fn play(case: &Case, outcome: &Outcome, rooms: &mut [Lent]) -> Reply {
+    if outcome.number == 0 {
+        for (k, (size, stated)) in case.stated().into_iter().enumerate() {
+            let (bytes, start) = rooms[k].all_mut();
+            bytes[start..start + size * stated as usize].fill(0);
+            if let Some(row) = outcome.rows.get(k) {
+                bytes[start..start + row.len()].copy_from_slice(row);
+            }
+        }
+    }
+    Reply { number: outcome.number, place: outcome.place, counts: outcome.counts.clone() }
+}
+
+impl Fault {
+    /// Alters a reply, an input or a room, where the case gives occasion.
+    pub fn alter(self, case: &Case, reply: &mut Reply, input: &mut Inputs, rooms: &mut [Lent]) {
+        let accepted = reply.number == 0;
+        let (last, lengths, stated) = (rooms.len() - 1, case.lengths(), case.stated());
+        let work = stated[last].1 as usize;
+        // Flips a bit of the last byte of entry i of room k.
+        let mut flip = |k: usize, i: i64| {
+            let (bytes, start) = rooms[k].all_mut();
+            bytes[(start as i64 + (i + 1) * stated[k].0 as i64 - 1) as usize] ^= 16;
+        };
+        match self {
+            Fault::Number if !accepted => reply.number += 1,
+            Fault::Place if !accepted => reply.place += 1,
+            Fault::Count if accepted => reply.counts[0] ^= 1,
+            Fault::Answer if accepted && lengths[0] > 0 => flip(0, 0),
+            Fault::AnswerOfTwoFaces if accepted && case.f() > 1 => flip(0, 0),
+            Fault::NotCleared if accepted && last > 0 && stated[1].1 > 0 => flip(1, stated[1].1 as i64 - 1),
+            Fault::WorkLeft if accepted && work > 0 => flip(last, work as i64 - 1),
+            Fault::BehindStated if accepted && lengths[last] > work => flip(last, work as i64),
+            Fault::BehindRoom => flip(0, lengths[0] as i64),
+            Fault::BeforeRoom => flip(last, -1),
+            Fault::RefusalWrites if !accepted && lengths[last] > 0 => flip(last, lengths[last] as i64 - 1),
+            Fault::InputChanged => input.faces.all_mut().0[40] ^= 1,
+            _ => {}
+        }
+    }
+}

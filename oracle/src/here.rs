@@ -1,0 +1,148 @@
+//! The library's calls. A call that is not in the archive yet is not asked for; oracle/build.sh finds that out.
+
+use crate::case::{Call, Case};
+use crate::lent::Lent;
+
+/// What a call gives back: number, place, and how many entries stand in each answer room (for the edge check 1 or 0).
+#[derive(Clone, PartialEq, Debug)]
+pub struct Reply {
+    pub number: u32,
+    pub place: u32,
+    pub counts: Vec<u64>,
+}
+
+#[repr(C)]
+struct Given<const N: usize> {
+    number: u32,
+    place: u32,
+    counts: [u64; N],
+}
+
+// The signatures of host/shell.h: each row is a pointer and a length.
+#[rustfmt::skip]
+#[allow(dead_code)]
+unsafe extern "C" {
+    fn shell_repair(points: *const f64, _: usize, faces: *const u32, _: usize, s: f64, options: u32,
+        out_points: *mut f64, _: usize, out_faces: *mut u32, _: usize, report: *mut u32, _: usize, work: *mut u32, _: usize) -> Given<3>;
+    fn shell_edges(points: *const f64, _: usize, faces: *const u32, _: usize,
+        edges: *mut u32, _: usize, lengths: *mut f64, _: usize, face_edges: *mut u32, _: usize,
+        loop_vertices: *mut u32, _: usize, loop_ends: *mut u32, _: usize, work: *mut u32, _: usize) -> Given<5>;
+    fn shell_check(point_count: u64, faces: *const u32, _: usize, work: *mut u32, _: usize) -> Given<1>;
+    fn shell_patches(points: *const f64, _: usize, faces: *const u32, _: usize, labels: *const u32, _: usize, patch_count: u64,
+        limits: u32, min_faces: u64, min_area: f64, min_aabb_diagonal: f64, min_area_fraction: f64, keep_largest_n: u64,
+        face_counts: *mut u32, _: usize, numbers: *mut f64, _: usize, flags: *mut u32, _: usize, work: *mut u32, _: usize) -> Given<3>;
+    fn shell_line(counts: *const u32, _: usize, line: *mut u8, _: usize) -> Given<1>;
+}
+
+/// Whether the library has the call.
+pub fn has(call: Call) -> bool {
+    match call {
+        Call::Repair => cfg!(has_repair),
+        Call::Edges => cfg!(has_edges),
+        Call::Check => cfg!(has_check),
+        Call::Patches => cfg!(has_patches),
+        Call::Line => cfg!(has_line),
+    }
+}
+
+/// The input as the calls take it.
+pub struct Inputs {
+    pub points: Lent,
+    pub faces: Lent,
+    pub labels: Lent,
+    pub counts: Lent,
+}
+
+impl Inputs {
+    pub fn new(case: &Case) -> Self {
+        let numbers = |row: &[u32]| Lent::input(4, &row.iter().flat_map(|x| x.to_ne_bytes()).collect::<Vec<u8>>());
+        let points: Vec<u8> = case.points.iter().flat_map(|x| x.to_bits().to_ne_bytes()).collect();
+        Inputs { points: Lent::input(8, &points), faces: numbers(&case.faces), labels: numbers(&case.labels), counts: numbers(&case.counts) }
+    }
+
+    /// The first input that a call has changed.
+    pub fn changed(&self) -> Option<String> {
+        let rows = [("points", &self.points), ("faces", &self.faces), ("labels", &self.labels), ("counts", &self.counts)];
+        rows.iter().find_map(|(name, row)| row.changed().map(|what| format!("input {name}: {what}")))
+    }
+}
+
+/// Runs the library's call on the input and the rooms; nothing if it is not there yet.
+pub fn run(case: &Case, input: &mut Inputs, rooms: &mut [Lent]) -> Option<Reply> {
+    match case.call {
+        #[cfg(has_repair)]
+        Call::Repair => Some(repair(case, input, rooms)),
+        #[cfg(has_edges)]
+        Call::Edges => Some(edges(input, rooms)),
+        #[cfg(has_check)]
+        Call::Check => Some(check(case, input, rooms)),
+        #[cfg(has_patches)]
+        Call::Patches => Some(patches(case, input, rooms)),
+        #[cfg(has_line)]
+        Call::Line => Some(line(input, rooms)),
+        #[allow(unreachable_patterns)]
+        _ => None,
+    }
+}
+
+#[allow(dead_code)]
+fn reply<const N: usize>(given: Given<N>) -> Reply {
+    Reply { number: given.number, place: given.place, counts: given.counts.to_vec() }
+}
+
+#[cfg(has_repair)]
+#[rustfmt::skip]
+fn repair(case: &Case, input: &mut Inputs, rooms: &mut [Lent]) -> Reply {
+    let Inputs { points, faces, .. } = input;
+    let [out_points, out_faces, report, work] = rooms else { unreachable!() };
+    reply(unsafe {
+        shell_repair(
+            points.pointer(), points.length(), faces.pointer(), faces.length(), case.threshold, case.options,
+            out_points.pointer(), out_points.length(), out_faces.pointer(), out_faces.length(),
+            report.pointer(), report.length(), work.pointer(), work.length(),
+        )
+    })
+}
+
+#[cfg(has_edges)]
+#[rustfmt::skip]
+fn edges(input: &mut Inputs, rooms: &mut [Lent]) -> Reply {
+    let Inputs { points, faces, .. } = input;
+    let [edges, lengths, face_edges, loop_vertices, loop_ends, work] = rooms else { unreachable!() };
+    reply(unsafe {
+        shell_edges(
+            points.pointer(), points.length(), faces.pointer(), faces.length(),
+            edges.pointer(), edges.length(), lengths.pointer(), lengths.length(), face_edges.pointer(), face_edges.length(),
+            loop_vertices.pointer(), loop_vertices.length(), loop_ends.pointer(), loop_ends.length(), work.pointer(), work.length(),
+        )
+    })
+}
+
+#[cfg(has_check)]
+fn check(case: &Case, input: &mut Inputs, rooms: &mut [Lent]) -> Reply {
+    let (faces, work) = (&mut input.faces, &mut rooms[0]);
+    reply(unsafe { shell_check(case.point_count, faces.pointer(), faces.length(), work.pointer(), work.length()) })
+}
+
+#[cfg(has_patches)]
+#[rustfmt::skip]
+fn patches(case: &Case, input: &mut Inputs, rooms: &mut [Lent]) -> Reply {
+    let Inputs { points, faces, labels, .. } = input;
+    let [face_counts, numbers, flags, work] = rooms else { unreachable!() };
+    let limits = &case.filter;
+    let [min_area, min_aabb_diagonal, min_area_fraction] = limits.reals;
+    reply(unsafe {
+        shell_patches(
+            points.pointer(), points.length(), faces.pointer(), faces.length(), labels.pointer(), labels.length(), case.patch_count,
+            limits.set, limits.min_faces, min_area, min_aabb_diagonal, min_area_fraction, limits.keep_largest_n,
+            face_counts.pointer(), face_counts.length(), numbers.pointer(), numbers.length(),
+            flags.pointer(), flags.length(), work.pointer(), work.length(),
+        )
+    })
+}
+
+#[cfg(has_line)]
+fn line(input: &mut Inputs, rooms: &mut [Lent]) -> Reply {
+    let (counts, line) = (&mut input.counts, &mut rooms[0]);
+    reply(unsafe { shell_line(counts.pointer(), counts.length(), line.pointer(), line.length()) })
+}

@@ -1,0 +1,108 @@
+//! Recorded answers, in the word form of tests/cases/FORMAT.md, against what the harness expects: so its own refusals and its Rust are tested too.
+
+use crate::case::{CALLS, Call, Case};
+use crate::{compare, print, there};
+use std::process::ExitCode;
+
+struct Words {
+    words: Vec<u64>,
+    at: usize,
+}
+
+impl Words {
+    fn load(path: &str) -> Self {
+        let bytes = std::fs::read(path).unwrap_or_else(|error| panic!("{path}: {error}"));
+        assert!(bytes.starts_with(b"MFIXCAS1"), "{path} is not in word form");
+        Words { words: bytes.chunks_exact(8).map(|word| u64::from_le_bytes(word.try_into().unwrap())).collect(), at: 1 }
+    }
+
+    fn one(&mut self) -> u64 {
+        self.at += 1;
+        self.words[self.at - 1]
+    }
+
+    fn row(&mut self, count: u64) -> Vec<u64> {
+        (0..count).map(|_| self.one()).collect()
+    }
+
+    fn array(&mut self) -> Vec<u64> {
+        let count = self.one();
+        if self.one() == 1 { vec![self.one(); count as usize] } else { self.row(count) }
+    }
+
+    fn floats(&mut self) -> Vec<f64> {
+        self.array().into_iter().map(f64::from_bits).collect()
+    }
+
+    fn numbers(&mut self) -> Vec<u32> {
+        self.array().into_iter().map(|word| word as u32).collect()
+    }
+}
+
+/// The case that a record holds.
+fn read(words: &mut Words, call: Call) -> Case {
+    let mut case = Case::new(call);
+    match call {
+        Call::Repair => {
+            case.options = words.one() as u32;
+            case.threshold = f64::from_bits(words.one());
+            (case.points, case.faces) = (words.floats(), words.numbers());
+        }
+        Call::Edges => (case.points, case.faces) = (words.floats(), words.numbers()),
+        Call::Check => (case.point_count, case.faces) = (words.one(), words.numbers()),
+        Call::Patches => {
+            (case.points, case.faces, case.labels, case.patch_count) = (words.floats(), words.numbers(), words.numbers(), words.one());
+            let limits: Vec<(u64, u64)> = (0..5).map(|_| (words.one(), words.one())).collect();
+            case.filter.set = (0..5).map(|k| (limits[k].0 as u32) << k).sum();
+            case.filter.reals = [1, 2, 3].map(|k| f64::from_bits(limits[k].1));
+            (case.filter.min_faces, case.filter.keep_largest_n) = (limits[0].1, limits[4].1);
+        }
+        Call::Line => case.counts = words.numbers(),
+    }
+    let stated = case.stated();
+    for (k, length) in words.array().into_iter().enumerate() {
+        case.rooms[k].extra = length as i128 - stated[k].1 as i128;
+        case.rooms[k].dirt = 0x5a;
+    }
+    case
+}
+
+/// A recorded answer with the harness's own: number, place and rows.
+fn as_recorded(case: &Case, answers: &mut Words) -> bool {
+    let outcome = there::outcome(case);
+    let (number, place, rows) = (answers.one(), answers.one(), answers.one());
+    let rows: Vec<Vec<u64>> = (0..rows).map(|_| { let count = answers.one(); answers.row(count) }).collect();
+    if (number, place) != (outcome.number as u64, outcome.place as u64) {
+        return false;
+    }
+    if number != 0 || case.call == Call::Check {
+        return number != 0 || rows == [outcome.counts];
+    }
+    let word = |bytes: &[u8]| bytes.iter().rev().fold(0, |word, byte| word << 8 | *byte as u64);
+    let sizes = case.stated();
+    let found = outcome.rows.iter().enumerate().map(|(k, row)| row.chunks(sizes[k].0).map(word).collect::<Vec<u64>>());
+    found.eq(rows)
+}
+
+pub fn run(cases: &str, answers: &str) -> ExitCode {
+    let (mut cases, mut answers) = (Words::load(cases), Words::load(answers));
+    let (mut same, mut different) = ([0; 5], 0);
+    while cases.at < cases.words.len() {
+        let call = [Call::Repair, Call::Edges, Call::Check, Call::Patches, Call::Line][cases.one() as usize - 1];
+        let end = cases.one() as usize + cases.at;
+        answers.one();
+        let after = answers.one() as usize + answers.at;
+        let case = read(&mut cases, call);
+        let wrong = if as_recorded(&case, &mut answers) { compare::difference(&case, &there::outcome(&case), None) } else { Some("not as recorded".into()) };
+        if let Some(what) = wrong {
+            println!("recorded: {what}\n{}", print::shown(&case));
+            different += 1;
+        } else {
+            same[call as usize] += 1;
+        }
+        (cases.at, answers.at) = (end, after);
+    }
+    let told: Vec<String> = CALLS.iter().map(|call| format!("{} {}", call.name(), same[*call as usize])).collect();
+    println!("recorded: as the harness expects: {}; different: {different}", told.join(", "));
+    ExitCode::from((different > 0) as u8)
+}

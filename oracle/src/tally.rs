@@ -1,0 +1,80 @@
+//! How often each refusal and each part of an answer came up, so that a reader sees what was tried.
+
+use crate::case::{Call, Case};
+use crate::there::Outcome;
+use std::collections::BTreeMap;
+
+#[derive(Default)]
+pub struct Tally {
+    numbers: BTreeMap<u32, usize>,
+    places: BTreeMap<(u32, u32), usize>,
+    things: BTreeMap<&'static str, usize>,
+}
+
+const REPORT: [&str; 10] = [
+    "degenerate",
+    "duplicate",
+    "edges counted in 3",
+    "dropped in 3",
+    "dropped in 4",
+    "vertices split",
+    "points added",
+    "reoriented",
+    "components",
+    "isolated",
+];
+
+fn number(row: &[u8], i: usize) -> u32 {
+    u32::from_ne_bytes(row[4 * i..4 * i + 4].try_into().unwrap())
+}
+
+impl Tally {
+    /// Counts one case.
+    pub fn add(&mut self, case: &Case, outcome: &Outcome) {
+        *self.numbers.entry(outcome.number).or_default() += 1;
+        if [1, 2, 3, 6].contains(&outcome.number) {
+            *self.places.entry((outcome.number, outcome.place)).or_default() += 1;
+        }
+        if outcome.number == 0 {
+            self.answered(case, outcome);
+        }
+    }
+
+    fn answered(&mut self, case: &Case, outcome: &Outcome) {
+        let (rows, counts) = (&outcome.rows, &outcome.counts);
+        let mut count = |name: &'static str, yes: bool| *self.things.entry(name).or_default() += yes as usize;
+        match case.call {
+            Call::Repair => (0..10).for_each(|k| count(REPORT[k], number(&rows[2], k) > 0)),
+            Call::Edges => {
+                count("some edge", counts[0] > 0);
+                count("one loop", counts[4] == 1);
+                count("several loops", counts[4] > 1);
+                count("a loop of one vertex", (0..counts[4] as usize).any(|i| number(&rows[4], i) == i as u32 + 1));
+            }
+            Call::Check => {
+                count("yes", counts[0] == 1);
+                count("no", counts[0] == 0);
+            }
+            Call::Patches => {
+                let flags: Vec<u32> = (0..counts[2] as usize).map(|i| number(&rows[2], i)).collect();
+                count("some patch kept", flags.contains(&1));
+                count("some patch dropped", flags.contains(&0));
+                count("an empty patch", (0..flags.len()).any(|i| number(&rows[0], i) == 0));
+            }
+            Call::Line => {
+                count("nothing changed", case.counts.iter().all(|n| *n == 0));
+                count("one part", case.counts.iter().filter(|n| **n > 0).count() == 1);
+                count("several parts", case.counts.iter().filter(|n| **n > 0).count() > 1);
+            }
+        }
+    }
+
+    /// The counts in three lines.
+    pub fn shown(&self) -> String {
+        let of_number = |(n, times): (&u32, &usize)| if *n == 0 { format!("accepted {times}") } else { format!("{n}: {times}") };
+        let numbers: Vec<String> = self.numbers.iter().map(of_number).collect();
+        let places: Vec<String> = self.places.iter().map(|((n, place), times)| format!("{n} at {place}: {times}")).collect();
+        let things: Vec<String> = self.things.iter().map(|(name, times)| format!("{name} {times}")).collect();
+        format!("  {}\n  by place: {}\n  of the accepted: {}", numbers.join(", "), places.join(", "), things.join(", "))
+    }
+}

@@ -1,0 +1,229 @@
+//! The Rust's answers, in document 01's form. It is asked only where document 01 accepts, or where it refuses by an error of its own.
+
+use crate::case::{Call, Case};
+use crate::refuse;
+use engeom::edges::MeshEdges;
+use engeom::patches::{PatchFilter, PatchLabels, PatchStats};
+use engeom::repair::{RepairOpts, RepairReport, repair_buffers};
+use engeom::{Mesh3, Point3, na};
+use std::collections::BTreeSet;
+
+/// What a call must give back: number and place, the counts, and the bytes that stand in each answer room.
+#[derive(Clone)]
+pub struct Outcome {
+    pub number: u32,
+    pub place: u32,
+    pub counts: Vec<u64>,
+    pub rows: Vec<Vec<u8>>,
+}
+
+/// The outcome of a case: document 01's refusal, or else the Rust's answer, and for the edge check document 01's rule.
+pub fn outcome(case: &Case) -> Outcome {
+    if let Some((number, place)) = refuse::refusal(case) {
+        agree(case, number, place);
+        let counts = vec![0; answer_counts(case.call)];
+        return Outcome { number, place: place as u32, counts, rows: vec![] };
+    }
+    let (counts, rows) = match case.call {
+        Call::Repair => repair(case),
+        Call::Edges => edges(case),
+        Call::Check => (vec![sound(case) as u64], vec![]),
+        Call::Patches => patches(case),
+        Call::Line => line(case),
+    };
+    Outcome { number: 0, place: 0, counts, rows }
+}
+
+/// How many counts a call gives back beside number and place.
+fn answer_counts(call: Call) -> usize {
+    match call {
+        Call::Repair | Call::Patches => 3,
+        Call::Edges => 5,
+        Call::Check | Call::Line => 1,
+    }
+}
+
+/// Where the Rust has an error of its own for a refusal, it must give it, and name the same face.
+fn agree(case: &Case, number: u32, place: u64) {
+    let text = match (case.call, number) {
+        (Call::Repair, 5) => repair_buffers(&points(case), &case.triples(), &RepairOpts::none()).err(),
+        (Call::Edges, 7) => MeshEdges::new(&mesh(case)).err(),
+        (Call::Patches, 9) => labels(case).err(),
+        (Call::Patches, 10) => labels(case).unwrap().compute_stats(&mesh(case)).err(),
+        _ => return,
+    };
+    let text = text.expect("the Rust accepts what document 01 refuses").to_string();
+    if number == 5 || number == 9 {
+        let named = text.split(' ').nth(1).and_then(|face| face.parse().ok());
+        assert_eq!(named, Some(place), "the Rust names another face: {text}");
+    }
+}
+
+fn points(case: &Case) -> Vec<Point3> {
+    case.points.chunks_exact(3).map(|c| Point3::from([c[0], c[1], c[2]])).collect()
+}
+
+fn mesh(case: &Case) -> Mesh3 {
+    Mesh3::new(points(case), case.triples())
+}
+
+fn floats(values: impl IntoIterator<Item = f64>) -> Vec<u8> {
+    values.into_iter().flat_map(|x| x.to_bits().to_ne_bytes()).collect()
+}
+
+fn numbers(values: impl IntoIterator<Item = u32>) -> Vec<u8> {
+    values.into_iter().flat_map(|x| x.to_ne_bytes()).collect()
+}
+
+/// Options 0..63 by `RepairOpts`' fields in order.
+fn options(bits: u32) -> RepairOpts {
+    let bit = |k: u32| bits >> k & 1 == 1;
+    RepairOpts::none()
+        .with_drop_degenerate(bit(0))
+        .with_drop_duplicate_faces(bit(1))
+        .with_resolve_nonmanifold_edges(bit(2))
+        .with_split_bowtie_vertices(bit(3))
+        .with_orient_consistently(bit(4))
+        .with_drop_isolated_vertices(bit(5))
+}
+
+/// The ten counts in report order.
+fn ten(r: &RepairReport) -> [usize; 10] {
+    [
+        r.degenerate_removed,
+        r.duplicate_faces_removed,
+        r.nonmanifold_edges,
+        r.faces_dropped_at_nonmanifold,
+        r.faces_dropped_for_orientation,
+        r.bowtie_vertices_split,
+        r.points_added_by_splitting,
+        r.faces_reoriented,
+        r.nonorientable_components,
+        r.isolated_vertices_removed,
+    ]
+}
+
+/// A mesh mended by the Rust, as flat lists.
+pub fn mended(case: &Case) -> (Vec<f64>, Vec<u32>, [usize; 10]) {
+    na::set_threshold(case.threshold);
+    let answer = repair_buffers(&points(case), &case.triples(), &options(case.options)).expect("an accepted mesh");
+    let coordinates = answer.points.iter().flat_map(|p| [p[0], p[1], p[2]]).collect();
+    (coordinates, answer.faces.into_iter().flatten().collect(), ten(&answer.report))
+}
+
+fn repair(case: &Case) -> (Vec<u64>, Vec<Vec<u8>>) {
+    let (points, faces, report) = mended(case);
+    let counts = vec![points.len() as u64, faces.len() as u64, 10];
+    (counts, vec![floats(points), numbers(faces), numbers(report.map(|n| n as u32))])
+}
+
+/// The Rust begins each loop anywhere and lists the loops in any order. Rotated so that the lowest vertex is last, and sorted by it, they are document
+/// 01's: the walk from the lowest vertex, reversed.
+fn in_order(mut loops: Vec<Vec<u32>>) -> Vec<Vec<u32>> {
+    for l in &mut loops {
+        let lowest = (0..l.len()).min_by_key(|&i| l[i]).expect("a loop has a vertex");
+        l.rotate_left(lowest + 1);
+    }
+    loops.sort_by_key(|l| l.last().copied());
+    loops
+}
+
+fn edges(case: &Case) -> (Vec<u64>, Vec<Vec<u8>>) {
+    let mesh = mesh(case);
+    let answer = MeshEdges::new(&mesh).expect("an accepted mesh");
+    let loops = in_order(answer.boundary_loops);
+    let ends = loops.iter().scan(0, |total, l| {
+        *total += l.len() as u32;
+        Some(*total)
+    });
+    let rows = vec![
+        numbers(answer.edges.iter().flatten().copied()),
+        floats(answer.edge_lengths),
+        numbers(answer.face_edges.into_iter().flatten()),
+        numbers(loops.iter().flatten().copied()),
+        numbers(ends),
+    ];
+    let counts = rows.iter().zip([4, 8, 4, 4, 4]).map(|(row, size)| (row.len() / size) as u64).collect();
+    (counts, rows)
+}
+
+/// The edge check, which the Rust does not have: no face repeats a corner, and every directed edge is used at most once.
+fn sound(case: &Case) -> bool {
+    let mut used = BTreeSet::new();
+    case.triples().into_iter().all(|[a, b, c]| a != b && b != c && c != a && used.insert((a, b)) && used.insert((b, c)) && used.insert((c, a)))
+}
+
+fn labels(case: &Case) -> engeom::Result<PatchLabels> {
+    PatchLabels::new(case.labels.clone(), case.patch_count as usize)
+}
+
+fn filter(case: &Case) -> PatchFilter {
+    let limits = &case.filter;
+    let is = |k: u32| limits.set >> k & 1 == 1;
+    let mut filter = PatchFilter::default();
+    if is(0) {
+        filter = filter.with_min_faces(limits.min_faces as usize);
+    }
+    if is(1) {
+        filter = filter.with_min_area(limits.reals[0]);
+    }
+    if is(2) {
+        filter = filter.with_min_aabb_diagonal(limits.reals[1]);
+    }
+    if is(3) {
+        filter = filter.with_min_area_fraction(limits.reals[2]);
+    }
+    if is(4) {
+        filter = filter.with_keep_largest_n(limits.keep_largest_n as usize);
+    }
+    filter
+}
+
+fn patches(case: &Case) -> (Vec<u64>, Vec<Vec<u8>>) {
+    let stats = labels(case).unwrap().compute_stats(&mesh(case)).expect("an accepted mesh");
+    let flags = filter(case).keep_flags(&stats);
+    let seven = |s: &PatchStats| [s.area, s.min[0], s.min[1], s.min[2], s.max[0], s.max[1], s.max[2]];
+    let rows = vec![numbers(stats.iter().map(|s| s.face_count as u32)), floats(stats.iter().flat_map(seven)), numbers(flags.into_iter().map(u32::from))];
+    let c = case.patch_count;
+    (vec![c, 7 * c, c], rows)
+}
+
+/// Areas and diagonals of the patches, and shares of the largest area: limits near these are worth a try.
+pub fn measures(case: &Case) -> Vec<f64> {
+    let stats = labels(case).unwrap().compute_stats(&mesh(case)).expect("an accepted mesh");
+    let largest = stats.iter().map(|s| s.area).fold(0.0, f64::max);
+    let near = |s: &PatchStats| [s.area, s.aabb_diagonal(), s.area / largest];
+    stats.iter().flat_map(near).chain([0.5]).collect()
+}
+
+/// Times the Rust alone, its input made beforehand.
+pub fn time(case: &Case, median: impl FnOnce(&mut dyn FnMut()) -> f64) -> f64 {
+    na::set_threshold(case.threshold);
+    let (mesh, options, filter) = (mesh(case), options(case.options), filter(case));
+    let patches = || labels(case).unwrap().compute_stats(&mesh).map(|stats| filter.keep_flags(&stats));
+    match case.call {
+        Call::Repair => median(&mut || drop(repair_buffers(mesh.points(), mesh.faces(), &options))),
+        Call::Edges => median(&mut || drop(MeshEdges::new(&mesh))),
+        Call::Patches => median(&mut || drop(patches())),
+        Call::Check | Call::Line => f64::NAN,
+    }
+}
+
+fn line(case: &Case) -> (Vec<u64>, Vec<Vec<u8>>) {
+    let n = |k: usize| case.counts[k] as usize;
+    let report = RepairReport {
+        degenerate_removed: n(0),
+        duplicate_faces_removed: n(1),
+        nonmanifold_edges: n(2),
+        faces_dropped_at_nonmanifold: n(3),
+        faces_dropped_for_orientation: n(4),
+        bowtie_vertices_split: n(5),
+        points_added_by_splitting: n(6),
+        faces_reoriented: n(7),
+        nonorientable_components: n(8),
+        isolated_vertices_removed: n(9),
+        faces_rejected_by_ingest: 0,
+    };
+    let text = report.to_string().into_bytes();
+    (vec![text.len() as u64], vec![text])
+}

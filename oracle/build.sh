@@ -4,27 +4,29 @@
 set -eu
 folder=$(mkdir -p "$1" && cd "$1" && pwd)
 cd "$(dirname "${BASH_SOURCE[0]}")/.."
-originals=${ORIGINALS:-../shared/docs/src}/engeom/src
-[ -d "$originals" ] || { echo "oracle: the Rust's files are not at $originals"; exit 3; }
+from=${ORIGINALS:-../shared/docs/src}/engeom/src
+[ -d "$from" ] || { echo "oracle: the Rust's files are not at $from"; exit 3; }
 command -v rustc >/dev/null || { echo "oracle: no rustc here"; exit 3; }
 
 # Whole files as they are; of points.rs and common.rs, which want much else, the items that those files use.
-mkdir -p "$folder/engeom/original"
+to=$folder/engeom/original
+mkdir -p "$to"
 cp -f oracle/engeom/*.rs "$folder/engeom/"
-cp -f "$originals"/geom3/half_edge3/repair.rs "$originals"/geom3/mesh/{edges,patches,algorithms/normals}.rs "$originals"/common/index_mask.rs "$folder/engeom/original/"
-sed -n '/^pub fn triangle_area</,/^}/p' "$originals/common/points.rs" >"$folder/engeom/original/points.rs"
-sed -n '/^pub trait PCoords</,/^}/p; /^impl<const D: usize> PCoords<D> for Point</,/^}/p' "$originals/common.rs" >"$folder/engeom/original/common.rs"
-DEGENERATE_SIN=$(sed -n 's/^const DEGENERATE_SIN: f64 = \(.*\);$/\1/p' "$originals/geom3/mesh/algorithms/normals.rs")
+cp -f "$from"/geom3/half_edge3/repair.rs "$from"/geom3/mesh/{edges,patches,algorithms/normals}.rs "$from"/common/index_mask.rs "$to/"
+sed -n '/^pub fn triangle_area</,/^}/p' "$from/common/points.rs" >"$to/points.rs"
+sed -n '/^pub trait PCoords</,/^}/p; /^impl<const D: usize> PCoords<D> for Point</,/^}/p' "$from/common.rs" >"$to/common.rs"
+DEGENERATE_SIN=$(sed -n 's/^const DEGENERATE_SIN: f64 = \(.*\);$/\1/p' "$to/normals.rs")
 export DEGENERATE_SIN
 
-# The calls that the library has: the harness compares these.
+# The calls that the library has: these are compared.
 bash host/build.sh "$folder"
 names=$(nm "$folder/libshell.a" 2>/dev/null | sed -n 's/^[0-9a-f]* T shell_//p')
 calls=()
 for call in repair edges check patches line; do
     calls+=(--check-cfg "cfg(has_$call)")
-    grep -qx "$call" <<<"$names" && calls+=(--cfg "has_$call")
+    ! grep -qx "$call" <<<"$names" || calls+=(--cfg "has_$call")
 done
 
-rustc --edition 2024 -O -D warnings --crate-type rlib --crate-name engeom --out-dir "$folder" "$folder/engeom/lib.rs"
-rustc --edition 2024 -O -D warnings "${calls[@]}" --extern "engeom=$folder/libengeom.rlib" -L "$folder" -l static=shell -o "$folder/oracle" oracle/src/main.rs
+rust=(rustc --edition 2024 -O -D warnings)
+"${rust[@]}" --crate-type rlib --crate-name engeom --out-dir "$folder" "$folder/engeom/lib.rs"
+"${rust[@]}" "${calls[@]}" --extern "engeom=$folder/libengeom.rlib" -L "$folder" -l static=shell -o "$folder/oracle" oracle/src/main.rs

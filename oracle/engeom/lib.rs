@@ -1,5 +1,5 @@
-//! The original files of engeom over stand-ins. `original/` is filled by oracle/build.sh: whole files byte for byte, and of common.rs and points.rs the
-//! items that the others use. docs/DIFFERENCES.md lists every stand-in and every line left out.
+//! The original files of engeom over stand-ins. `original/` is filled by oracle/build.sh: whole files byte for byte, and of common.rs and points.rs
+//! the items that the others use. docs/DIFFERENCES.md lists every stand-in and every line left out.
 #![allow(dead_code)]
 
 // The crates that are not to be had: their names lead to the modules below.

@@ -1,10 +1,10 @@
 //! One case through the library, and whether it came out as it must.
 
 use crate::case::{Call, Case};
-use crate::fault::Fault;
+use crate::fault::{self, Fault};
 use crate::here::{self, Inputs, Reply};
 use crate::lent::Lent;
-use crate::there::Outcome;
+use crate::there::{self, Outcome};
 
 /// The rooms of a case as they are lent.
 pub fn rooms(case: &Case) -> Vec<Lent> {
@@ -13,24 +13,29 @@ pub fn rooms(case: &Case) -> Vec<Lent> {
     case.stated().into_iter().enumerate().map(|(k, entry)| room(k, entry)).collect()
 }
 
-/// What is wrong with the library's answer, if anything. A call that the library does not have has nothing wrong. With a fault the answer is altered
-/// first, and a call that is not there is played from the outcome, so that each fault can be tried for each call.
+/// What is wrong with the library's answer, if anything. A call that the library does not have has nothing wrong.
 pub fn difference(case: &Case, wanted: &Outcome, fault: Option<Fault>) -> Option<String> {
     let mut input = Inputs::new(case);
     let mut rooms = rooms(case);
-    let mut reply = match here::run(case, &mut input, &mut rooms) {
-        Some(reply) => reply,
-        None if fault.is_some() => crate::fault::play(case, wanted, &mut rooms),
-        None => return None,
+    let reply = match fault {
+        None => here::run(case, &mut input, &mut rooms)?,
+        Some(fault) => faulty(case, wanted, fault, &mut input, &mut rooms),
     };
-    if let Some(fault) = fault {
-        fault.alter(case, &mut reply, &mut input, &mut rooms);
-    }
     let must = Reply { number: wanted.number, place: wanted.place, counts: wanted.counts.clone() };
     if reply != must {
         return Some(format!("it gives back {}, and must give back {}", told(&reply), told(&must)));
     }
     input.changed().or_else(|| wrong_room(case, wanted, &mut rooms))
+}
+
+/// A reply with a fault. A call that is not there is played from the outcome, so that each fault can be tried for each call.
+fn faulty(case: &Case, wanted: &Outcome, fault: Fault, input: &mut Inputs, rooms: &mut [Lent]) -> Reply {
+    if let Some(other) = fault.other(case) {
+        return fault::play(case, &there::outcome(&other), rooms);
+    }
+    let mut reply = here::run(case, input, rooms).unwrap_or_else(|| fault::play(case, wanted, rooms));
+    fault.alter(case, &mut reply, input, rooms);
+    reply
 }
 
 fn told(reply: &Reply) -> String {

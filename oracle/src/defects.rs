@@ -78,7 +78,13 @@ fn turned_points(mesh: &mut Mesh, random: &mut Random) {
     let [a, b] = [random.below(n), random.below(n)];
     mesh.points.swap(a, b);
     for corner in mesh.faces.iter_mut().flatten() {
-        *corner = if *corner == a as u32 { b as u32 } else if *corner == b as u32 { a as u32 } else { *corner };
+        *corner = if *corner == a as u32 {
+            b as u32
+        } else if *corner == b as u32 {
+            a as u32
+        } else {
+            *corner
+        };
     }
 }
 

@@ -1,13 +1,17 @@
 //! Faults put into the library's answer, to show that the harness sees them.
 
-use crate::case::Case;
+use crate::case::{Call, Case};
 use crate::here::{Inputs, Reply};
 use crate::lent::Lent;
 use crate::there::Outcome;
 
+/// What is wrong: something in the reply, in a room, behind a room; or the whole answer is that of another input, without one bit of the options or
+/// limits, or with the threshold's neighbour.
 #[derive(Clone, Copy, PartialEq, Debug)]
 pub enum Fault {
     None,
+    Without(u32),
+    Threshold,
     Number,
     Place,
     Count,
@@ -22,20 +26,20 @@ pub enum Fault {
     InputChanged,
 }
 
-pub const FAULTS: [Fault; 12] = [
-    Fault::Number,
-    Fault::Place,
-    Fault::Count,
-    Fault::Answer,
-    Fault::AnswerOfTwoFaces,
-    Fault::NotCleared,
-    Fault::WorkLeft,
-    Fault::BehindStated,
-    Fault::BehindRoom,
-    Fault::BeforeRoom,
-    Fault::RefusalWrites,
-    Fault::InputChanged,
-];
+/// The faults that a call can have. The edge check and the line have no room to be cleared beside the last one.
+pub fn faults(call: Call) -> Vec<Fault> {
+    use Fault::*;
+    let mut all = vec![Number, Place, Count, Answer, WorkLeft, BehindStated, BehindRoom, BeforeRoom, RefusalWrites, InputChanged];
+    match call {
+        Call::Repair => all.extend([AnswerOfTwoFaces, NotCleared, Threshold]),
+        Call::Edges | Call::Patches => all.extend([AnswerOfTwoFaces, NotCleared]),
+        Call::Check => all.push(AnswerOfTwoFaces),
+        Call::Line => {}
+    }
+    let bits = [6, 0, 0, 5, 0][call as usize];
+    all.extend((0..bits).map(Without));
+    all
+}
 
 /// The outcome written as the library must write it.
 pub fn play(case: &Case, outcome: &Outcome, rooms: &mut [Lent]) -> Reply {
@@ -52,6 +56,20 @@ pub fn play(case: &Case, outcome: &Outcome, rooms: &mut [Lent]) -> Reply {
 }
 
 impl Fault {
+    /// The case whose answer is given for this one, if the fault is of that kind.
+    pub fn other(self, case: &Case) -> Option<Case> {
+        let mut other = case.clone();
+        match self {
+            Fault::Without(bit) => {
+                other.options &= !(1 << bit);
+                other.filter.set &= !(1 << bit);
+            }
+            Fault::Threshold => other.threshold = if case.threshold < 1.0 { case.threshold.next_up() } else { case.threshold.next_down() },
+            _ => return None,
+        }
+        Some(other)
+    }
+
     /// Alters a reply, an input or a room, where the case gives occasion.
     pub fn alter(self, case: &Case, reply: &mut Reply, input: &mut Inputs, rooms: &mut [Lent]) {
         let accepted = reply.number == 0;

@@ -54,8 +54,13 @@ fn count(random: &mut Random) -> u32 {
 
 /// A mesh with some defects; for other calls than repair often one that the Rust has mended.
 fn mesh(case: &mut Case, random: &mut Random) {
-    let mut mesh = if random.one_in(200) { meshes::grid(8 + random.below(12), 8 + random.below(8)) } else { meshes::any(random) };
-    for _ in 0..random.choose(&[0, 0, 0, 1, 1, 2, 3, 5, 8]) {
+    let size = match random.below(4000) {
+        0 => 50,
+        1..40 => 15,
+        _ => 5,
+    };
+    let mut mesh = meshes::any(random, size);
+    for _ in 0..random.choose(&[0, 0, 0, 1, 1, 2, 3, 5, size + 3]) {
         defects::add(&mut mesh, random);
     }
     places::give(&mut mesh, random);
@@ -88,17 +93,18 @@ pub fn degenerate_sin() -> f64 {
 fn settings(case: &mut Case, random: &mut Random) {
     case.options = if random.one_in(3) { 63 } else { random.below(64) as u32 };
     let below_one = 1f64.next_down();
-    case.threshold = random.choose(&[0.0, -0.0, f64::from_bits(1), degenerate_sin(), 2f64.powi(-10), 0.5, below_one, 1.0]);
-    if case.f() > 0 && random.one_in(2) {
+    let sine = degenerate_sin();
+    case.threshold = random.choose(&[0.0, -0.0, f64::from_bits(1), sine, sine, sine, 2f64.powi(-10), 2f64.powi(-10), 0.5, below_one, 1.0]);
+    if case.f() > 0 && random.one_in(3) {
         let face = case.face(random.below(case.f() as usize));
-        let edge = sine(case, face);
+        let edge = sine_of(case, face);
         let near = [edge, edge.next_up(), edge.next_down(), edge.next_up().next_up()];
         case.threshold = Some(random.choose(&near)).filter(|s| (0.0..=1.0).contains(s)).unwrap_or(case.threshold);
     }
 }
 
 /// About the threshold at which a face becomes degenerate.
-fn sine(case: &Case, face: [u32; 3]) -> f64 {
+fn sine_of(case: &Case, face: [u32; 3]) -> f64 {
     let [p, q, r]: [[f64; 3]; 3] = face.map(|v| std::array::from_fn(|k| case.points[3 * v as usize + k]));
     let [a, b]: [[f64; 3]; 2] = [std::array::from_fn(|k| q[k] - p[k]), std::array::from_fn(|k| r[k] - p[k])];
     let norm = |v: [f64; 3]| (v[0] * v[0] + v[1] * v[1] + v[2] * v[2]).sqrt();
@@ -147,7 +153,7 @@ fn rooms(case: &mut Case, random: &mut Random) {
         case.rooms[k].extra = -1;
     }
     for (room, (_, stated)) in case.rooms.iter_mut().zip(&stated) {
-        if *stated > 1 << 20 {
+        if *stated >= 1 << 20 {
             room.most = 4096;
         }
     }

@@ -55,9 +55,10 @@ pub struct Inputs {
 
 impl Inputs {
     pub fn new(case: &Case) -> Self {
-        let numbers = |row: &[u32]| Lent::input(4, &row.iter().flat_map(|x| x.to_ne_bytes()).collect::<Vec<u8>>());
+        let dirt = case.rooms[0].dirt;
+        let numbers = |row: &[u32]| Lent::input(4, &row.iter().flat_map(|x| x.to_ne_bytes()).collect::<Vec<u8>>(), dirt);
         let points: Vec<u8> = case.points.iter().flat_map(|x| x.to_bits().to_ne_bytes()).collect();
-        Inputs { points: Lent::input(8, &points), faces: numbers(&case.faces), labels: numbers(&case.labels), counts: numbers(&case.counts) }
+        Inputs { points: Lent::input(8, &points, dirt), faces: numbers(&case.faces), labels: numbers(&case.labels), counts: numbers(&case.counts) }
     }
 
     /// The first input that a call has changed.

@@ -35,8 +35,8 @@ impl Lent {
     }
 
     /// Input, which no call may change.
-    pub fn input(size: usize, content: &[u8]) -> Self {
-        let mut lent = Self::room(size, content.len() / size, 0, 2);
+    pub fn input(size: usize, content: &[u8], dirt: u64) -> Self {
+        let mut lent = Self::room(size, content.len() / size, 0, dirt);
         bytes_mut(&mut lent.words)[8 * MARGIN..8 * MARGIN + content.len()].copy_from_slice(content);
         lent.before.copy_from_slice(&lent.words);
         lent
@@ -46,7 +46,7 @@ impl Lent {
         self.length
     }
 
-    /// Where the first entry stands; NULL for some of the rooms that have none.
+    /// Where the first entry stands; NULL if there is none and the dirt is odd.
     pub fn pointer<T>(&mut self) -> *mut T {
         if self.null && self.length == 0 {
             return std::ptr::null_mut();

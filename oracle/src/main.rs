@@ -23,6 +23,7 @@ mod time;
 
 use case::{CALLS, Call, Case};
 use fault::Fault;
+use std::ops::Range;
 use std::process::ExitCode;
 use std::time::Instant;
 use tally::Tally;
@@ -59,7 +60,7 @@ fn main() -> ExitCode {
 
 /// What the words ask for; nothing if they are not understood.
 fn settings(words: &[&str]) -> Option<Settings> {
-    let mut settings = Settings { seed: 1, cases: 20_000, calls: CALLS.to_vec() };
+    let mut settings = Settings { seed: 1, cases: 300_000, calls: CALLS.to_vec() };
     for pair in words.chunks(2) {
         match pair {
             ["--seed", n] => settings.seed = n.parse().ok()?,
@@ -79,7 +80,7 @@ pub fn call_named(name: &str) -> Option<Call> {
 fn compare_all(settings: &Settings) -> ExitCode {
     for &call in &settings.calls {
         let (start, mut tally) = (Instant::now(), Tally::default());
-        let found = first(call, settings.seed, settings.cases, None, &mut tally);
+        let found = first(call, settings.seed, 0..settings.cases, None, &mut tally);
         let seconds = start.elapsed().as_secs_f64();
         let compared = if here::has(call) { "compared" } else { "answered by the Rust alone: the library does not have this call yet" };
         if let Some(found) = found {
@@ -98,11 +99,14 @@ fn compare_all(settings: &Settings) -> ExitCode {
 }
 
 /// The first difference in a call's cases, shrunk.
-pub fn first(call: Call, seed: u64, cases: u64, fault: Option<Fault>, tally: &mut Tally) -> Option<Found> {
+pub fn first(call: Call, seed: u64, numbers: Range<u64>, fault: Option<Fault>, tally: &mut Tally) -> Option<Found> {
     let differs = |case: &Case| compare::difference(case, &there::outcome(case), fault);
-    for number in 0..cases {
+    for number in numbers {
         let case = generate::case(call, seed, number);
-        let outcome = there::outcome(&case);
+        let outcome = std::panic::catch_unwind(|| there::outcome(&case)).unwrap_or_else(|_| {
+            println!("{}: the Rust fails in case {number} of seed {seed}\n{}", call.name(), print::shown(&case));
+            std::process::exit(1)
+        });
         tally.add(&case, &outcome);
         if compare::difference(&case, &outcome, fault).is_some() {
             let case = shrink::smallest(&case, &|case| differs(case).is_some());

@@ -8,12 +8,12 @@ pub struct Mesh {
     pub faces: Vec<[u32; 3]>,
 }
 
-/// One of the meshes below, small.
-pub fn any(random: &mut Random) -> Mesh {
-    let n = 1 + random.below(6);
-    let m = 1 + random.below(5);
+/// One of the meshes below, its sizes about `size` at most.
+pub fn any(random: &mut Random, size: usize) -> Mesh {
+    let n = 1 + random.below(size + 1);
+    let m = 1 + random.below(size);
     match random.below(14) {
-        0..3 => soup(random),
+        0..3 => soup(random, size),
         3 => grid(n, m),
         4 => band(n + 2, m % 2),
         5 => fan(n, random.one_in(2)),
@@ -23,21 +23,18 @@ pub fn any(random: &mut Random) -> Mesh {
         9 => bowtie(n, m),
         10 => book(n + m, random),
         11 => star(n + 3, random),
-        12 => together(any(random), any(random)),
+        12 => together(any(random, size), any(random, size)),
         _ => tetrahedra(n),
     }
 }
 
 /// Corners anywhere among few points, so that corners, edges and faces repeat.
-pub fn soup(random: &mut Random) -> Mesh {
-    let points = random.below(9);
-    let faces = if points == 0 { 0 } else { random.below(14) };
+fn soup(random: &mut Random, size: usize) -> Mesh {
+    let points = random.below(size + 4);
+    let faces = if points == 0 { 0 } else { random.below(3 * size) };
     let place = |random: &mut Random| std::array::from_fn(|_| random.between(-2, 2) as f64);
     let corner = |random: &mut Random| random.below(points) as u32;
-    Mesh {
-        points: (0..points).map(|_| place(random)).collect(),
-        faces: (0..faces).map(|_| std::array::from_fn(|_| corner(random))).collect(),
-    }
+    Mesh { points: (0..points).map(|_| place(random)).collect(), faces: (0..faces).map(|_| std::array::from_fn(|_| corner(random))).collect() }
 }
 
 /// n by m squares of two faces each.

@@ -35,6 +35,9 @@ pub fn shown(case: &Case) -> String {
         text += &format!("{} {} {}\n", limits.min_faces, reals.join(" "), limits.keep_largest_n);
     }
     let lengths = case.lengths();
+    if case.rooms[0].dirt & 1 == 1 {
+        text += "  what is empty is NULL\n";
+    }
     for (k, name) in case.call.rooms().iter().enumerate() {
         let held = if case.rooms[k].dirt == 0 { "clean".to_string() } else { format!("dirty by {}", case.rooms[k].dirt) };
         text += &format!("  room {name}: {} entries, {} stated, {held}\n", lengths[k], case.stated()[k].1);

@@ -71,7 +71,12 @@ fn read(words: &mut Words, call: Call) -> Case {
 fn as_recorded(case: &Case, answers: &mut Words) -> bool {
     let outcome = there::outcome(case);
     let (number, place, rows) = (answers.one(), answers.one(), answers.one());
-    let rows: Vec<Vec<u64>> = (0..rows).map(|_| { let count = answers.one(); answers.row(count) }).collect();
+    let rows: Vec<Vec<u64>> = (0..rows)
+        .map(|_| {
+            let count = answers.one();
+            answers.row(count)
+        })
+        .collect();
     if (number, place) != (outcome.number as u64, outcome.place as u64) {
         return false;
     }
@@ -93,7 +98,8 @@ pub fn run(cases: &str, answers: &str) -> ExitCode {
         answers.one();
         let after = answers.one() as usize + answers.at;
         let case = read(&mut cases, call);
-        let wrong = if as_recorded(&case, &mut answers) { compare::difference(&case, &there::outcome(&case), None) } else { Some("not as recorded".into()) };
+        let wrong =
+            if as_recorded(&case, &mut answers) { compare::difference(&case, &there::outcome(&case), None) } else { Some("not as recorded".into()) };
         if let Some(what) = wrong {
             println!("recorded: {what}\n{}", print::shown(&case));
             different += 1;

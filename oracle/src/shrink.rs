@@ -15,7 +15,16 @@ struct Search<'a> {
 /// The smallest case found.
 pub fn smallest(case: &Case, differs: &dyn Fn(&Case) -> bool) -> Case {
     let mut search = Search { case: case.clone(), differs, end: Instant::now() + LONGEST };
-    while search.faces() | search.tails() | search.points() | search.settings() | search.patches() | search.counts() | search.rooms() | search.corners() | search.coordinates() {}
+    while search.faces()
+        | search.tails()
+        | search.points()
+        | search.settings()
+        | search.patches()
+        | search.counts()
+        | search.rooms()
+        | search.corners()
+        | search.coordinates()
+    {}
     search.case
 }
 

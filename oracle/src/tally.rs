@@ -2,13 +2,16 @@
 
 use crate::case::{Call, Case};
 use crate::there::Outcome;
-use std::collections::BTreeMap;
+use std::cmp::Ordering;
+use std::collections::{BTreeMap, BTreeSet};
 
 #[derive(Default)]
 pub struct Tally {
     numbers: BTreeMap<u32, usize>,
     places: BTreeMap<(u32, u32), usize>,
     things: BTreeMap<&'static str, usize>,
+    rooms: BTreeMap<&'static str, usize>,
+    options: BTreeSet<u32>,
 }
 
 const REPORT: [&str; 10] = [
@@ -35,6 +38,15 @@ impl Tally {
         if [1, 2, 3, 6].contains(&outcome.number) {
             *self.places.entry((outcome.number, outcome.place)).or_default() += 1;
         }
+        for ((_, stated), (length, room)) in case.stated().into_iter().zip(case.lengths().into_iter().zip(&case.rooms)) {
+            let size = match (length as u128).cmp(&stated) {
+                Ordering::Less => "short",
+                Ordering::Equal => "exact",
+                Ordering::Greater => "longer",
+            };
+            *self.rooms.entry(size).or_default() += 1;
+            *self.rooms.entry(if room.dirt == 0 { "clean" } else { "dirty" }).or_default() += 1;
+        }
         if outcome.number == 0 {
             self.answered(case, outcome);
         }
@@ -44,7 +56,10 @@ impl Tally {
         let (rows, counts) = (&outcome.rows, &outcome.counts);
         let mut count = |name: &'static str, yes: bool| *self.things.entry(name).or_default() += yes as usize;
         match case.call {
-            Call::Repair => (0..10).for_each(|k| count(REPORT[k], number(&rows[2], k) > 0)),
+            Call::Repair => {
+                (0..10).for_each(|k| count(REPORT[k], number(&rows[2], k) > 0));
+                self.options.insert(case.options);
+            }
             Call::Edges => {
                 count("some edge", counts[0] > 0);
                 count("one loop", counts[4] == 1);
@@ -69,12 +84,14 @@ impl Tally {
         }
     }
 
-    /// The counts in three lines.
+    /// The counts in four lines.
     pub fn shown(&self) -> String {
         let of_number = |(n, times): (&u32, &usize)| if *n == 0 { format!("accepted {times}") } else { format!("{n}: {times}") };
         let numbers: Vec<String> = self.numbers.iter().map(of_number).collect();
         let places: Vec<String> = self.places.iter().map(|((n, place), times)| format!("{n} at {place}: {times}")).collect();
-        let things: Vec<String> = self.things.iter().map(|(name, times)| format!("{name} {times}")).collect();
-        format!("  {}\n  by place: {}\n  of the accepted: {}", numbers.join(", "), places.join(", "), things.join(", "))
+        let named = |counts: &BTreeMap<&str, usize>| counts.iter().map(|(name, times)| format!("{name} {times}")).collect::<Vec<_>>().join(", ");
+        let options = if self.options.is_empty() { String::new() } else { format!(", with {} different options", self.options.len()) };
+        let (numbers, places, things, rooms) = (numbers.join(", "), places.join(", "), named(&self.things), named(&self.rooms));
+        format!("  {numbers}\n  by place: {places}\n  of the accepted: {things}{options}\n  rooms: {rooms}")
     }
 }

@@ -117,8 +117,8 @@ fn repair(case: &Case) -> (Vec<u64>, Vec<Vec<u8>>) {
     (counts, vec![floats(points), numbers(faces), numbers(report.map(|n| n as u32))])
 }
 
-/// The Rust begins each loop anywhere and lists the loops in any order. Rotated so that the lowest vertex is last, and sorted by it, they are document
-/// 01's: the walk from the lowest vertex, reversed.
+/// The Rust begins each loop anywhere and lists the loops in any order. Rotated so that the lowest vertex is last, and sorted by it, they are
+/// document 01's: the walk from the lowest vertex, reversed.
 fn in_order(mut loops: Vec<Vec<u32>>) -> Vec<Vec<u32>> {
     for l in &mut loops {
         let lowest = (0..l.len()).min_by_key(|&i| l[i]).expect("a loop has a vertex");
@@ -183,7 +183,8 @@ fn patches(case: &Case) -> (Vec<u64>, Vec<Vec<u8>>) {
     let stats = labels(case).unwrap().compute_stats(&mesh(case)).expect("an accepted mesh");
     let flags = filter(case).keep_flags(&stats);
     let seven = |s: &PatchStats| [s.area, s.min[0], s.min[1], s.min[2], s.max[0], s.max[1], s.max[2]];
-    let rows = vec![numbers(stats.iter().map(|s| s.face_count as u32)), floats(stats.iter().flat_map(seven)), numbers(flags.into_iter().map(u32::from))];
+    let rows =
+        vec![numbers(stats.iter().map(|s| s.face_count as u32)), floats(stats.iter().flat_map(seven)), numbers(flags.into_iter().map(u32::from))];
     let c = case.patch_count;
     (vec![c, 7 * c, c], rows)
 }

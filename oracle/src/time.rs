@@ -1,4 +1,4 @@
-//! Times of a call on a grid: the median of five runs, the library's and the Rust's.
+//! Times of a call on a grid: the median of five runs in processor time, the library's and the Rust's.
 
 use crate::call_named;
 use crate::case::{Call, Case, Filter};
@@ -6,21 +6,37 @@ use crate::here::{self, Inputs};
 use crate::lent::Lent;
 use crate::{compare, generate, meshes, there};
 use std::process::ExitCode;
-use std::time::Instant;
 
 const RUNS: usize = 5;
 
-/// The median of five times, in milliseconds.
+#[repr(C)]
+struct Clock {
+    seconds: i64,
+    nanoseconds: i64,
+}
+
+unsafe extern "C" {
+    fn clock_gettime(clock: i32, now: *mut Clock) -> i32;
+}
+
+/// The milliseconds that this thread has had a processor: a loaded machine does not count.
+fn now() -> f64 {
+    let mut now = Clock { seconds: 0, nanoseconds: 0 };
+    assert_eq!(unsafe { clock_gettime(3, &mut now) }, 0);
+    now.seconds as f64 * 1e3 + now.nanoseconds as f64 / 1e6
+}
+
+fn milliseconds(run: impl FnOnce()) -> f64 {
+    let start = now();
+    run();
+    now() - start
+}
+
+/// The median of five times.
 fn median(mut run: impl FnMut() -> f64) -> f64 {
     let mut times: Vec<f64> = (0..RUNS).map(|_| run()).collect();
     times.sort_by(f64::total_cmp);
     times[RUNS / 2]
-}
-
-fn milliseconds(run: impl FnOnce()) -> f64 {
-    let start = Instant::now();
-    run();
-    start.elapsed().as_secs_f64() * 1e3
 }
 
 /// A grid with so many faces, as the call takes it.
@@ -41,26 +57,30 @@ fn grid(call: Call, faces: usize) -> Case {
     case
 }
 
-/// The library's median; the rooms are lent again after each run as it left them, or filled anew if they are to be dirty.
-fn ours(case: &Case, dirty: bool) -> Option<f64> {
-    if !here::has(case.call) {
-        return None;
-    }
+/// The library's median. The rooms are lent again as the run before left them, or filled anew if they are to be dirty.
+fn ours(case: &Case, dirty: bool) -> f64 {
     let (mut input, mut rooms) = (Inputs::new(case), compare::rooms(case));
-    Some(median(|| {
+    here::run(case, &mut input, &mut rooms);
+    median(|| {
         if dirty {
             rooms.iter_mut().for_each(Lent::soil);
         }
         milliseconds(|| drop(here::run(case, &mut input, &mut rooms)))
-    }))
+    })
 }
 
-fn told(name: &str, case: &Case, dirty: bool) {
-    let faces = case.f() as f64;
-    let of = |time: f64| format!("{time:.2} ms, {:.1} ns a face", time * 1e6 / faces);
-    let here = ours(case, dirty).map_or("not there yet".to_string(), of);
-    let there = if case.call == Call::Check { "has no such call".to_string() } else { of(there::time(case, |run| median(|| milliseconds(&mut *run)))) };
-    println!("{name}, P = {}, F = {}: ours {here}; the Rust {there}", case.p(), case.f());
+fn told(name: &str, case: &Case) {
+    let line = |what: &str, time: f64| println!("{name}, {what}: {time:.2} ms, {:.1} ns a face", time * 1e6 / case.f() as f64);
+    if here::has(case.call) {
+        line("ours with clean rooms", ours(case, false));
+        line("ours with dirty rooms", ours(case, true));
+    } else {
+        println!("{name}: the library does not have this call yet");
+    }
+    match case.call {
+        Call::Check => println!("{name}: the Rust has no such call"),
+        _ => line("the Rust", there::time(case, |run| median(|| milliseconds(&mut *run)))),
+    }
 }
 
 pub fn run(call: &str, faces: usize) -> ExitCode {
@@ -69,15 +89,11 @@ pub fn run(call: &str, faces: usize) -> ExitCode {
         return ExitCode::from(2);
     };
     let mut case = grid(call, faces);
+    println!("a grid, P = {}, F = {}", case.p(), case.f());
+    told(call.name(), &case);
     if call == Call::Repair {
-        told("repair, options 0", &case, false);
         case.options = 63;
-        told("repair, options 63", &case, false);
-    } else {
-        told(&format!("{}, rooms clean", call.name()), &case, false);
-    }
-    if call != Call::Patches {
-        told(&format!("{}, rooms dirty", call.name()), &case, true);
+        told("repair with options 63", &case);
     }
     ExitCode::SUCCESS
 }

@@ -12,6 +12,7 @@ pub enum Call {
 pub const CALLS: [Call; 5] = [Call::Repair, Call::Edges, Call::Check, Call::Patches, Call::Line];
 
 impl Call {
+    /// The call's name in the library, after `shell_`.
     pub fn name(self) -> &'static str {
         ["repair", "edges", "check", "patches", "line"][self as usize]
     }

@@ -38,6 +38,7 @@ fn faulty(case: &Case, wanted: &Outcome, fault: Fault, input: &mut Inputs, rooms
     reply
 }
 
+/// A reply in words.
 fn told(reply: &Reply) -> String {
     format!("number {} place {} counts {:?}", reply.number, reply.place, reply.counts)
 }

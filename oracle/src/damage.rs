@@ -48,11 +48,13 @@ fn corner(case: &mut Case, random: &mut Random) {
     case.faces[at] = random.choose(&[p, p, p + 1, u32::MAX, p.saturating_sub(1), 1 << 31]);
 }
 
+/// A threshold outside 0..1, or −0, which is inside.
 fn threshold(case: &mut Case, random: &mut Random) {
     let values = [f64::NAN, -f64::from_bits(1), 1f64.next_up(), f64::INFINITY, f64::NEG_INFINITY, -1.0, 2.0, -f64::NAN, -0.0];
     case.threshold = random.choose(&values);
 }
 
+/// Options above 63, or just 63.
 fn options(case: &mut Case, random: &mut Random) {
     case.options = random.choose(&[64, 65, 127, 128, 1 << 31, u32::MAX, 63]);
 }
@@ -63,6 +65,7 @@ fn point_count(case: &mut Case, random: &mut Random) {
     case.point_count = random.choose(&[MOST_POINTS, MOST_POINTS + 1, u64::MAX, 1 << 32, p.saturating_sub(1), 0]);
 }
 
+/// A label that is no patch, or just is one.
 fn label(case: &mut Case, random: &mut Random) {
     if case.labels.is_empty() {
         return;
@@ -72,6 +75,7 @@ fn label(case: &mut Case, random: &mut Random) {
     case.labels[at] = random.choose(&[count, count, count.wrapping_add(1), u32::MAX - 1, u32::MAX, count.saturating_sub(1)]);
 }
 
+/// A label more or fewer than there are faces.
 fn label_count(case: &mut Case, random: &mut Random) {
     if random.one_in(2) {
         case.labels.push(random.choose(&[0, u32::MAX, case.patch_count as u32]));
@@ -80,11 +84,13 @@ fn label_count(case: &mut Case, random: &mut Random) {
     }
 }
 
+/// A patch count at or above the limit, or too small for the labels.
 fn patch_count(case: &mut Case, random: &mut Random) {
     let count = case.patch_count;
     case.patch_count = random.choose(&[MOST_PATCHES, MOST_PATCHES + 1, u64::MAX, 1 << 32, count.saturating_sub(1), 0]);
 }
 
+/// More or fewer than ten counts, or just ten.
 fn counts(case: &mut Case, random: &mut Random) {
     let length = random.choose(&[0, 1, 9, 11, 10, 20, 30]);
     case.counts.resize(length, 7);

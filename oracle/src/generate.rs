@@ -67,7 +67,7 @@ fn mesh(case: &mut Case, random: &mut Random) {
     put(case, mesh);
     if case.call != Call::Repair && random.one_in(2) {
         case.options = random.choose(&[63, 63, 31, 47, 55]);
-        case.threshold = random.choose(&[0.0, 1e-12]);
+        case.threshold = random.choose(&[0.0, degenerate_sin()]);
         let (points, faces, _) = there::mended(case);
         case.points = points;
         case.faces = faces;
@@ -79,6 +79,7 @@ fn mesh(case: &mut Case, random: &mut Random) {
     }
 }
 
+/// The mesh as flat lists.
 fn put(case: &mut Case, mesh: Mesh) {
     case.points = mesh.points.into_iter().flatten().collect();
     case.faces = mesh.faces.into_iter().flatten().collect();

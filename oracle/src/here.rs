@@ -54,6 +54,7 @@ pub struct Inputs {
 }
 
 impl Inputs {
+    /// The input of a case, each row with its margins.
     pub fn new(case: &Case) -> Self {
         let dirt = case.rooms[0].dirt;
         let numbers = |row: &[u32]| Lent::input(4, &row.iter().flat_map(|x| x.to_ne_bytes()).collect::<Vec<u8>>(), dirt);
@@ -86,6 +87,7 @@ pub fn run(case: &Case, input: &mut Inputs, rooms: &mut [Lent]) -> Option<Reply>
     }
 }
 
+/// A reply of any call.
 #[allow(dead_code)]
 fn reply<const N: usize>(given: Given<N>) -> Reply {
     Reply { number: given.number, place: given.place, counts: given.counts.to_vec() }

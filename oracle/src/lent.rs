@@ -13,11 +13,13 @@ pub struct Lent {
     null: bool,
 }
 
+/// Words as bytes.
 fn bytes(words: &[u64]) -> &[u8] {
     // Any eight bytes are a word's.
     unsafe { std::slice::from_raw_parts(words.as_ptr().cast(), 8 * words.len()) }
 }
 
+/// Words as bytes that may be changed.
 fn bytes_mut(words: &mut [u64]) -> &mut [u8] {
     unsafe { std::slice::from_raw_parts_mut(words.as_mut_ptr().cast(), 8 * words.len()) }
 }
@@ -42,6 +44,7 @@ impl Lent {
         lent
     }
 
+    /// How many entries are lent.
     pub fn length(&self) -> usize {
         self.length
     }

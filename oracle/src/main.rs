@@ -72,6 +72,7 @@ fn settings(words: &[&str]) -> Option<Settings> {
     Some(settings)
 }
 
+/// The call of that name.
 pub fn call_named(name: &str) -> Option<Call> {
     CALLS.into_iter().find(|call| call.name() == name)
 }

@@ -85,6 +85,7 @@ fn fan(n: usize, closed: bool) -> Mesh {
     mesh
 }
 
+/// Six squares of two faces each, closed.
 fn cube() -> Mesh {
     let points = (0..8).map(|k| [k & 1, k >> 1 & 1, k >> 2].map(|x| x as f64)).collect();
     let squares = [[0, 2, 3, 1], [4, 5, 7, 6], [0, 1, 5, 4], [2, 6, 7, 3], [0, 4, 6, 2], [1, 3, 7, 5]];

@@ -26,10 +26,12 @@ pub fn give(mesh: &mut Mesh, random: &mut Random) {
     }
 }
 
+/// Every coordinate anew.
 fn each(mesh: &mut Mesh, mut new: impl FnMut(f64) -> f64) {
     mesh.points.iter_mut().flatten().for_each(|x| *x = new(*x));
 }
 
+/// Every coordinate times a factor.
 fn scale(mesh: &mut Mesh, factor: f64) {
     each(mesh, |x| x * factor);
 }

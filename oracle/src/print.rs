@@ -8,6 +8,7 @@ fn float(x: f64) -> String {
     if short.len() < 6 && !x.is_nan() { short } else { format!("{x:e}[{:016x}]", x.to_bits()) }
 }
 
+/// A row by threes, its beginning if it is long.
 fn threes<T: Copy>(row: &[T], show: impl Fn(T) -> String) -> String {
     let group = |three: &[T]| three.iter().map(|x| show(*x)).collect::<Vec<_>>().join(" ");
     let groups: Vec<String> = row.chunks(3).take(100).map(group).collect();

@@ -3,6 +3,7 @@
 pub struct Random(u64);
 
 impl Random {
+    /// The row of numbers that follows from a seed.
     pub fn new(seed: u64) -> Self {
         Random(seed)
     }

@@ -10,30 +10,36 @@ struct Words {
 }
 
 impl Words {
+    /// The words of a file in word form.
     fn load(path: &str) -> Self {
         let bytes = std::fs::read(path).unwrap_or_else(|error| panic!("{path}: {error}"));
         assert!(bytes.starts_with(b"MFIXCAS1"), "{path} is not in word form");
         Words { words: bytes.chunks_exact(8).map(|word| u64::from_le_bytes(word.try_into().unwrap())).collect(), at: 1 }
     }
 
+    /// The next word.
     fn one(&mut self) -> u64 {
         self.at += 1;
         self.words[self.at - 1]
     }
 
+    /// The next words.
     fn row(&mut self, count: u64) -> Vec<u64> {
         (0..count).map(|_| self.one()).collect()
     }
 
+    /// The next array, written out or as one value many times.
     fn array(&mut self) -> Vec<u64> {
         let count = self.one();
         if self.one() == 1 { vec![self.one(); count as usize] } else { self.row(count) }
     }
 
+    /// The next array, as floats.
     fn floats(&mut self) -> Vec<f64> {
         self.array().into_iter().map(f64::from_bits).collect()
     }
 
+    /// The next array, as numbers.
     fn numbers(&mut self) -> Vec<u32> {
         self.array().into_iter().map(|word| word as u32).collect()
     }
@@ -89,6 +95,7 @@ fn as_recorded(case: &Case, answers: &mut Words) -> bool {
     found.eq(rows)
 }
 
+/// Runs all records, and prints those that differ.
 pub fn run(cases: &str, answers: &str) -> ExitCode {
     let (mut cases, mut answers) = (Words::load(cases), Words::load(answers));
     let (mut same, mut different) = ([0; 5], 0);

@@ -10,6 +10,7 @@ use std::process::ExitCode;
 /// The cases that are tried: not the first four, which are large.
 const NUMBERS: Range<u64> = 4..4000;
 
+/// Tries every fault of every call.
 pub fn run() -> ExitCode {
     let (mut tried, mut missed) = (0, 0);
     for call in CALLS {

@@ -103,17 +103,18 @@ impl Search<'_> {
 
     /// A float replaced by the first of `plain` that does, if it is not one of those before it.
     fn simpler(&mut self, plain: &[f64], at: impl Fn(&mut Case) -> &mut f64) -> bool {
-        let now = at(&mut self.case.clone()).to_bits();
+        let now = at(&mut self.case).to_bits();
         let known = plain.iter().position(|x| x.to_bits() == now).unwrap_or(plain.len());
         plain[..known].iter().any(|&x| self.stays(|c| *at(c) = x))
     }
 
     /// A whole number replaced by the first smaller one of a few.
     fn lower(&mut self, at: impl Fn(&mut Case) -> &mut u64) -> bool {
-        let now = *at(&mut self.case.clone());
+        let now = *at(&mut self.case);
         [0, 1, 2, now / 2, now.saturating_sub(1)].into_iter().any(|n| n < now && self.stays(|c| *at(c) = n))
     }
 
+    /// Labels 0, limits absent, fewer patches.
     fn patches(&mut self) -> bool {
         let mut found = false;
         for i in 0..self.case.labels.len() {
@@ -128,6 +129,7 @@ impl Search<'_> {
         found | self.lower(|c| &mut c.patch_count) | self.lower(|c| &mut c.filter.min_faces) | self.lower(|c| &mut c.filter.keep_largest_n)
     }
 
+    /// Counts left out, or smaller.
     fn counts(&mut self) -> bool {
         let mut found = !self.case.counts.is_empty() && self.stays(|c| c.counts.truncate(c.counts.len() - 1));
         for i in 0..self.case.counts.len() {

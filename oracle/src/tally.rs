@@ -27,6 +27,7 @@ const REPORT: [&str; 10] = [
     "isolated",
 ];
 
+/// Entry i of a row of numbers.
 fn number(row: &[u8], i: usize) -> u32 {
     u32::from_ne_bytes(row[4 * i..4 * i + 4].try_into().unwrap())
 }
@@ -52,6 +53,7 @@ impl Tally {
         }
     }
 
+    /// Counts what an accepted case has in its answer.
     fn answered(&mut self, case: &Case, outcome: &Outcome) {
         let (rows, counts) = (&outcome.rows, &outcome.counts);
         let mut count = |name: &'static str, yes: bool| *self.things.entry(name).or_default() += yes as usize;

@@ -59,18 +59,22 @@ fn agree(case: &Case, number: u32, place: u64) {
     }
 }
 
+/// The points as the Rust takes them.
 fn points(case: &Case) -> Vec<Point3> {
     case.points.chunks_exact(3).map(|c| Point3::from([c[0], c[1], c[2]])).collect()
 }
 
+/// The mesh as the Rust takes it.
 fn mesh(case: &Case) -> Mesh3 {
     Mesh3::new(points(case), case.triples())
 }
 
+/// Floats as bytes.
 fn floats(values: impl IntoIterator<Item = f64>) -> Vec<u8> {
     values.into_iter().flat_map(|x| x.to_bits().to_ne_bytes()).collect()
 }
 
+/// Numbers as bytes.
 fn numbers(values: impl IntoIterator<Item = u32>) -> Vec<u8> {
     values.into_iter().flat_map(|x| x.to_ne_bytes()).collect()
 }
@@ -111,6 +115,7 @@ pub fn mended(case: &Case) -> (Vec<f64>, Vec<u32>, [usize; 10]) {
     (coordinates, answer.faces.into_iter().flatten().collect(), ten(&answer.report))
 }
 
+/// `repair_buffers`: counts and rows.
 fn repair(case: &Case) -> (Vec<u64>, Vec<Vec<u8>>) {
     let (points, faces, report) = mended(case);
     let counts = vec![points.len() as u64, faces.len() as u64, 10];
@@ -128,6 +133,7 @@ fn in_order(mut loops: Vec<Vec<u32>>) -> Vec<Vec<u32>> {
     loops
 }
 
+/// `MeshEdges`: counts and rows.
 fn edges(case: &Case) -> (Vec<u64>, Vec<Vec<u8>>) {
     let mesh = mesh(case);
     let answer = MeshEdges::new(&mesh).expect("an accepted mesh");
@@ -153,10 +159,12 @@ fn sound(case: &Case) -> bool {
     case.triples().into_iter().all(|[a, b, c]| a != b && b != c && c != a && used.insert((a, b)) && used.insert((b, c)) && used.insert((c, a)))
 }
 
+/// The labels as the Rust takes them.
 fn labels(case: &Case) -> engeom::Result<PatchLabels> {
     PatchLabels::new(case.labels.clone(), case.patch_count as usize)
 }
 
+/// The limits that are set.
 fn filter(case: &Case) -> PatchFilter {
     let limits = &case.filter;
     let is = |k: u32| limits.set >> k & 1 == 1;
@@ -179,6 +187,7 @@ fn filter(case: &Case) -> PatchFilter {
     filter
 }
 
+/// `PatchLabels`, `PatchStats` and `PatchFilter`: counts and rows.
 fn patches(case: &Case) -> (Vec<u64>, Vec<Vec<u8>>) {
     let stats = labels(case).unwrap().compute_stats(&mesh(case)).expect("an accepted mesh");
     let flags = filter(case).keep_flags(&stats);
@@ -210,6 +219,7 @@ pub fn time(case: &Case, median: impl FnOnce(&mut dyn FnMut()) -> f64) -> f64 {
     }
 }
 
+/// `RepairReport`'s `Display`: count and row.
 fn line(case: &Case) -> (Vec<u64>, Vec<Vec<u8>>) {
     let n = |k: usize| case.counts[k] as usize;
     let report = RepairReport {

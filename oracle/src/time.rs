@@ -26,6 +26,7 @@ fn now() -> f64 {
     now.seconds as f64 * 1e3 + now.nanoseconds as f64 / 1e6
 }
 
+/// How long a run takes.
 fn milliseconds(run: impl FnOnce()) -> f64 {
     let start = now();
     run();
@@ -69,6 +70,7 @@ fn ours(case: &Case, dirty: bool) -> f64 {
     })
 }
 
+/// Prints the library's times and the Rust's.
 fn told(name: &str, case: &Case) {
     let line = |what: &str, time: f64| println!("{name}, {what}: {time:.2} ms, {:.1} ns a face", time * 1e6 / case.f() as f64);
     if here::has(case.call) {
@@ -83,6 +85,7 @@ fn told(name: &str, case: &Case) {
     }
 }
 
+/// Times one call on a grid.
 pub fn run(call: &str, faces: usize) -> ExitCode {
     let Some(call) = call_named(call).filter(|call| *call != Call::Line) else {
         eprintln!("oracle: --time takes repair, edges, check or patches");

@@ -219,6 +219,7 @@ module _ {w₀ xs : List ℕ} {n : ℕ} (p : AllAsks w₀ xs n) where
         record {
           only = u .only;
           going = u .going;
+          few = omega (arith, u .most, u .at-most);
           is = u .is ∙ ap₂ (λ a k. through begin (record { walk = a; marks = 0 }) (below k)) (blank-is (p .going .ready .fits) (p .blank)) e;
         }
 

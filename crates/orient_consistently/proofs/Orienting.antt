@@ -91,6 +91,8 @@ module _ {P : ℕ} {xs : List ℕ} {n : ℕ} {w : List ℕ} (p : FacesStand P xs
               faces = h .faces ∙ ap (λ a. flatFaces (a .walk .faces)) (g .is);
               exchanges = ap (λ a. a .walk .exchanges) (g .is);
               marks = ap (λ a. a .marks) (g .is);
+              few-exchanges = few-exchanges;
+              few-marks = g .few;
               only-faces = h .only;
               only-work = only-all;
             }

@@ -73,6 +73,7 @@ pub record AllAsks (w xs : List ℕ) (n : ℕ) : Type 0 where
 pub record AllGives (w xs : List ℕ) (n : ℕ) (w′ : List ℕ) (r : ℕ) : Type 0 where
   pub only : Only 0 (3 + 11 * n) w w′
   pub going : Going w′ xs n
+  pub few : r ≤ n
   pub is : orientedOf xs n w′ r ≡ oriented (facesOf xs)
 
 -- n faces and their states
@@ -86,10 +87,12 @@ pub record TurnGives (xs w : List ℕ) (n : ℕ) (xs′ : List ℕ) : Type 0 whe
   pub only : Only 0 (3 * n) xs xs′
   pub faces : take (3 * n) xs′ ≡ flatFaces (turnedBy (part w 3 n) (standing xs n))
 
--- the first half of pass 4: the faces as the rule has them, and its two counts
+-- the first half of pass 4: the faces as the rule has them, and its two counts, which are not more than the faces
 pub record OrientGives (P : ℕ) (xs : List ℕ) (n : ℕ) (w xs′ w′ : List ℕ) (reoriented components : ℕ) : Type 0 where
   pub faces : take (3 * n) xs′ ≡ flatFaces (oriented (standing xs n) .walk .faces)
   pub exchanges : reoriented ≡ oriented (standing xs n) .walk .exchanges
   pub marks : components ≡ oriented (standing xs n) .marks
+  pub few-exchanges : reoriented ≤ n
+  pub few-marks : components ≤ n
   pub only-faces : Only 0 (3 * n) xs xs′
   pub only-work : Only 0 (work-room P n) w w′

@@ -1,15 +1,15 @@
 -- What one more boundary edge makes of the rows. Assumes nothing.
 use mathlib.Core.Path.{_≡_, refl, sym, ap, _∙_}
-use mathlib.Core.Bool.{Bool, true, false}
-use mathlib.Core.List.{List, [], _∷_, _++_, map, append-nil}
-use Prim.Native.Nat.{ℕ, zero, suc, _+_, _*_, _≤_, _<_}
+use mathlib.Core.Bool.{Bool, false}
+use mathlib.Core.List.{List, [], _∷_, _++_, append-nil}
+use Prim.Native.Nat.{ℕ, _+_, _*_, _≤_, _<_}
 use native.Mathlib.Omega.{arith}
 use native.Mathlib.Decide.{ℕ-discrete}
 use borrow.Author.Tests.{ne-eqb}
 use lib.ListN.{length, getD, set, length-set}
 use lib.Seq.{getD-set-same, getD-set-other}
 use lib.Dec.{T, eqb, eqb-refl}
-use Rattle.rows.specs.Region.{Only, Holds, Apart, Apart.before, Apart.after}
+use Rattle.rows.specs.Region.{Only, Holds, Apart.before, Apart.after}
 use Rattle.rows.proofs.Regions.{only-set, only-both, only-more, holds-set, holds-kept}
 use Rattle.rules.specs.Lists.{filter, count}
 use Rattle.rules.specs.Steps.{Step, step}

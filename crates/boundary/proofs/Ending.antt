@@ -1,16 +1,14 @@
 -- The verdict: 7 by the runs, 8 by the rows, or none. Assumes nothing.
 use mathlib.Core.Path.{_≡_, ap, _∙_, subst}
-use mathlib.Core.List.{List, [], _∷_}
+use mathlib.Core.List.{List, []}
 use Prim.Native.Nat.{ℕ, _+_, _*_, _≤_, _<_}
 use native.Mathlib.Nat.{add-assoc}
 use native.Mathlib.Omega.{arith}
 use lib.ListN.{length, getD}
-use Rattle.rows.specs.Region.{Only, Filled, Apart, Apart.before, Apart.after}
+use Rattle.rows.specs.Region.{Only, Filled, Apart.before}
 use Rattle.rows.proofs.Regions.{only-none, only-both, only-more, holds-kept}
 use Rattle.rules.specs.Lists.{count, filter}
-use Rattle.rules.specs.Mesh.{facesOf}
 use Rattle.rules.specs.Refusal.{decided}
-use Rattle.rules.specs.Edges.{no7, no8}
 use Rattle.refuse.specs.declared.Verdict.{Verdict}
 use Rattle.refuse.specs.declared.Verdict.the-variants.{Fine, Refused}
 use Rattle.table.proofs.Places.{tabled-kept}

@@ -1,14 +1,14 @@
 -- Refusal 8 from the rows, and the third row where there is none. Assumes nothing.
-use mathlib.Core.Path.{_≡_, refl, sym, ap, _∙_, subst}
+use mathlib.Core.Path.{_≡_, refl, sym, _∙_, subst}
 use mathlib.Core.Bool.{Bool, true, false, not, _&&_}
 use mathlib.Core.List.{List}
 use Prim.Native.Nat.{ℕ, _+_, _*_, _≤_, _<_}
 use native.Mathlib.Omega.{arith}
 use borrow.Author.Tests.{leb-true}
-use lib.ListN.{length, getD}
+use lib.ListN.{getD}
 use lib.Dec.{T, eqb, leb}
 use Rattle.rows.specs.Region.{Holds}
-use Rattle.rules.specs.Lists.{below, count}
+use Rattle.rules.specs.Lists.{below}
 use Rattle.rules.specs.Mesh.{facesOf}
 use Rattle.rules.specs.Refusal.{ok}
 use Rattle.rules.specs.Refusal as rule

@@ -2,7 +2,7 @@
 use mathlib.Core.Path.{_≡_, refl, sym, ap, _∙_, subst}
 use mathlib.Core.Bool.{Bool, true, false}
 use mathlib.Core.List.{List, [], _∷_, _++_}
-use Prim.Native.Nat.{ℕ, suc, _+_, _*_, _^_, _≤_, _<_, min}
+use Prim.Native.Nat.{ℕ, suc, _+_, _*_, _^_, _≤_, _<_}
 use native.Mathlib.Omega.{arith}
 use native.Mathlib.Numerals.{add-one}
 use lib.ListN.{length, getD, take, length-take}
@@ -17,7 +17,6 @@ use Rattle.rules.specs.Edges.{boundary}
 use Rattle.rules.proofs.Lists.{length-each}
 use Rattle.rules.proofs.Counting.{filter-le}
 use Rattle.table.specs.Entries.{next, stepAt}
-use Rattle.table.specs.Table.{Tabled}
 use Rattle.table.proofs.Ids.{step-flat, next-in, three-faces}
 use Rattle.table.proofs.Places.{tabled-kept}
 use Rattle.boundary.specs.Rows.{alone, boundaryTo, Counted, AloneAsks, AddAsks, AddGives, TraceAsks, TraceGives}

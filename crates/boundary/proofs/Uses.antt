@@ -1,6 +1,6 @@
 -- How often an edge occurs, by the runs of the table, and refusal 7. Assumes nothing.
 use mathlib.Core.Path.{_≡_, sym, ap, _∙_}
-use mathlib.Core.Bool.{Bool, true, false}
+use mathlib.Core.Bool.{false}
 use mathlib.Core.List.{List}
 use Prim.Native.Nat.{ℕ, _+_, _*_, _-_, _/_, _≤_, _<_}
 use native.Mathlib.Omega.{arith}
@@ -11,7 +11,7 @@ use lib.Dec.{eqb, ltb}
 use Rattle.rows.specs.Region.{part}
 use Rattle.rows.proofs.Regions.{length-part}
 use Rattle.rules.specs.Mesh.{facesOf}
-use Rattle.rules.specs.Steps.{Step, edge, users, edges}
+use Rattle.rules.specs.Steps.{edge, users, edges}
 use Rattle.rules.specs.Refusal.{ok}
 use Rattle.rules.specs.Refusal as rule
 use Rattle.rules.specs.Edges.{no7}

@@ -11,6 +11,8 @@
 //     0             5n + 1 + P   the table (crate table)
 //     5n + 1 + P    3P           the rows above
 //     5n + 1 + 4P   ..           free for the walk of the loops
+//
+// Where its first 5n + 1 + 4P entries are 0 at entry, a fault is undone by clearing them again: the room is then as it was.
 use refuse::Verdict;
 ghost use mathlib.Core.Path.{_≡_};
 ghost use Prim.Native.Nat.{_+_, _^_, _≤_, _<_};

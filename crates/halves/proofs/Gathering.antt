@@ -1,7 +1,7 @@
 -- A half entry more in the buffer, and the two of a step. Assumes nothing.
-use mathlib.Core.Path.{_≡_, refl, sym, ap, subst, _∙_}
+use mathlib.Core.Path.{_≡_, refl, ap, subst, _∙_}
 use mathlib.Core.List.{List}
-use Prim.Native.Nat.{ℕ, zero, suc, _+_, _-_, _*_, _/_, _%_, _≤_, _<_, _^_}
+use Prim.Native.Nat.{ℕ, suc, _+_, _*_, _/_, _≤_, _<_}
 use native.Mathlib.Nat.{zero-add}
 use native.Mathlib.Omega.{arith}
 use native.Mathlib.Decide.{ℕ-discrete}
@@ -10,7 +10,7 @@ use lib.ListN.{length, getD, set, length-set}
 use lib.Seq.{getD-set-same, getD-set-other}
 use Rattle.halves.specs.Split.{hit, tally}
 use Rattle.halves.specs.Walk.{Counts, Inside}
-use Rattle.halves.specs.Gather.{Holding, AtMost, ShrinkAsks, ShrinkGives, PutAsks, PutGives, BothAsks, BothGives}
+use Rattle.halves.specs.Gather.{Holding, ShrinkAsks, ShrinkGives, PutAsks, PutGives, BothAsks, BothGives}
 use Rattle.halves.proofs.Tallies.{hit-other, tally-suc, tally-eq}
 
 module _ (a : List ℕ) (n v : ℕ) (h : n < length a) where

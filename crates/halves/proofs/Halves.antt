@@ -1,14 +1,14 @@
 -- The laws of `halves` and `nextOf`. Assumes nothing.
-use mathlib.Core.Path.{_≡_, refl, sym, ap, subst, _∙_}
+use mathlib.Core.Path.{_≡_, refl, sym, ap, _∙_}
 use mathlib.Core.List.{List}
-use Prim.Native.Nat.{ℕ, zero, suc, _+_, _-_, _*_, _/_, _%_, _≤_, _<_, _^_}
+use Prim.Native.Nat.{ℕ, zero, suc, _+_, _-_, _*_, _/_, _%_, _≤_, _<_}
 use native.Mathlib.Nat.{mul-le-mul, mul-add-div-right, div-eq-of-lt, add-zero}
 use native.Mathlib.Omega.{arith}
 use native.Mathlib.Decide.{ℕ-discrete}
 use borrow.Author.Tests.{eq-eqb, ne-eqb}
 use lib.ListN.{length, getD}
 use Rattle.refuse.specs.Accepted.{Faces}
-use Rattle.halves.specs.Split.{hit, tally}
+use Rattle.halves.specs.Split.{hit}
 use Rattle.halves.specs.Gather.{nextOf, halves}
 use Rattle.halves.proofs.Tallies.{hit-same, hit-other}
 

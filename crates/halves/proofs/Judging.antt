@@ -1,15 +1,14 @@
 -- The verdict when all keys are passed. Assumes nothing.
-use mathlib.Core.Path.{_≡_, refl, sym, ap, subst, _∙_}
-use mathlib.Core.Bool.{Bool, true, false}
+use mathlib.Core.Path.{_≡_}
+use mathlib.Core.Bool.{true, false}
 use mathlib.Core.List.{List, _∷_}
 use lib.ListN.{length}
-use Prim.Native.Nat.{ℕ, _+_, _*_, _≤_, _<_}
+use Prim.Native.Nat.{ℕ, _*_, _≤_, _<_}
 use native.Mathlib.Omega.{arith}
 use Rattle.halves.specs.declared.State.{State}
-use Rattle.refuse.specs.declared.Verdict.{Verdict}
 use Rattle.refuse.specs.declared.Verdict.the-variants.{Fine, Refused}
 use Rattle.halves.specs.Scan.{Upto, Told, CloseGives}
-use Rattle.halves.specs.Right.{Right, Right.edge, Right.vertex, Right.fine, JudgeGives}
+use Rattle.halves.specs.Right.{Right.edge, Right.vertex, Right.fine, JudgeGives}
 
 module _ {P : ℕ} {t : State} where
   -- a crowded edge was met

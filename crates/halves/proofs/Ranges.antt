@@ -1,20 +1,19 @@
 -- The loop over ranges of keys: its beginning, a buffer that one key fills, a walk, and its end. Assumes nothing.
 use mathlib.Core.Path.{_≡_, refl, sym, ap, subst, _∙_}
-use mathlib.Core.Bool.{Bool, true, false}
+use mathlib.Core.Bool.{true, false}
 use mathlib.Core.List.{List}
-use Prim.Native.Nat.{ℕ, zero, suc, _+_, _-_, _*_, _/_, _%_, _≤_, _<_, _^_}
+use Prim.Native.Nat.{ℕ, zero, suc, _+_, _*_, _/_, _%_, _≤_, _<_}
 use native.Mathlib.Nat.{div-add-mod', mod-lt, div-lt-iff-lt-mul, mul-add-div-right, div-eq-of-lt, mul-add-mod-self-right, mod-eq-of-lt, mul-le-mul-right}
 use native.Mathlib.Omega.{arith}
 use native.Mathlib.Decide.{ℕ-discrete, decLt}
-use native.Mathlib.Numerals.{add-one}
 use lib.Dec.{T}
 use lib.ListN.{length, getD}
 use Rattle.refuse.specs.Accepted.{Faces}
 use Rattle.halves.specs.declared.State.{State}
 use Rattle.halves.specs.Split.{hit, tally}
-use Rattle.halves.specs.Scan.{usersOf, usersAt, edgesTo, beginsTo, endsTo, Calm, Upto, Crowded, Told, Small}
-use Rattle.halves.specs.Walk.{Counts, Inside, WalkAsks, WalkGives}
-use Rattle.halves.specs.Gather.{halves, AtMost, Holding, GatherAsks, GatherGives, RoundsAsks}
+use Rattle.halves.specs.Scan.{usersOf, usersAt, edgesTo, beginsTo, endsTo, Calm, Upto, Told, Small}
+use Rattle.halves.specs.Walk.{WalkAsks, WalkGives}
+use Rattle.halves.specs.Gather.{halves, GatherAsks, GatherGives, RoundsAsks}
 use Rattle.halves.proofs.Tallies.{hit-same, hit-other, tally-zero, tally-suc}
 use Rattle.halves.proofs.Weights.{users-same, users-other}
 use Rattle.halves.proofs.Scanning.{users-at}

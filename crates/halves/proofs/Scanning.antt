@@ -1,15 +1,14 @@
 -- What the scan knows when it passes a key: one with half entries, one with none, and many with none. Assumes nothing.
-use mathlib.Core.Path.{_≡_, refl, sym, ap, subst, _∙_}
-use mathlib.Core.Bool.{Bool, true, false, cond, _&&_, and-true, and-false}
+use mathlib.Core.Path.{_≡_, refl, sym, _∙_}
+use mathlib.Core.Bool.{true, false, _&&_, and-true, and-false}
 use Prim.Native.Nat.{ℕ, zero, suc, _+_, _-_, _*_, _/_, _%_, _≤_, _<_}
 use native.Mathlib.Nat.{add-suc, add-zero}
 use native.Mathlib.Omega.{arith}
 use native.Mathlib.Decide.{ℕ-discrete}
-use native.Mathlib.Numerals.{add-one}
 use borrow.Author.Tests.{eq-eqb, ne-eqb, lt-ltb, le-ltb}
-use lib.Dec.{eqb, leb, ltb}
-use Rattle.halves.specs.Scan.{one, usersOf, outOf, intoOf, usersAt, edgeAt, edgesTo, beginsTo, endsTo, Fair, Calm, Upto, Crowded}
-use Rattle.halves.proofs.Weights.{users-same, users-other, out-one, out-none, into-none, one-false, crowds-not, crowds-lower, crowds-many}
+use lib.Dec.{leb, ltb}
+use Rattle.halves.specs.Scan.{one, usersOf, outOf, intoOf, usersAt, edgeAt, edgesTo, beginsTo, endsTo, Calm, Upto, Crowded}
+use Rattle.halves.proofs.Weights.{users-same, users-other, out-none, into-none, one-false, crowds-not, crowds-lower, crowds-many}
 
 module _ (c : ℕ → ℕ) (P k : ℕ) where
   -- one more key

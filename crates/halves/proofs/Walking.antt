@@ -1,14 +1,14 @@
 -- The walk over one buffer of half entries: where it stops, where all keys are one, and where it goes through two halves. Assumes nothing.
-use mathlib.Core.Path.{_≡_, refl, sym, ap, subst, _∙_}
-use mathlib.Core.Bool.{Bool, true, false}
+use mathlib.Core.Path.{_≡_, sym, ap, subst, _∙_}
+use mathlib.Core.Bool.{true, false}
 use mathlib.Core.List.{List}
-use Prim.Native.Nat.{ℕ, zero, suc, _+_, _-_, _*_, _/_, _%_, _≤_, _<_, _^_}
+use Prim.Native.Nat.{ℕ, _+_, _-_, _*_, _/_, _≤_, _<_, _^_}
 use native.Mathlib.Nat.{add-assoc}
 use native.Mathlib.Omega.{arith}
 use native.Mathlib.Decide.{decLt}
 use lib.Dec.{T}
-use lib.ListN.{length, getD}
-use Rattle.rows.specs.Region.{Only, Apart, Apart.before, Apart.after}
+use lib.ListN.{getD}
+use Rattle.rows.specs.Region.{Apart.after}
 use Rattle.rows.proofs.Regions.{only-none, only-both, only-more, kept-at}
 use Rattle.halves.specs.declared.State.{State}
 use Rattle.halves.specs.Split.{tally, SplitGives, SpanGives, EvensGives}

@@ -7,7 +7,6 @@ use lib.Dec.{eqb}
 use lib.ListN.{length, getD}
 use Rattle.refuse.specs.Accepted.{Faces}
 use Rattle.halves.specs.Split.{hit, tally}
-use Rattle.halves.specs.Scan.{Told}
 use Rattle.halves.specs.Walk.{Counts, Inside}
 
 -- the corner after corner i of the same face

@@ -6,11 +6,11 @@
 // as many ranges after each other as it takes.
 use refuse::Verdict;
 ghost use mathlib.Core.Path.{_≡_};
-ghost use Prim.Native.Nat.{ℕ, _+_, _*_, _/_, _%_, _^_, _≤_, _<_, min, max};
-ghost use mathlib.Core.Bool.{Bool, true, false, _&&_};
+ghost use Prim.Native.Nat.{_+_, _*_, _/_, _%_, _^_, _≤_, _<_, min, max};
+ghost use mathlib.Core.Bool.{true, false, _&&_};
 ghost use lib.Dec.{leb, ltb};
-ghost use lib.ListN.{length, getD};
-ghost use Rattle.halves.specs.Split.{tally, SplitGives, SpanGives, EvensGives};
+ghost use lib.ListN.{length};
+ghost use Rattle.halves.specs.Split.{SplitGives, SpanGives, EvensGives};
 ghost use Rattle.halves.specs.Scan.{one, usersOf, outOf, intoOf, CloseGives, VisitAsks, VisitGives};
 ghost use Rattle.halves.specs.Walk.{WalkAsks, WalkGives};
 ghost use Rattle.halves.specs.Gather.{nextOf, halves, ShrinkAsks, ShrinkGives, PutAsks, PutGives, BothAsks, BothGives, GatherAsks, GatherGives, RoundsAsks};

@@ -1,27 +1,27 @@
 -- What the scan sums up over keys is what the rules count over steps. Assumes nothing.
-use mathlib.Core.Path.{_≡_, refl, sym, ap, _∙_, subst}
-use mathlib.Core.Bool.{Bool, true, false, not, _&&_, cond, and-false, and-comm}
-use mathlib.Core.List.{List, [], _∷_, _++_, map}
+use mathlib.Core.Path.{_≡_, refl, sym, ap, _∙_}
+use mathlib.Core.Bool.{Bool, true, false, _&&_, cond, and-false, and-comm}
+use mathlib.Core.List.{List, [], _∷_, map}
 use Prim.Native.Nat.{ℕ, zero, suc, _+_, _-_, _*_, _/_, _%_, _≤_, _<_, min, max}
 use native.Mathlib.Nat.{div-add-mod', add-zero, add-suc, mul-le-mul-right}
 use native.Mathlib.Omega.{arith}
-use native.Mathlib.Decide.{ℕ-discrete, decLe, decLt}
+use native.Mathlib.Decide.{ℕ-discrete, decLe}
 use borrow.Author.Tests.{eq-eqb, ne-eqb}
-use lib.ListN.{length, getD}
-use lib.Dec.{eqb, leb}
+use lib.ListN.{length}
+use lib.Dec.{eqb}
 use Rattle.rules.specs.Lists.{below, filter, count, each}
-use Rattle.rules.specs.Mesh.{Face, facesOf, face}
+use Rattle.rules.specs.Mesh.{facesOf, face}
 use Rattle.rules.specs.Steps.{Step, step, steps, same, edge, users}
 use Rattle.rules.specs.Edges.{begins, ends, boundary}
 use Rattle.rules.proofs.Counting.{count-map, count-agree}
 use Rattle.rules.proofs.Flat.{face-in, length-faces}
 use Rattle.rules.proofs.Rising.{All, all-each, all-from, all-imp}
 use Rattle.refuse.specs.Accepted.{Faces}
-use Rattle.halves.specs.Scan.{one, usersOf, outOf, intoOf, usersAt, beginsTo, endsTo}
+use Rattle.halves.specs.Scan.{one, outOf, intoOf, usersAt, beginsTo, endsTo}
 use Rattle.halves.specs.Gather.{halves}
 use Rattle.halves.proofs.Ranges.{key-div, key-mod}
-use Rattle.halves.proofs.Weights.{users-same, users-other, one-true, one-false, out-one, out-none, into-same, into-other, into-none}
-use Rattle.verdict.proofs.Walks.{count-none, count-cons, count-eq, same-yes, same-no, last, users-two}
+use Rattle.halves.proofs.Weights.{users-same, users-other, one-false, into-same, into-other, into-none}
+use Rattle.verdict.proofs.Walks.{count-none, count-cons, count-eq, same-yes, same-no, users-two}
 use Rattle.verdict.proofs.Pairs.{pair}
 use Rattle.verdict.proofs.Seven.{even-is, odd-is, at-is, lower-users}
 

@@ -1,12 +1,11 @@
 -- The first fault among the numbers below n that pass a test. Assumes nothing.
-use mathlib.Core.Path.{_≡_, refl, ap, _∙_}
-use mathlib.Core.Bool.{Bool, true, false, not, _&&_, and-false}
+use mathlib.Core.Path.{_≡_, ap, _∙_}
+use mathlib.Core.Bool.{Bool, true, false, not, and-false}
 use mathlib.Core.List.{List, [], _∷_, _++_}
 use Prim.Native.Nat.{ℕ, _<_}
 use lib.Dec.{T}
-use lib.ListN.{length}
 use lib.Ieee.Bits.{is-true}
-use Rattle.rules.specs.Lists.{below, filter, count, all, first}
+use Rattle.rules.specs.Lists.{below, filter, count, all}
 use Rattle.rules.specs.Refusal.{ok, no, at-first, unless}
 use Rattle.rules.proofs.Lists.{filter-append, filter-cons}
 use Rattle.rules.proofs.Rising.{All, all-imp, all-filter, below-all, below-at}

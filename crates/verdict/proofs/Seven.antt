@@ -1,20 +1,19 @@
 -- The rules' refusal 7 from what the scan knows. Assumes nothing.
 use mathlib.Core.Path.{_≡_, refl, sym, ap, _∙_, subst}
-use mathlib.Core.Logic.{⊎-elim}
-use mathlib.Core.Bool.{Bool, true, false, not, _&&_, _||_, cond}
-use mathlib.Core.List.{List, [], _∷_, _++_, map}
-use Prim.Native.Nat.{ℕ, zero, suc, _+_, _-_, _*_, _/_, _%_, _≤_, _<_, min, max}
+use mathlib.Core.Bool.{Bool, true, false, not, _&&_, _||_}
+use mathlib.Core.List.{List, [], _∷_, map}
+use Prim.Native.Nat.{ℕ, zero, suc, _+_, _*_, _/_, _%_, _≤_, _<_}
 use native.Mathlib.Nat.{div-add-mod', mod-lt, div-lt-iff-lt-mul}
 use native.Mathlib.Omega.{arith}
 use native.Mathlib.Decide.{ℕ-discrete, decLe, decLt}
 use borrow.Author.Tests.{lt-ltb, le-ltb, le-leb, lt-leb, leb-true}
 use lib.ListN.{length, length-map}
-use lib.Dec.{T, eqb, leb, ltb}
+use lib.Dec.{T, leb, ltb}
 use Rattle.rules.specs.Lists.{below, filter, count, any, all, first, each}
 use Rattle.rules.specs.Mesh.{Face, facesOf}
-use Rattle.rules.specs.Steps.{Step, step, steps, same, edge, Entry, entries, users, edges, pairs}
+use Rattle.rules.specs.Steps.{Step, step, steps, same, edge, entries, users, edges}
 use Rattle.rules.specs.Edges.{no7}
-use Rattle.rules.specs.Refusal.{ok, at-first, unless}
+use Rattle.rules.specs.Refusal.{ok, at-first}
 use Rattle.rules.specs.Refusal as rule
 use Rattle.rules.proofs.Lists.{filter-map, count-below}
 use Rattle.rules.proofs.Counting.{count-zero}

@@ -1,17 +1,17 @@
 -- The counts of half entries are counts of the rules' steps, and so are an edge's users. Assumes nothing.
-use mathlib.Core.Path.{_≡_, refl, sym, ap, _∙_, subst}
-use mathlib.Core.Bool.{Bool, true, false, not, _&&_, _||_, cond}
-use mathlib.Core.List.{List, [], _∷_, _++_, map}
-use Prim.Native.Nat.{ℕ, zero, suc, _+_, _-_, _*_, _/_, _%_, _≤_, _<_, min, max}
+use mathlib.Core.Path.{_≡_, refl, sym, ap, _∙_}
+use mathlib.Core.Bool.{Bool, true, false, _&&_, cond}
+use mathlib.Core.List.{List, [], _∷_, _++_}
+use Prim.Native.Nat.{ℕ, zero, suc, _+_, _*_, _/_, _≤_, _<_, min, max}
 use native.Mathlib.Omega.{arith}
-use native.Mathlib.Decide.{ℕ-discrete, decLe}
+use native.Mathlib.Decide.{ℕ-discrete}
 use borrow.Author.Tests.{eq-eqb, ne-eqb}
-use lib.ListN.{length, getD, take, length-map, length-append}
+use lib.ListN.{length, getD, take}
 use lib.Seq.{take-all}
 use lib.Dec.{eqb}
 use Rattle.rules.specs.Lists.{below, filter, count, each}
-use Rattle.rules.specs.Mesh.{Face, facesOf, face}
-use Rattle.rules.specs.Steps.{Step, step, steps, same, edge, Entry, entries, users}
+use Rattle.rules.specs.Mesh.{Face, facesOf}
+use Rattle.rules.specs.Steps.{Step, step, steps, same, edge, users}
 use Rattle.rules.proofs.Lists.{each-append}
 use Rattle.rules.proofs.Counting.{count-append}
 use Rattle.rules.proofs.InOut.{users-count}

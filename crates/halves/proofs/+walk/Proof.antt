@@ -1,6 +1,6 @@
 -- `halves::walk` meets its contract, which calls itself on both halves of a range of keys. Assumes nothing.
-use Prim.Native.Nat.{ℕ, _<_, _-_}
-use mathlib.Core.Path.{_≡_, refl, sym, ap, subst, _∙_}
+use Prim.Native.Nat.{ℕ, _-_, _<_}
+use mathlib.Core.Path.{refl, _∙_}
 use native.Mathlib.Omega.{arith}
 use borrow.Fn.Kinds.{In}
 use Rattle.halves.proofs.Walking.{stop, empty, low-high, high-in, visit-asks, leaf, mid-above, mid-within, left-falls, right-falls, left-asks, right-asks, both}

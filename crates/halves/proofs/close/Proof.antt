@@ -1,7 +1,6 @@
 -- `halves::close` meets its contract. Assumes nothing.
-use mathlib.Core.Path.{_≡_, refl, sym, ap, _∙_}
+use mathlib.Core.Path.{refl}
 use native.Mathlib.Omega.{arith}
-use Rattle.halves.specs.Scan.{CloseGives, Fair}
 use Rattle.halves.proofs.Closing.{close-bad, close-fair, close-late}
 use borrow.Author.Needs.{needs}
 use Rattle.halves.proofs.close.Statement.{statement}

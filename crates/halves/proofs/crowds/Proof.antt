@@ -1,5 +1,4 @@
 -- `halves::crowds` meets its contract. Assumes nothing.
-use mathlib.Core.Path.{_≡_, refl, sym, ap, _∙_}
 use borrow.Author.Tests.{le-leb, lt-leb}
 use Rattle.halves.proofs.crowds.Statement.{statement}
 use Rattle.halves.proofs.crowds.Tie as tie

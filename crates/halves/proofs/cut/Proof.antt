@@ -1,5 +1,5 @@
 -- `halves::cut` meets its contract. How well it parts the entries is measured and not proved. Assumes nothing.
-use Prim.Native.Nat.{ℕ, _+_, _-_, _≤_, _<_}
+use Prim.Native.Nat.{_-_, _≤_, _<_}
 use native.Mathlib.Omega.{arith}
 use borrow.Author.Needs.{needs}
 use Rattle.halves.proofs.cut.Statement.{statement}

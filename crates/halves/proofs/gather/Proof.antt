@@ -1,14 +1,13 @@
 -- `halves::gather` meets its contract. The invariant: the buffer holds the half entries of the first i steps with keys from `from` up to `to`. Assumes nothing.
 use mathlib.Core.Path.{_≡_, refl, sym, ap, _∙_}
 use mathlib.Core.List.{List}
-use Prim.Native.Nat.{ℕ, zero, suc, _+_, _-_, _*_, _/_, _%_, _≤_, _<_, _^_}
+use Prim.Native.Nat.{ℕ, _+_, _-_, _*_, _≤_, _<_}
 use native.Mathlib.Omega.{arith}
 use native.Mathlib.Numerals.{add-one}
-use borrow.Author.Needs.{needs}
 use lib.ListN.{length, getD}
-use Rattle.halves.specs.Split.{hit, tally}
-use Rattle.halves.specs.Walk.{Counts, Inside}
-use Rattle.halves.specs.Gather.{nextOf, halves, AtMost, Holding, BothAsks, BothGives, GatherAsks, GatherGives}
+use Rattle.halves.specs.Split.{hit}
+use Rattle.halves.specs.Walk.{Counts}
+use Rattle.halves.specs.Gather.{nextOf, halves, Holding, BothAsks, BothGives, GatherAsks, GatherGives}
 use Rattle.halves.proofs.Tallies.{tally-zero}
 use Rattle.halves.proofs.Halves.{bound, next-in, halves-suc, halves-zero, halves-more}
 use Rattle.halves.proofs.gather.Statement.{statement}

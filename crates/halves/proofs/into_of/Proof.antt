@@ -1,5 +1,5 @@
 -- `halves::into_of` meets its contract. Assumes nothing.
-use mathlib.Core.Path.{_≡_, refl, sym, ap, _∙_}
+use mathlib.Core.Path.{sym}
 use Rattle.halves.proofs.Weights.{into-same, into-other, into-none}
 use Rattle.halves.proofs.into_of.Statement.{statement}
 use Rattle.halves.proofs.into_of.Tie as tie

@@ -1,5 +1,5 @@
 -- `halves::lower` meets its contract. Assumes nothing.
-use mathlib.Core.Path.{_≡_, refl, sym, ap, _∙_}
+use mathlib.Core.Path.{sym}
 use borrow.Author.Tests.{le-leb, lt-leb}
 use Rattle.halves.proofs.Weights.{one-true, one-false}
 use Rattle.halves.proofs.lower.Statement.{statement}

@@ -1,5 +1,5 @@
 -- `halves::next` meets its contract. Assumes nothing.
-use mathlib.Core.Path.{_≡_, sym}
+use mathlib.Core.Path.{sym}
 use Rattle.halves.proofs.Halves.{next-last, next-more}
 use borrow.Author.Needs.{needs}
 use Rattle.halves.proofs.next.Statement.{statement}

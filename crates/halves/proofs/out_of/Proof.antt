@@ -1,5 +1,5 @@
 -- `halves::out_of` meets its contract. Assumes nothing.
-use mathlib.Core.Path.{_≡_, refl, sym, ap, _∙_}
+use mathlib.Core.Path.{sym}
 use Rattle.halves.proofs.Weights.{out-one, out-none}
 use Rattle.halves.proofs.out_of.Statement.{statement}
 use Rattle.halves.proofs.out_of.Tie as tie

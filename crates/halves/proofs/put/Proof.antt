@@ -1,5 +1,5 @@
 -- `halves::put` meets its contract. Assumes nothing.
-use mathlib.Core.Path.{_≡_, refl, sym, ap, _∙_}
+use mathlib.Core.Path.{_∙_}
 use lib.ListN.{length-set}
 use Rattle.halves.proofs.Gathering.{put-low, put-high, put-more, shrink-asks, put-shrunk}
 use borrow.Author.Needs.{needs}

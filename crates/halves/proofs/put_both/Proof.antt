@@ -1,5 +1,5 @@
 -- `halves::put_both` meets its contract. Assumes nothing.
-use Rattle.halves.proofs.Gathering.{first-asks, both-full, second-asks, both-put}
+use Rattle.halves.proofs.Gathering.{both-full, second-asks, both-put}
 use borrow.Author.Needs.{needs}
 use Rattle.halves.proofs.put_both.Statement.{statement}
 use Rattle.halves.proofs.put_both.Tie as tie

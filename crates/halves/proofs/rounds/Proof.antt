@@ -1,8 +1,7 @@
 -- `halves::rounds` meets its contract. The invariant: the keys below `from` are passed, and no edge there is crowded. Assumes nothing.
-use mathlib.Core.Path.{_≡_, refl, sym, ap, _∙_}
-use Prim.Native.Nat.{ℕ, _+_, _-_, _*_, _≤_, _<_, _^_}
+use mathlib.Core.Path.{_∙_}
+use Prim.Native.Nat.{_-_}
 use native.Mathlib.Omega.{arith}
-use lib.ListN.{length}
 use Rattle.halves.proofs.Halves.{bound}
 use Rattle.halves.proofs.Ranges.{Going, begin, done, gather-asks, full, walk-asks, crowd, again}
 use Rattle.halves.proofs.rounds.Statement.{statement}

@@ -1,12 +1,12 @@
 -- `halves::shrink` meets its contract. The invariant: the buffer's first n entries are all those below h. Assumes nothing.
 use mathlib.Core.Path.{_≡_, refl, sym, ap, _∙_}
 use mathlib.Core.List.{List}
-use Prim.Native.Nat.{ℕ, zero, suc, _+_, _-_, _*_, _/_, _≤_, _<_, _^_}
+use Prim.Native.Nat.{ℕ, _+_, _≤_, _<_}
 use native.Mathlib.Omega.{arith}
-use lib.ListN.{length, getD}
+use lib.ListN.{length}
 use Rattle.halves.specs.Split.{tally, SplitGives}
 use Rattle.halves.specs.Walk.{Counts, Inside}
-use Rattle.halves.specs.Gather.{Holding, ShrinkAsks, ShrinkGives}
+use Rattle.halves.specs.Gather.{ShrinkAsks, ShrinkGives}
 use Rattle.halves.proofs.Walking.{inside-same, split-first}
 use Rattle.halves.proofs.shrink.Statement.{statement}
 use Rattle.halves.proofs.shrink.Tie as tie

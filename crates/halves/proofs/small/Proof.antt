@@ -1,5 +1,4 @@
 -- `halves::small` meets its contract. Assumes nothing.
-use Rattle.halves.proofs.Judging.{five}
 use borrow.Author.Needs.{needs}
 use Rattle.halves.proofs.small.Statement.{statement}
 use Rattle.halves.proofs.small.Tie as tie

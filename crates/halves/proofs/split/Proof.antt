@@ -1,17 +1,16 @@
 -- `halves::split` meets its contract. The invariant: of the first i entries the m whose key is below `mid` stand first. Assumes nothing.
-use mathlib.Core.Path.{_≡_, refl, sym, ap, _∙_}
+use mathlib.Core.Path.{_≡_, refl, _∙_}
 use mathlib.Core.Logic.{⊎-elim}
 use mathlib.Core.List.{List}
-use Prim.Native.Nat.{ℕ, suc, _+_, _-_, _*_, _/_, _≤_, _<_, _^_}
+use Prim.Native.Nat.{ℕ, _+_, _-_, _/_, _≤_, _<_}
 use native.Mathlib.Omega.{arith}
 use native.Mathlib.Decide.{ℕ-discrete}
-use native.Mathlib.Numerals.{add-one}
 use lib.ListN.{length, getD, set, length-set}
 use lib.Seq.{getD-set-same, getD-set-other}
 use Rattle.rows.specs.Region.{Only}
 use Rattle.rows.proofs.Regions.{only-none, only-both, only-set}
 use Rattle.halves.specs.Split.{tally, SplitGives}
-use Rattle.halves.proofs.Tallies.{tally-swap, at-swap}
+use Rattle.halves.proofs.Tallies.{tally-swap}
 use Rattle.halves.proofs.split.Statement.{statement}
 use Rattle.halves.proofs.split.Tie as tie
 

@@ -1,5 +1,5 @@
 -- `halves::users_of` meets its contract. Assumes nothing.
-use mathlib.Core.Path.{_≡_, refl, sym, ap, _∙_}
+use mathlib.Core.Path.{sym}
 use Rattle.halves.proofs.Weights.{users-same, users-other}
 use Rattle.halves.proofs.users_of.Statement.{statement}
 use Rattle.halves.proofs.users_of.Tie as tie

@@ -1,13 +1,13 @@
 -- `halves::visit` meets its contract. Assumes nothing.
-use mathlib.Core.Path.{_≡_, refl, sym, ap, subst, _∙_}
+use mathlib.Core.Path.{_≡_, sym, ap, subst, _∙_}
 use mathlib.Core.Bool.{Bool, true, false, _&&_}
-use Prim.Native.Nat.{ℕ, zero, suc, _+_, _-_, _*_, _/_, _%_, _≤_, _<_, _^_}
+use Prim.Native.Nat.{ℕ, _+_, _-_, _/_, _%_, _≤_, _<_}
 use native.Mathlib.Nat.{div-mul-le-self, le-div-iff-mul-le, div-lt-iff-lt-mul}
 use native.Mathlib.Omega.{arith}
 use native.Mathlib.Numerals.{add-one}
 use lib.Dec.{T, leb, ltb}
 use Rattle.halves.specs.declared.State.{State}
-use Rattle.halves.specs.Scan.{one, usersOf, outOf, intoOf, Upto, Told, Small, CloseGives, VisitAsks, VisitGives}
+use Rattle.halves.specs.Scan.{one, usersOf, outOf, intoOf, Upto, Told, CloseGives, VisitAsks, VisitGives}
 use Rattle.halves.proofs.Weights.{one-most, out-most, into-most}
 use Rattle.halves.proofs.Scanning.{pass, meet}
 use borrow.Author.Needs.{needs}

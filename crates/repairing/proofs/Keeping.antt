@@ -1,6 +1,6 @@
--- Each pass keeps: no more faces, corners that are points, a report of ten counts. So a repair does under any options. Assumes nothing.
+-- Each pass keeps: no more faces, corners that are points, a report of ten counts. Assumes nothing.
 use mathlib.Core.Path.{_≡_, refl, _∙_}
-use mathlib.Core.Bool.{Bool, true, false, cond}
+use mathlib.Core.Bool.{Bool, cond}
 use mathlib.Core.List.{List, List·Memᴰ, List·Memᴰ·head, List·Memᴰ·tail}
 use Prim.Native.Nat.{ℕ, _+_, _≤_, _<_}
 use native.Mathlib.Omega.{arith}
@@ -8,20 +8,19 @@ use lib.Dec.{T, ltb}
 use lib.Ieee.{Float}
 use lib.ListN.{length, getD, drop, length-set, length-map}
 use Rattle.rules.specs.Lists.{below, leave}
-use Rattle.rules.specs.Mesh.{Point, Face, renamed}
-use Rattle.rules.specs.State.{State, Count, place, more, start, counted, with-faces, dropped, degenerates, duplicates, crowded-edges, dropped-at-edges, dropped-for-direction, vertices-split, points-added, reoriented, components, isolated}
+use Rattle.rules.specs.Mesh.{Face, renamed}
+use Rattle.rules.specs.State.{State, Count, place, more, counted, with-faces, dropped, degenerates, duplicates, crowded-edges, dropped-at-edges, dropped-for-direction, vertices-split, points-added, reoriented, components, isolated}
 use Rattle.rules.specs.Pass1.{marked1, pass1}
 use Rattle.rules.specs.Pass2.{marked2, pass2}
 use Rattle.rules.specs.Pass3.{crowded, marked3, pass3}
 use Rattle.rules.specs.Pass4.{oriented, marked4, pass4}
 use Rattle.rules.specs.Pass5.{fans, split-off, split, pass5}
 use Rattle.rules.specs.Pass6.{used, marked6, number, pass6}
-use Rattle.rules.specs.Repair.{bit, optional, passes, repaired}
 use Rattle.rules.proofs.Lists.{leave-length, leave-count, through-keeps}
 use Rattle.rules.proofs.Rising.{all-leave, all-map}
 use Rattle.rules.proofs.Members.{in-all, all-in}
 use Rattle.rules.proofs.Counting.{count-strict}
-use Rattle.rules.proofs.Once.{Inside, Corners-below}
+use Rattle.rules.proofs.Once.{Corners-below}
 use Rattle.rules.proofs.Turning.{oriented-turned}
 use Rattle.rules.proofs.Manifold.{Fine, pass4-fine}
 use Rattle.rules.proofs.Splitting.{length-map-below}
@@ -133,25 +132,3 @@ module _ {F : ℕ} where
         inside = pass6-fine m (k .inside);
         report = unfold pass6 in (length-more isolated _ (m .report) ∙ k .report);
       }
-
-  -- a pass whose option is not set changes nothing
-  optional-kept : (b : Bool) (pass : State → State) (m : State) → ((n : State) → Kept F n → Kept F (pass n)) → Kept F m → Kept F (optional b pass m)
-  unfolding optional
-  optional-kept true pass m h k = h m k
-  optional-kept false pass m h k = k
-
-  -- all six
-  passes-kept : (s : Float) (options : ℕ) (m : State) → Kept F m → Kept F (passes s options m)
-  unfolding passes
-  passes-kept s options m k =
-      optional-kept (bit 5 options) pass6 _ pass6-kept
-      (optional-kept (bit 3 options) pass5 _ pass5-kept
-      (optional-kept (bit 4 options) pass4 _ pass4-kept
-      (optional-kept (bit 2 options) pass3 _ pass3-kept
-      (optional-kept (bit 1 options) pass2 _ pass2-kept
-      (optional-kept (bit 0 options) (pass1 s) _ (pass1-kept s) k)))))
-
--- a repair leaves no more faces than it was given, corners that are points, and ten counts, whatever its options are
-pub repaired-kept : (s : Float) (options : ℕ) (ps : List Point) (fs : List Face) → Inside (length ps) fs → Kept (length fs) (repaired s options ps fs)
-unfolding repaired start
-repaired-kept s options ps fs h = passes-kept s options (start ps fs) (record { faces = omega arith; inside = h; report = refl })

@@ -1,2 +1,6 @@
--- `Keeping` has what each pass keeps, and so a repair under any options.
+-- `Keeping` has what each pass keeps.
 pub mod Keeping
+-- `Copies` has how many points pass 5 adds at most.
+pub mod Copies
+-- `Fitting` has that a repair's answer fits its rooms under any options.
+pub mod Fitting

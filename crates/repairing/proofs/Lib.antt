@@ -4,3 +4,5 @@ pub mod Keeping
 pub mod Copies
 -- `Fitting` has that a repair's answer fits its rooms under any options.
 pub mod Fitting
+-- `Exchanges` has how many faces pass 4 exchanges at most, and how many components it marks.
+pub mod Exchanges

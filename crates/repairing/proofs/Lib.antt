@@ -6,3 +6,5 @@ pub mod Copies
 pub mod Fitting
 -- `Exchanges` has how many faces pass 4 exchanges at most, and how many components it marks.
 pub mod Exchanges
+-- `Counts` has that no count of a report is above 2P + 15F.
+pub mod Counts

@@ -3,12 +3,11 @@
 use native.Mathlib.Omega.{arith}
 use Rattle.marking.proofs.Reading.{bounds, best-ok, entries-ok, edge-read}
 use Rattle.resolve_nonmanifold_edges.proofs.Crowding.{few, second-ok, many}
-use borrow.Author.Needs.{needs}
 use Rattle.resolve_nonmanifold_edges.proofs.resolve_edge.Statement.{statement}
 use Rattle.resolve_nonmanifold_edges.proofs.resolve_edge.Tie as tie
 
 mul-a : tie.Need-mul-a
-mul-a c = search needs
+mul-a c = omega (arith, bounds (c .before .before .before .pre))
 
 add-a : tie.Need-add-a
 add-a c = omega (arith, bounds (c .before .before .before .pre))
@@ -23,7 +22,7 @@ cast-a : tie.Need-cast-a
 cast-a c = omega (arith, bounds (c .before .before .before .before .pre))
 
 mul-b : tie.Need-mul-b
-mul-b c = search needs
+mul-b c = omega (arith, bounds (c .before .before .before .before .pre))
 
 add-b : tie.Need-add-b
 add-b c = omega (arith, bounds (c .before .before .before .before .pre))
@@ -49,13 +48,13 @@ returns c =
     few (start .pre) (omega (arith, c .if1 .taken))
 
 mul-first : tie.Need-mul-first
-mul-first c = search needs
+mul-first c = omega (arith, bounds (c .before .before .before .before .before .before .pre))
 
 add-first : tie.Need-add-first
 add-first c = omega (arith, bounds (c .before .before .before .before .before .before .pre))
 
 mul-last : tie.Need-mul-last
-mul-last c = search needs
+mul-last c = omega (arith, bounds (c .before .before .before .before .before .before .pre))
 
 add-last : tie.Need-add-last
 add-last c = omega (arith, bounds (c .before .before .before .before .before .before .pre))
@@ -64,10 +63,10 @@ mul-best : tie.Need-mul-best
 mul-best c = omega (arith, bounds (c .before .before .before .before .before .before .pre))
 
 sub-best : tie.Need-sub-best
-sub-best c = search needs
+sub-best c = omega (arith, bounds (c .before .before .before .before .before .before .pre))
 
 part-best-start : tie.Need-part-best-start
-part-best-start c = search needs
+part-best-start c = omega (arith, bounds (c .before .before .before .before .before .before .before .pre))
 
 part-best-end : tie.Need-part-best-end
 part-best-end c = omega (arith, bounds (c .before .before .before .before .before .before .before .pre))
@@ -105,10 +104,10 @@ mul-second : tie.Need-mul-second
 mul-second c = omega (arith, bounds (c .before .before .before .before .before .before .before .before .before .before .before .before .pre))
 
 sub-second : tie.Need-sub-second
-sub-second c = search needs
+sub-second c = omega (arith, bounds (c .before .before .before .before .before .before .before .before .before .before .before .before .pre))
 
 part-second-start : tie.Need-part-second-start
-part-second-start c = search needs
+part-second-start c = omega (arith, bounds (c .before .before .before .before .before .before .before .before .before .before .before .before .before .pre))
 
 part-second-end : tie.Need-part-second-end
 part-second-end c = omega (arith, bounds (c .before .before .before .before .before .before .before .before .before .before .before .before .before .pre))
@@ -120,7 +119,7 @@ second-requires c κs =
     second-ok (start .pre) (at-best .best .ensures) (omega (arith, at-best .before .before .before .if1 .left))
 
 sub-mark-others : tie.Need-sub-mark-others
-sub-mark-others c = search needs
+sub-mark-others c = omega (arith, bounds (c .before .before .before .before .before .before .before .before .before .before .before .before .before .before .before .before .pre))
 
 mark-others-requires : tie.Need-mark-others-requires
 mark-others-requires c κs =
@@ -130,7 +129,7 @@ mark-others-requires c κs =
     entries-ok (start .pre)
 
 same-length : tie.Need-same-length
-same-length c = search needs
+same-length c = c .before .before .mark-others .ensures .only .long
 
 returns-2 : tie.Need-returns-2
 returns-2 c =

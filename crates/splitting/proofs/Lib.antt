@@ -6,3 +6,9 @@ pub mod Unchanged
 pub mod Reports
 -- `AllAtOnce` has the pass in one formula.
 pub mod AllAtOnce
+-- `Entries` has the entries at a point by the numbers of corners.
+pub mod Entries
+-- `Numbers` has the number of a corner by the leaders.
+pub mod Numbers
+-- `Goals` has what stands at a corner after the pass.
+pub mod Goals

@@ -1,22 +1,22 @@
 -- One face crosses its edges. Assumes nothing.
-use mathlib.Core.Path.{_≡_, refl, sym, ap, ap₂, _∙_}
-use mathlib.Core.Bool.{Bool, true, false, not, _||_, cond}
-use mathlib.Core.List.{List, [], _∷_}
-use Prim.Native.Nat.{ℕ, zero, suc, _+_, _-_, _*_, _/_, _%_, _≤_, _<_, min, max}
+use mathlib.Core.Path.{_≡_, sym, ap, ap₂, _∙_}
+use mathlib.Core.Bool.{true, false, not, _||_, cond}
+use mathlib.Core.List.{List}
+use Prim.Native.Nat.{ℕ, _+_, _-_, _*_, _%_, _≤_, _<_}
 use native.Mathlib.Omega.{arith}
 use native.Mathlib.Decide.{decLe}
-use borrow.Author.Tests.{eq-eqb, ne-eqb, le-leb, lt-leb}
-use lib.Dec.{eqb, leb}
+use borrow.Author.Tests.{ne-eqb, le-leb, lt-leb}
+use lib.Dec.{eqb}
 use lib.ListN.{length, getD}
-use Rattle.rows.specs.Region.{part, Only, Out.below}
+use Rattle.rows.specs.Region.{part, Out.below}
 use Rattle.rows.proofs.Regions.{only-both, only-more}
 use Rattle.rules.specs.Lists.{through}
-use Rattle.rules.specs.Mesh.{Face, facesOf, face, exchanged}
+use Rattle.rules.specs.Mesh.{facesOf, face, exchanged}
 use Rattle.rules.specs.Steps.{Step, step, steps, edge, opposite, walks, users, edges}
-use Rattle.rules.specs.Pass4.{Walk, remark, across}
+use Rattle.rules.specs.Pass4.{remark, across}
 use Rattle.rules.proofs.Rising.{All, all-imp}
 use Rattle.rules.proofs.Flat.{face-in}
-use Rattle.table.specs.Entries.{stepAt, keysOf, next}
+use Rattle.table.specs.Entries.{stepAt, keysOf}
 use Rattle.table.specs.Table.{Tabled, runOf}
 use Rattle.table.proofs.Ids.{step-flat, edges-keys}
 use Rattle.table.proofs.Places.{none, placed, run-in, run-number, key-at}
@@ -24,12 +24,12 @@ use Rattle.table.proofs.Handing.{at-run}
 use Rattle.orienting.specs.Reaching.{reach, other, lone, turn}
 use Rattle.orienting.proofs.Turns.{users-turned, edge-opposite}
 use Rattle.orienting.proofs.Reached.{Along, across-is}
-use Rattle.orienting.proofs.Room.{Sound, remark-sound}
+use Rattle.orienting.proofs.Room.{remark-sound}
 use Rattle.orienting.proofs.Users.{users-walk}
-use Rattle.reaching.specs.Walking.{walkOf, Ready}
+use Rattle.reaching.specs.Walking.{walkOf}
 use Rattle.reaching.proofs.Reading.{turned-at}
 use Rattle.reaching.proofs.Visiting.{ready-as}
-use Rattle.crossing.specs.Crossing.{Crossed, Going, SettleAsks, SettleGives, WhoAsks, disagreeing, MarkAsks, MarkGives, CrossAsks, CrossGives, ThreeAsks, ThreeGives, FaceAsks, FaceGives}
+use Rattle.crossing.specs.Crossing.{Crossed, SettleAsks, SettleGives, WhoAsks, disagreeing, MarkAsks, MarkGives, CrossAsks, CrossGives, ThreeAsks, ThreeGives, FaceAsks, FaceGives}
 use Rattle.crossing.proofs.Keeping.{Later, later-both, later-reach, later-remark, later-to, going-kept}
 
 -- ---- the run of an entry

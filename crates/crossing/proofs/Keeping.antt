@@ -1,21 +1,19 @@
 -- What stays known while the walk goes on: visited faces stay as they are, and so does what is noted of crossed edges. Assumes nothing.
-use mathlib.Core.Path.{_≡_, refl, sym, ap, ap₂, _∙_}
-use mathlib.Core.Bool.{Bool, true, false, not, cond}
-use mathlib.Core.List.{List, [], _∷_, map}
-use Prim.Native.Nat.{ℕ, zero, suc, _+_, _*_, _≤_, _<_}
+use mathlib.Core.Path.{_≡_, refl, sym, ap, _∙_}
+use mathlib.Core.Bool.{Bool, true, false, not}
+use mathlib.Core.List.{List, [], _∷_}
+use Prim.Native.Nat.{ℕ, _+_, _*_, _≤_, _<_}
 use native.Mathlib.Omega.{arith}
-use lib.Dec.{eqb}
 use lib.ListN.{length, getD}
 use Rattle.rows.specs.Region.{part, Apart.after, Only, Out.above}
 use Rattle.rows.proofs.Regions.{part-eq}
 use Rattle.rules.specs.Lists.{filter, through}
 use Rattle.rules.specs.Mesh.{Face, facesOf, face}
-use Rattle.rules.specs.Steps.{Step, step, walks, opposite, users, edges}
+use Rattle.rules.specs.Steps.{Step, walks, opposite, users}
 use Rattle.rules.specs.Pass4.{Walk, remark}
 use Rattle.rules.proofs.Rising.{All, all-imp}
-use Rattle.table.specs.Table.{Tabled}
-use Rattle.table.proofs.Places.{none, tabled-kept}
-use Rattle.orienting.specs.Reaching.{reach, sole, lone, turnedBy}
+use Rattle.table.proofs.Places.{tabled-kept}
+use Rattle.orienting.specs.Reaching.{reach, sole, lone}
 use Rattle.orienting.proofs.Reached.{stays}
 use Rattle.reaching.specs.Walking.{stackOf, walkOf, Ready}
 use Rattle.reaching.proofs.Reading.{stack-same}

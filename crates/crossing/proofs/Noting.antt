@@ -1,22 +1,21 @@
 -- Who disagrees is noted of an edge, and read again; the component is marked. Assumes nothing.
-use mathlib.Core.Path.{_≡_, refl, sym, ap, _∙_}
-use mathlib.Core.Bool.{Bool, true, false, not, _&&_, _||_, cond, or-false, or-true}
-use mathlib.Core.List.{List, [], _∷_}
-use Prim.Native.Nat.{ℕ, zero, suc, _+_, _*_, _≤_, _<_, min, max}
+use mathlib.Core.Path.{_≡_, sym, ap, _∙_}
+use mathlib.Core.Bool.{not, or-false, or-true}
+use mathlib.Core.List.{List}
+use Prim.Native.Nat.{ℕ, suc, _+_, _*_, _≤_, _<_}
 use native.Mathlib.Omega.{arith}
 use native.Mathlib.Numerals.{add-one}
-use native.Mathlib.Decide.{ℕ-discrete}
 use borrow.Author.Tests.{eq-eqb, ne-eqb, le-leb, lt-leb}
-use lib.Dec.{eqb, leb}
+use lib.Dec.{eqb}
 use lib.ListN.{length, getD, set, length-set}
 use lib.Seq.{getD-set-same, getD-set-other}
-use Rattle.rows.specs.Region.{part, Only}
+use Rattle.rows.specs.Region.{part}
 use Rattle.rows.proofs.Regions.{part-eq, only-none, only-both, only-set}
-use Rattle.rules.specs.Mesh.{Face, facesOf}
+use Rattle.rules.specs.Mesh.{facesOf}
 use Rattle.rules.specs.Steps.{step}
-use Rattle.rules.specs.Pass4.{Walk, remark}
+use Rattle.rules.specs.Pass4.{remark}
 use Rattle.orienting.specs.Reaching.{other, lone}
-use Rattle.reaching.specs.Walking.{stackOf, walkOf, facesIn, RunAsks}
+use Rattle.reaching.specs.Walking.{stackOf, walkOf, facesIn}
 use Rattle.reaching.proofs.Reading.{stack-same}
 use Rattle.crossing.specs.Crossing.{NoteAsks, NoteGives, WhoAsks, disagreeing, MarkAsks, MarkGives}
 

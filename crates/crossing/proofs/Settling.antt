@@ -1,29 +1,27 @@
 -- An edge is crossed for the first time, or was. Assumes nothing.
-use mathlib.Core.Path.{_≡_, refl, sym, ap, ap₂, subst, _∙_}
-use mathlib.Core.Bool.{Bool, true, false, not, cond}
-use mathlib.Core.List.{List, [], _∷_, map}
-use Prim.Native.Nat.{ℕ, zero, suc, _+_, _-_, _*_, _/_, _≤_, _<_, min, max}
+use mathlib.Core.Path.{_≡_, sym, ap, ap₂, subst, _∙_}
+use mathlib.Core.List.{List, map}
+use Prim.Native.Nat.{ℕ, _+_, _-_, _*_, _/_, _≤_, _<_, min, max}
 use native.Mathlib.Omega.{arith}
 use native.Mathlib.Decide.{ℕ-discrete}
 use lib.ListN.{length, getD}
 use Rattle.rows.specs.Region.{part, Apart.after, Only, Out.below, Out.above}
 use Rattle.rows.proofs.Regions.{only-none, only-both, only-more, kept}
 use Rattle.rules.specs.Lists.{through}
-use Rattle.rules.specs.Mesh.{Face, facesOf, face}
-use Rattle.rules.specs.Steps.{Step, step, edge, opposite, walks, users, edges}
+use Rattle.rules.specs.Mesh.{facesOf}
+use Rattle.rules.specs.Steps.{step, edge, opposite, users, edges}
 use Rattle.rules.proofs.Rising.{All, all-imp}
 use Rattle.rules.proofs.Flat.{length-faces}
-use Rattle.table.specs.Table.{Tabled}
 use Rattle.table.proofs.Places.{none, id-in, tabled-kept}
 use Rattle.table.proofs.Theorems.{runs-fit, users-row}
 use Rattle.table.proofs.Handing.{at-run}
 use Rattle.orienting.specs.Reaching.{reach, lone}
 use Rattle.orienting.proofs.Reached.{all-reached, reach-none}
 use Rattle.orienting.proofs.Users.{users-walk}
-use Rattle.reaching.specs.Walking.{walkOf, facesIn, Ready, RunAsks, ReachRunGives}
+use Rattle.reaching.specs.Walking.{walkOf, facesIn, RunAsks, ReachRunGives}
 use Rattle.reaching.proofs.Visiting.{ready-as}
-use Rattle.crossing.specs.Crossing.{Crossed, Going, NoteAsks, NoteGives, SettleAsks, SettleGives}
-use Rattle.crossing.proofs.Keeping.{Later, later-both, later-reach, later-as, later-to, walk-kept, crossed-kept}
+use Rattle.crossing.specs.Crossing.{Crossed, NoteAsks, NoteGives, SettleAsks, SettleGives}
+use Rattle.crossing.proofs.Keeping.{Later, later-reach, later-to, walk-kept, crossed-kept}
 
 -- what the code reads of run r
 pub record Bounds (w xs : List ℕ) (n r : ℕ) : Type 0 where

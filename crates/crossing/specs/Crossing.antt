@@ -1,16 +1,16 @@
 -- A face crosses its edges: what is known of edges that were crossed, and what the functions ask and give. xs are the corners of the n faces as
 -- they were, w and w′ the work room before and after. Definitions only.
 use mathlib.Core.Path.{_≡_}
-use mathlib.Core.Bool.{Bool, true, false, not, cond}
+use mathlib.Core.Bool.{true, false, not, cond}
 use mathlib.Core.List.{List, [], _∷_}
-use Prim.Native.Nat.{ℕ, zero, suc, _+_, _*_, _≤_, _<_}
+use Prim.Native.Nat.{ℕ, _+_, _*_, _≤_, _<_}
 use lib.Dec.{leb}
 use lib.ListN.{length, getD}
 use Rattle.rows.specs.Region.{Only}
 use Rattle.rules.specs.Lists.{through}
 use Rattle.rules.specs.Mesh.{Face, facesOf, face}
 use Rattle.rules.specs.Steps.{Step, step, steps, edge, opposite, users, edges}
-use Rattle.rules.specs.Pass4.{Walk, remark, across}
+use Rattle.rules.specs.Pass4.{remark, across}
 use Rattle.rules.proofs.Rising.{All}
 use Rattle.table.specs.Entries.{stepAt}
 use Rattle.table.specs.Table.{Tabled}

@@ -1,19 +1,19 @@
 -- Component after component is walked. Assumes nothing.
 use mathlib.Core.Path.{_≡_, refl, sym, ap, ap₂, _∙_}
-use mathlib.Core.Bool.{Bool, true, false, not, cond}
+use mathlib.Core.Bool.{true, false, not, cond}
 use mathlib.Core.List.{List, [], _∷_, map}
-use Prim.Native.Nat.{ℕ, zero, suc, _+_, _*_, _/_, _≤_, _<_}
+use Prim.Native.Nat.{ℕ, zero, suc, _+_, _*_, _≤_, _<_}
 use native.Mathlib.Omega.{arith}
 use native.Mathlib.Numerals.{add-one}
 use native.Mathlib.Decide.{ℕ-discrete}
-use borrow.Author.Tests.{eq-eqb, ne-eqb}
+use borrow.Author.Tests.{ne-eqb}
 use lib.Dec.{eqb}
 use lib.ListN.{length, getD, set, replicate, length-replicate, getD-replicate}
 use lib.Seq.{getD-set-same, getD-set-other, ext-getD}
 use Rattle.rows.specs.Region.{part, Only, Filled}
 use Rattle.rows.proofs.Regions.{length-part, getD-part, only-none, only-both, only-more}
-use Rattle.rules.specs.Lists.{filter, count, through, below}
-use Rattle.rules.specs.Mesh.{Face, facesOf, face}
+use Rattle.rules.specs.Lists.{count, through, below}
+use Rattle.rules.specs.Mesh.{Face, facesOf}
 use Rattle.rules.specs.Pass4.{Walk, Oriented, run, started, component, closed, begin, oriented}
 use Rattle.rules.proofs.Lists.{through-last}
 use Rattle.rules.proofs.Counting.{filter-le}
@@ -222,10 +222,3 @@ module _ {w₀ xs : List ℕ} {n : ℕ} (p : AllAsks w₀ xs n) where
           few = omega (arith, u .most, u .at-most);
           is = u .is ∙ ap₂ (λ a k. through begin (record { walk = a; marks = 0 }) (below k)) (blank-is (p .going .ready .fits) (p .blank)) e;
         }
-
-    -- few components
-    pub record Turn : Type 0 where
-      pub few : n ≤ 4194304
-
-    pub all-turn : Turn
-    all-turn = record { few = p .going .ready .fits .few }

@@ -1,22 +1,19 @@
 -- The whole first half of pass 4: rows are cleared, the table made, all components walked, and the faces turned. Assumes nothing.
-use mathlib.Core.Path.{_≡_, refl, sym, ap, _∙_}
-use mathlib.Core.Bool.{Bool, true, false}
+use mathlib.Core.Path.{_≡_, ap, _∙_}
+use mathlib.Core.Bool.{false}
 use mathlib.Core.List.{List}
-use Prim.Native.Nat.{ℕ, _+_, _*_, _/_, _%_, _≤_, _<_}
+use Prim.Native.Nat.{ℕ, _+_, _*_, _≤_, _<_}
 use native.Mathlib.Omega.{arith}
 use lib.ListN.{length, getD, take}
-use Rattle.rows.specs.Region.{part, Apart.before, Only, Filled}
+use Rattle.rows.specs.Region.{Apart.before, Only, Filled}
 use Rattle.rows.proofs.Regions.{length-part, getD-part, only-both, only-more, holds-kept}
-use Rattle.rules.specs.Mesh.{facesOf, flatFaces}
-use Rattle.rules.specs.Pass4.{oriented}
+use Rattle.rules.specs.Mesh.{flatFaces}
 use Rattle.rules.specs.Rooms.{work-room}
-use Rattle.leaving.specs.Pass.{standing, FacesStand}
+use Rattle.leaving.specs.Pass.{FacesStand}
 use Rattle.table.specs.Table.{TableAsks, TableGives}
 use Rattle.table.proofs.Handing.{at-run}
-use Rattle.orienting.specs.Reaching.{turnedBy}
 use Rattle.reaching.specs.Walking.{walkOf, Fits}
-use Rattle.crossing.specs.Crossing.{Going}
-use Rattle.orient_consistently.specs.Walked.{orientedOf, AllAsks, AllGives, TurnAsks, TurnGives, OrientGives}
+use Rattle.orient_consistently.specs.Walked.{AllAsks, AllGives, TurnAsks, TurnGives, OrientGives}
 use Rattle.orient_consistently.proofs.Beginning.{zero-at, blank-ready}
 
 -- what the code reads

@@ -1,7 +1,6 @@
 -- One turn of the walk, and turns until the stack is empty. Assumes nothing.
 use mathlib.Core.Path.{_≡_, refl, sym, ap, _∙_}
-use mathlib.Core.Bool.{Bool, true, false, not}
-use mathlib.Core.List.{List, [], _∷_, map}
+use mathlib.Core.List.{List, [], _∷_}
 use Prim.Native.Nat.{ℕ, zero, suc, _+_, _-_, _*_, _≤_, _<_}
 use native.Mathlib.Omega.{arith}
 use lib.ListN.{length, getD, set, length-set}
@@ -9,12 +8,11 @@ use lib.Seq.{getD-set-same, getD-set-other}
 use Rattle.rows.specs.Region.{part, Only}
 use Rattle.rows.proofs.Regions.{part-eq, only-none, only-both, only-more, only-set}
 use Rattle.rules.specs.Lists.{through}
-use Rattle.rules.specs.Mesh.{Face, facesOf, face}
+use Rattle.rules.specs.Mesh.{facesOf, face}
 use Rattle.rules.specs.Steps.{steps}
 use Rattle.rules.specs.Pass4.{Walk, across, popped, run}
-use Rattle.rules.proofs.Rising.{All}
-use Rattle.orienting.proofs.Room.{Sound, Seen, popped-sound}
-use Rattle.reaching.specs.Walking.{stackOf, walkOf, Ready}
+use Rattle.orienting.proofs.Room.{Seen, popped-sound}
+use Rattle.reaching.specs.Walking.{stackOf, walkOf}
 use Rattle.reaching.proofs.Reading.{stack-same}
 use Rattle.reaching.proofs.Visiting.{ready-as}
 use Rattle.crossing.specs.Crossing.{Going, FaceAsks, FaceGives}
@@ -110,9 +108,10 @@ module _ {w xs : List ℕ} {n : ℕ} (p : PopAsks w xs n) where
   unfolding run
   turn-is k = refl
 
-  same-steps : (f : Walk → Walk) → through (across j) (popped rest v) (steps (face (popped rest v .faces) j)) ≡ through (across j) (popped rest v) (steps (face (v .faces) j))
+  -- of the face as it stands
+  same-steps : through (across j) (popped rest v) (steps (face (popped rest v .faces) j)) ≡ through (across j) (popped rest v) (steps (face (v .faces) j))
   unfolding popped
-  same-steps f = refl
+  same-steps = refl
 
   pub pop-gives : {w₂ : List ℕ} → FaceGives w₁ xs n j w₂ → PopGives w xs n w₂
   pop-gives g =
@@ -120,7 +119,7 @@ module _ {w xs : List ℕ} {n : ℕ} (p : PopAsks w xs n) where
         only = only-both (only-more (omega arith) (omega arith) only-top) (g .only);
         going = g .going;
         runs = λ k.
-            ap (λ u. run k (u .stack) u) (g .walk ∙ ap (λ u. through (across j) u (steps (face (u .faces) j))) walk-popped ∙ same-steps (λ u. u))
+            ap (λ u. run k (u .stack) u) (g .walk ∙ ap (λ u. through (across j) u (steps (face (u .faces) j))) walk-popped ∙ same-steps)
             ∙ sym (turn-is k)
             ∙ ap (λ s. run (suc k) s v) (sym stack-is);
       }

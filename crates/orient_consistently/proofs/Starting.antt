@@ -1,28 +1,21 @@
 -- A component is started. Assumes nothing.
-use mathlib.Core.Path.{_≡_, refl, sym, ap, ap₂, _∙_}
-use mathlib.Core.Bool.{Bool, true, false, not}
+use mathlib.Core.Path.{_≡_, refl, sym, ap, _∙_}
+use mathlib.Core.Bool.{Bool, true, not}
 use mathlib.Core.List.{List, [], _∷_, map}
-use Prim.Native.Nat.{ℕ, zero, suc, _+_, _*_, _≤_, _<_}
+use Prim.Native.Nat.{ℕ, zero, suc, _+_, _<_}
 use native.Mathlib.Omega.{arith}
 use native.Mathlib.Decide.{ℕ-discrete}
-use borrow.Author.Tests.{eq-eqb, ne-eqb}
 use lib.Dec.{eqb}
 use lib.ListN.{length, getD, set, length-set}
 use lib.Seq.{getD-set-same, getD-set-other, ext-getD}
-use Rattle.rows.specs.Region.{part, Only}
+use Rattle.rows.specs.Region.{part}
 use Rattle.rows.proofs.Regions.{length-part, getD-part, only-both, only-set}
-use Rattle.rules.specs.Mesh.{Face}
-use Rattle.rules.specs.Pass4.{Walk, started}
+use Rattle.rules.specs.Pass4.{started}
 use Rattle.orienting.specs.Reaching.{turnedBy}
 use Rattle.orienting.proofs.Turns.{set-straight}
 use Rattle.reaching.specs.Walking.{stackOf, walkOf}
+use Rattle.reaching.proofs.Visiting.{map-set}
 use Rattle.orient_consistently.specs.Walked.{StartAsks, StartGives}
-
--- a flag that is set
-map-set : (f : ℕ → Bool) (ss : List ℕ) (i s : ℕ) → map f (set ss i s) ≡ set (map f ss) i (f s)
-map-set f [] i s = refl
-map-set f (k ∷ ss) zero s = refl
-map-set f (k ∷ ss) (suc i) s = ap (λ l. f k ∷ l) (map-set f ss i s)
 
 module _ {w : List ℕ} {n i : ℕ} (p : StartAsks w n i) where
   -- the row after each store

@@ -1,8 +1,8 @@
 -- The faces under their states: corners 1 and 2 of each whose state is 2 are exchanged. Assumes nothing.
 use mathlib.Core.Path.{_≡_, refl, sym, ap, _∙_}
-use mathlib.Core.Bool.{Bool, true, false, cond}
-use mathlib.Core.List.{List, [], _∷_}
-use Prim.Native.Nat.{ℕ, zero, suc, _+_, _*_, _/_, _%_, _≤_, _<_}
+use mathlib.Core.Bool.{cond}
+use mathlib.Core.List.{List}
+use Prim.Native.Nat.{ℕ, _+_, _*_, _%_, _≤_, _<_}
 use native.Mathlib.Omega.{arith}
 use borrow.Author.Count.{below-more}
 use borrow.Author.Tests.{ne-eqb}
@@ -44,7 +44,7 @@ pub record Turn (xs w : List ℕ) (n i : ℕ) : Type 0 where
   pub few : n ≤ 4194304
   pub here : i < n
   pub fit : 3 * n ≤ length xs
-  pub fit-set : 3 * n ≤ length (set xs (3 * i + 1) (getD xs (3 * i + 2) 0))
+  pub fit-set : 3 * n ≤ length (set xs (3 * i + 1) (getD xs (3 * i + 1 + 1) 0))
   pub room : 3 + n ≤ length w
 
 module _ {xs₀ w : List ℕ} {n : ℕ} {xs : List ℕ} {i : ℕ} (p : TurnAsks xs₀ w n) (u : TurnInv xs₀ w n xs i) where
@@ -52,14 +52,14 @@ module _ {xs₀ w : List ℕ} {n : ℕ} {xs : List ℕ} {i : ℕ} (p : TurnAsks 
     pub turn-turn : Turn xs w n i
     turn-turn =
         let l = u .only .long in
-        record { few = p .few; here = h; fit = omega (arith, p .fit); fit-set = omega (arith, p .fit, length-set xs (3 * i + 1) (getD xs (3 * i + 2) 0)); room = p .room }
+        record { few = p .few; here = h; fit = omega (arith, p .fit); fit-set = omega (arith, p .fit, length-set xs (3 * i + 1) (getD xs (3 * i + 1 + 1) 0)); room = p .room }
 
     -- face i is as it was
     was : (q : ℕ) → 3 * i ≤ q → getD xs q 0 ≡ getD xs₀ q 0
     was q l = u .only .same q (above (omega arith))
 
     -- state 2
-    pub turn-exchanged : getD w (3 + i) 0 ≡ 2 → TurnInv xs₀ w n (set (set xs (3 * i + 1) (getD xs (3 * i + 2) 0)) (3 * i + 2) (getD xs (3 * i + 1) 0)) (i + 1)
+    turn-exchanged : getD w (3 + i) 0 ≡ 2 → TurnInv xs₀ w n (set (set xs (3 * i + 1) (getD xs (3 * i + 2) 0)) (3 * i + 2) (getD xs (3 * i + 1) 0)) (i + 1)
     turn-exchanged e =
         record {
           at-most = omega arith;
@@ -89,6 +89,7 @@ module _ {xs₀ w : List ℕ} {n : ℕ} {xs : List ℕ} {i : ℕ} (p : TurnAsks 
         here : Stands zs i (turn (getD w (3 + i) 0) (corner-face xs₀ i))
         here =
             let b = turn-turn in
+            let l = length-set xs (3 * i + 1) (getD xs (3 * i + 2) 0) in
             let t : exchanged (corner-face xs₀ i) ≡ turn (getD w (3 + i) 0) (corner-face xs₀ i) = unfold turn in ap (λ s. turn s (corner-face xs₀ i)) (sym e) in
             let x : exchanged (corner-face xs₀ i) ≡ record { a = getD xs₀ (3 * i) 0; b = getD xs₀ (3 * i + 2) 0; c = getD xs₀ (3 * i + 1) 0 } = unfold exchanged in refl in
             let y = sym x ∙ t in (
@@ -98,6 +99,10 @@ module _ {xs₀ w : List ℕ} {n : ℕ} {xs : List ℕ} {i : ℕ} (p : TurnAsks 
                   ∙ was (3 * i + 2) (omega arith) ∙ ap (λ f. f .b) y,
               getD-set-same ys (3 * i + 2) (getD xs (3 * i + 1) 0) 0 (omega (arith, b)) ∙ was (3 * i + 1) (omega arith) ∙ ap (λ f. f .c) y,
             )
+
+    -- the same, by the places that the code has
+    pub turn-pair : getD w (3 + i) 0 ≡ 2 → TurnInv xs₀ w n (set (set xs (3 * i + 1) (getD xs (3 * i + 1 + 1) 0)) (3 * i + 1 + 1) (getD xs (3 * i + 1) 0)) (i + 1)
+    turn-pair e = let k : 3 * i + 1 + 1 ≡ 3 * i + 2 = omega arith in rw k (turn-exchanged e)
 
     -- another state
     pub turn-straight : (getD w (3 + i) 0 ≡ 2 → ⊥) → TurnInv xs₀ w n xs (i + 1)

@@ -1,12 +1,11 @@
 -- Components and the whole walk: what the functions ask and give. Definitions only.
 use mathlib.Core.Path.{_≡_}
-use mathlib.Core.Bool.{false}
-use mathlib.Core.List.{List, [], _∷_}
+use mathlib.Core.List.{List}
 use Prim.Native.Nat.{ℕ, suc, _+_, _*_, _≤_, _<_}
 use lib.ListN.{length, getD, take}
 use Rattle.rows.specs.Region.{part, Only, Filled}
 use Rattle.rules.specs.Mesh.{Face, facesOf, flatFaces}
-use Rattle.rules.specs.Pass4.{Walk, Oriented, run, started, begin, oriented}
+use Rattle.rules.specs.Pass4.{Oriented, run, started, begin, oriented}
 use Rattle.rules.specs.Rooms.{work-room}
 use Rattle.leaving.specs.Pass.{standing}
 use Rattle.orienting.specs.Reaching.{turnedBy}

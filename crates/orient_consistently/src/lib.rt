@@ -97,9 +97,10 @@ fn turn_all(faces: &mut [u32], work: &[u32], n: usize)
     let mut i = 0;
     while i < n {
         if work[3 + i] == 2 {
-            let b = faces[3 * i + 1];
-            faces[3 * i + 1] = faces[3 * i + 2];
-            faces[3 * i + 2] = b;
+            let p = 3 * i + 1;
+            let b = faces[p];
+            faces[p] = faces[p + 1];
+            faces[p + 1] = b;
         }
         i += 1;
     }

@@ -1,6 +1,6 @@
 -- One number tells whether some other face was met. Assumes nothing.
 use mathlib.Core.Path.{_≡_, refl, sym, ap, _∙_}
-use mathlib.Core.Bool.{Bool, true, false, not, _&&_, _||_, cond, or-assoc, or-self, or-false}
+use mathlib.Core.Bool.{Bool, true, false, not, _||_, cond, or-assoc, or-self, or-false}
 use mathlib.Core.List.{List, [], _∷_}
 use Prim.Native.Nat.{ℕ, zero, suc, _<_}
 use native.Mathlib.Omega.{arith}

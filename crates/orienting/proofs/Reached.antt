@@ -1,20 +1,20 @@
 -- Across an edge: its unvisited users are visited, and then some other user disagrees or none does. Assumes nothing.
-use mathlib.Core.Path.{_≡_, refl, sym, ap, ap₂, subst, _∙_}
+use mathlib.Core.Path.{_≡_, refl, sym, ap, subst, _∙_}
 use mathlib.Core.Bool.{Bool, true, false, not, _&&_, _||_, cond, or-comm, or-false}
 use mathlib.Core.List.{List, [], _∷_}
-use Prim.Native.Nat.{ℕ, zero, suc, _<_}
+use Prim.Native.Nat.{ℕ, suc, _<_}
 use native.Mathlib.Omega.{arith}
 use native.Mathlib.Decide.{ℕ-discrete}
 use borrow.Author.Tests.{eq-eqb, ne-eqb}
 use lib.Dec.{T, eqb}
 use lib.ListN.{length, getD, set, length-set}
 use lib.Seq.{getD-set-same, getD-set-other}
-use Rattle.rules.specs.Lists.{filter, any, all, through}
+use Rattle.rules.specs.Lists.{filter, all, through}
 use Rattle.rules.specs.Mesh.{Face, face, exchanged}
 use Rattle.rules.specs.Steps.{Step, opposite, edge, walks, users}
 use Rattle.rules.specs.Pass4.{Walk, remark, visit, meet, across}
 use Rattle.rules.proofs.Rising.{All, all-imp, all-filter}
-use Rattle.orienting.specs.Reaching.{agrees, reach, sole, other, lone}
+use Rattle.orienting.specs.Reaching.{agrees, reach, other, lone}
 use Rattle.orienting.proofs.Turns.{walks-exchanged, opposite-twice}
 use Rattle.orienting.proofs.Alone.{sole-any, all-any}
 

@@ -1,20 +1,19 @@
 -- The walk's bounds: what stands on the stack is visited, and each face is pushed and exchanged at most once. Assumes nothing.
-use mathlib.Core.Path.{_≡_, refl, sym, ap, _∙_}
-use mathlib.Core.Bool.{Bool, true, false, not, _||_, cond}
+use mathlib.Core.Path.{_≡_, refl, ap, _∙_}
+use mathlib.Core.Bool.{Bool, true, false, not, cond}
 use mathlib.Core.List.{List, [], _∷_}
 use Prim.Native.Nat.{ℕ, zero, suc, _+_, _≤_, _<_}
 use native.Mathlib.Nat.{le-of-suc-le-suc, not-suc-le-zero}
 use native.Mathlib.Omega.{arith}
-use native.Mathlib.Decide.{ℕ-discrete}
 use lib.ListN.{length, getD, set, length-set}
 use lib.Seq.{getD-set-same, getD-set-other}
 use Rattle.rules.specs.Lists.{filter, count, through}
 use Rattle.rules.specs.Mesh.{face, exchanged}
-use Rattle.rules.specs.Steps.{Step, walks, opposite}
+use Rattle.rules.specs.Steps.{Step}
 use Rattle.rules.specs.Pass4.{Walk, remark, visit, popped, started}
 use Rattle.rules.proofs.Rising.{All, all-imp}
 use Rattle.orienting.specs.Reaching.{agrees, reach}
-use Rattle.orienting.proofs.Reached.{not-both, stays-reach, reached, reach-long}
+use Rattle.orienting.proofs.Reached.{not-both}
 
 -- how many faces are unvisited
 abbrev pub unseen : Walk → ℕ

@@ -1,11 +1,10 @@
 -- Exchanged faces: the steps they make, and the users of edges, which stay the same. Assumes nothing.
 use mathlib.Core.Path.{_≡_, refl, sym, ap, ap₂, _∙_}
-use mathlib.Core.Bool.{Bool, true, false, not, _&&_, _||_, cond, and-comm}
+use mathlib.Core.Bool.{Bool, true, false, _&&_, _||_, cond, and-comm}
 use mathlib.Core.List.{List, [], _∷_, _++_, map}
-use Prim.Native.Nat.{ℕ, zero, suc, _<_, min, max}
+use Prim.Native.Nat.{ℕ, zero, suc, _<_}
 use native.Mathlib.Nat.{le-of-suc-le-suc, not-suc-le-zero, min-comm, max-comm}
-use native.Mathlib.Omega.{arith}
-use lib.Dec.{T, eqb}
+use lib.Dec.{eqb}
 use lib.ListN.{length, getD, set}
 use Rattle.rules.specs.Lists.{filter, any}
 use Rattle.rules.specs.Mesh.{Face, face, exchanged}

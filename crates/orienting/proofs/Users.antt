@@ -1,16 +1,16 @@
 -- A user of an edge steps along it, one way or the other. Assumes nothing.
 use mathlib.Core.Path.{_≡_, refl, sym, ap, ap₂, subst, _∙_}
 use mathlib.Core.Logic.{_⊎_, inl, inr}
-use mathlib.Core.Bool.{Bool, true, false, not, _&&_, _||_, cond, or-true}
-use mathlib.Core.List.{List, [], _∷_, _++_, map, List·Memᴰ}
-use Prim.Native.Nat.{ℕ, zero, suc, _≤_, _<_, min, max}
+use mathlib.Core.Bool.{Bool, true, false, _||_, or-true}
+use mathlib.Core.List.{List, [], _∷_, map, List·Memᴰ}
+use Prim.Native.Nat.{ℕ, suc, _≤_, _<_, min, max}
 use native.Mathlib.Omega.{arith}
 use native.Mathlib.Decide.{decLe}
 use borrow.Author.Tests.{eq-eqb}
 use lib.Dec.{T, eqb}
 use lib.Ieee.Fits.{and-i}
 use lib.Ieee.Bits.{is-true}
-use lib.ListN.{length, getD}
+use lib.ListN.{length}
 use Rattle.rules.specs.Lists.{below, filter, any, each}
 use Rattle.rules.specs.Mesh.{Face, face}
 use Rattle.rules.specs.Steps.{Step, step, steps, opposite, edge, same, walks, entries, users}

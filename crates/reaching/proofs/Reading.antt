@@ -1,47 +1,24 @@
 -- What the work room says of the walk: states, the stack, and a step of a face as it stands. Assumes nothing.
 use mathlib.Core.Path.{_≡_, refl, sym, ap, ap₂, _∙_}
-use mathlib.Core.Bool.{Bool, true, false, not, _&&_, _||_, cond, or-false}
-use mathlib.Core.List.{List, [], _∷_, map}
+use mathlib.Core.Bool.{Bool, true, false, not, cond, or-false}
+use mathlib.Core.List.{List, _∷_}
 use Prim.Native.Nat.{ℕ, zero, suc, _+_, _*_, _/_, _≤_, _<_}
 use native.Mathlib.Omega.{arith}
-use native.Mathlib.Decide.{ℕ-discrete}
 use borrow.Author.Tests.{eq-eqb, ne-eqb}
 use lib.Dec.{eqb}
-use lib.ListN.{length, getD, set, length-set}
-use lib.Seq.{getD-set-same, getD-set-other, ext-getD}
+use lib.ListN.{length, getD}
 use Rattle.rows.specs.Region.{part}
 use Rattle.rows.proofs.Regions.{length-part, getD-part}
 use Rattle.rules.specs.Lists.{any}
 use Rattle.rules.specs.Mesh.{Face, facesOf, face, exchanged}
-use Rattle.rules.specs.Steps.{Step, step, steps, opposite, same, walks}
-use Rattle.rules.specs.Pass4.{Walk}
+use Rattle.rules.specs.Steps.{step, opposite, same, walks}
 use Rattle.rules.proofs.Lists.{getD-map-in}
 use Rattle.rules.proofs.Flat.{face-in}
-use Rattle.orienting.specs.Reaching.{turn, turnedBy}
+use Rattle.orienting.specs.Reaching.{turn}
 use Rattle.orienting.proofs.Turns.{walks-exchanged, face-turned}
-use Rattle.reaching.specs.Walking.{stackOf, walkOf, Fits, StandsAsks}
+use Rattle.reaching.specs.Walking.{stackOf, walkOf, StandsAsks}
 
 -- ---- rows
-
--- one entry of a part is changed
-pub part-set-in : (w : List ℕ) (a n i v : ℕ) → a + n ≤ length w → i < n → part (set w (a + i) v) a n ≡ set (part w a n) i v
-part-set-in w a n i v h l =
-    ext-getD 0 (part (set w (a + i) v) a n) (set (part w a n) i v) (long ∙ sym (length-set (part w a n) i v ∙ length-part w a n h))
-    (λ j q. at j (omega (arith, long)) (ℕ-discrete j i))
-  where
-    long : length (part (set w (a + i) v) a n) ≡ n
-    long = length-part (set w (a + i) v) a n (omega (arith, length-set w (a + i) v))
-
-    at : (j : ℕ) → j < n → Dec (j ≡ i) → getD (part (set w (a + i) v) a n) j 0 ≡ getD (set (part w a n) i v) j 0
-    at j q (yes e) =
-        getD-part (set w (a + i) v) a n j q
-        ∙ ap (λ k. getD (set w (a + i) v) (a + k) 0) e
-        ∙ getD-set-same w (a + i) v 0 (omega arith)
-        ∙ sym (ap (λ k. getD (set (part w a n) i v) k 0) e ∙ getD-set-same (part w a n) i v 0 (omega (arith, length-part w a n h)))
-    at j q (no e) =
-        getD-part (set w (a + i) v) a n j q
-        ∙ getD-set-other w (a + i) (a + j) v 0 (λ z. e (omega arith))
-        ∙ sym (getD-set-other (part w a n) i j v 0 e ∙ getD-part w a n j q)
 
 -- the same entries make the same stack
 pub stack-same : (w w′ : List ℕ) (a k : ℕ) → ((j : ℕ) → j < k → getD w′ (a + j) 0 ≡ getD w (a + j) 0) → stackOf w′ a k ≡ stackOf w a k

@@ -1,11 +1,10 @@
 -- The loops over a run: its faces are reached, or it is found who of them does not make a step. Assumes nothing.
-use mathlib.Core.Path.{_≡_, refl, sym, ap, _∙_}
-use mathlib.Core.Bool.{Bool, true, false}
-use mathlib.Core.List.{List, [], _∷_, _++_, map}
-use Prim.Native.Nat.{ℕ, zero, suc, _+_, _-_, _*_, _/_, _≤_, _<_}
+use mathlib.Core.Path.{_≡_, sym, ap, _∙_}
+use mathlib.Core.List.{List, [], _∷_}
+use Prim.Native.Nat.{ℕ, _+_, _-_, _*_, _/_, _≤_, _<_}
 use native.Mathlib.Omega.{arith}
 use lib.ListN.{length, getD}
-use Rattle.rows.specs.Region.{part, Only, Out.above}
+use Rattle.rows.specs.Region.{Only, Out.above}
 use Rattle.rows.proofs.Regions.{only-none, only-both}
 use Rattle.rules.specs.Lists.{through, filter}
 use Rattle.rules.specs.Mesh.{facesOf}

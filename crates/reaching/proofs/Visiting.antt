@@ -1,29 +1,28 @@
 -- One face is visited or reached. Assumes nothing.
 use mathlib.Core.Path.{_≡_, refl, sym, ap, ap₂, _∙_}
-use mathlib.Core.Logic.{_⊎_, inl, inr}
 use mathlib.Core.Bool.{Bool, true, false, not, cond}
 use mathlib.Core.List.{List, [], _∷_, map}
 use Prim.Native.Nat.{ℕ, zero, suc, _+_, _-_, _*_, _≤_, _<_}
 use native.Mathlib.Omega.{arith}
 use native.Mathlib.Numerals.{add-one}
 use native.Mathlib.Decide.{ℕ-discrete}
-use borrow.Author.Tests.{eq-eqb, ne-eqb, eqb-true, not-false}
+use borrow.Author.Tests.{eq-eqb, ne-eqb}
 use lib.Dec.{eqb}
 use lib.ListN.{length, getD, set, length-set}
 use lib.Seq.{getD-set-same, getD-set-other, ext-getD}
-use Rattle.rows.specs.Region.{part, Only}
+use Rattle.rows.specs.Region.{part}
 use Rattle.rows.proofs.Regions.{length-part, getD-part, only-none, only-both, only-set}
 use Rattle.rules.specs.Mesh.{Face, facesOf, face, exchanged}
 use Rattle.rules.specs.Steps.{Step, step, opposite, walks}
 use Rattle.rules.specs.Pass4.{Walk, visit}
-use Rattle.orienting.specs.Reaching.{agrees, reach, turn, turnedBy, sole}
+use Rattle.orienting.specs.Reaching.{reach, turn, turnedBy}
 use Rattle.orienting.proofs.Turns.{set-turned, set-straight, face-turned}
 use Rattle.orienting.proofs.Room.{Sound, has-room, reach-sound}
-use Rattle.reaching.specs.Walking.{stackOf, walkOf, Fits, Ready, StandsAsks, VisitAsks, VisitGives, ReachAsks, ReachGives, met}
-use Rattle.reaching.proofs.Reading.{part-set-in, stack-same, length-stack, visited-at, turned-at}
+use Rattle.reaching.specs.Walking.{stackOf, walkOf, Ready, VisitAsks, VisitGives, ReachAsks, ReachGives}
+use Rattle.reaching.proofs.Reading.{stack-same, length-stack, visited-at}
 
 -- a flag that is set
-map-set : (f : ℕ → Bool) (ss : List ℕ) (i s : ℕ) → map f (set ss i s) ≡ set (map f ss) i (f s)
+pub map-set : (f : ℕ → Bool) (ss : List ℕ) (i s : ℕ) → map f (set ss i s) ≡ set (map f ss) i (f s)
 map-set f [] i s = refl
 map-set f (k ∷ ss) zero s = refl
 map-set f (k ∷ ss) (suc i) s = ap (λ l. f k ∷ l) (map-set f ss i s)
@@ -198,9 +197,6 @@ pub ready-as : {w w′ xs : List ℕ} {n : ℕ} {v : Walk} → Ready w xs n → 
 ready-as r l t e k = let f = r .fits in record { fits = record { long = f .long; few = f .few; fit = omega (arith, f .fit) }; top = t; sound = rw e k }
 
 module _ {w xs : List ℕ} {n i : ℕ} where
-  pub stands-asks : ReachAsks w xs n i → StandsAsks w xs n i
-  stands-asks p = record { fits = p .ready .fits; here = p .here }
-
   -- an unvisited face may be visited
   pub visit-asks : (state : ℕ) → ReachAsks w xs n i → getD w (3 + i) 0 ≡ 0 → 1 ≤ state → state ≤ 2 → VisitAsks w n i state
   unfolding walkOf

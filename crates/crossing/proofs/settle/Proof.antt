@@ -1,5 +1,4 @@
 -- `crossing::settle` meets its contract. Assumes nothing.
-use mathlib.Core.Path.{refl}
 use native.Mathlib.Omega.{arith}
 use Rattle.crossing.proofs.Settling.{settle-bounds, run-asks, note-asks, settle-gives}
 use borrow.Author.Needs.{needs}

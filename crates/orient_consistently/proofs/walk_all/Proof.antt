@@ -1,7 +1,7 @@
 -- `orient_consistently::walk_all` meets its contract: one start a turn. Assumes nothing.
 use Prim.Native.Nat.{_-_}
 use native.Mathlib.Omega.{arith}
-use Rattle.orient_consistently.proofs.Beginning.{AllInv, all-begin, all-ask, all-again, all-done, all-turn}
+use Rattle.orient_consistently.proofs.Beginning.{AllInv, all-begin, all-ask, all-again, all-done}
 use Rattle.orient_consistently.proofs.walk_all.Statement.{statement}
 use Rattle.orient_consistently.proofs.walk_all.Tie as tie
 
@@ -18,7 +18,7 @@ begin-requires : tie.Need-begin-requires Inv-loop μ-loop
 begin-requires c κs = all-ask (c .before .before .before .before .before .pre) (c .before .before .loop .inv) (c .before .loop-test .taken)
 
 add-i : tie.Need-add-i Inv-loop μ-loop
-add-i c = omega (arith, all-turn (c .before .before .before .before .before .before .before .before .pre) (c .before .before .before .before .before .loop .inv), c .before .before .before .before .loop-test .taken)
+add-i c = omega (arith, c .before .before .before .before .before .before .before .before .pre .going .ready .fits .few, c .before .before .before .before .loop-test .taken)
 
 loop-less : tie.Need-loop-less Inv-loop μ-loop
 loop-less c = omega (arith, c .before .before .before .before .loop-test .taken)

@@ -1,7 +1,7 @@
 -- `reaching::reach` meets its contract. Assumes nothing.
 use mathlib.Core.Path.{sym, _∙_}
 use native.Mathlib.Omega.{arith}
-use Rattle.reaching.proofs.Visiting.{stands-asks, visit-asks, reached-new, reached-old}
+use Rattle.reaching.proofs.Visiting.{visit-asks, reached-new, reached-old}
 use borrow.Author.Needs.{needs}
 use Rattle.reaching.proofs.reach.Statement.{statement}
 use Rattle.reaching.proofs.reach.Tie as tie
@@ -19,22 +19,22 @@ stands-requires : tie.Need-stands-requires
 stands-requires c κs = search needs
 
 visit-requires : tie.Need-visit-requires
-visit-requires c κs = visit-asks 1 (c .before .before .before .before .before .before .before .before .pre) (c .before .before .before .before .if1 .taken) (omega arith) (omega arith)
+visit-requires c κs = visit-asks _ (c .before .before .before .before .before .before .before .before .pre) (c .before .before .before .before .if1 .taken) (omega arith) (omega arith)
 
 visit-requires-2 : tie.Need-visit-requires-2
-visit-requires-2 c κs = visit-asks 2 (c .before .before .before .before .before .before .before .before .pre) (c .before .before .before .before .if1 .taken) (omega arith) (omega arith)
+visit-requires-2 c κs = visit-asks _ (c .before .before .before .before .before .before .before .before .pre) (c .before .before .before .before .if1 .taken) (omega arith) (omega arith)
 
 same-length : tie.Need-same-length
 same-length c = search needs
 
 returns : tie.Need-returns
-returns c = reached-new _ _ (c .before .before .before .before .before .before .before .before .before .before .before .pre) (c .before .before .before .before .before .before .before .if1 .taken) {state = 1} (omega arith) (omega arith) (sym (c .before .before .before .before .if2 .taken) ∙ c .before .before .before .before .before .stands .ensures) (c .before .before .visit .ensures)
+returns c = reached-new _ _ (c .before .before .before .before .before .before .before .before .before .before .before .pre) (c .before .before .before .before .before .before .before .if1 .taken) (omega arith) (omega arith) (sym (c .before .before .before .before .if2 .taken) ∙ c .before .before .before .before .before .stands .ensures) (c .before .before .visit .ensures)
 
 same-length-2 : tie.Need-same-length-2
 same-length-2 c = search needs
 
 returns-2 : tie.Need-returns-2
-returns-2 c = reached-new _ _ (c .before .before .before .before .before .before .before .before .before .before .before .pre) (c .before .before .before .before .before .before .before .if1 .taken) {state = 2} (omega arith) (omega arith) (sym (c .before .before .before .before .if2 .left) ∙ c .before .before .before .before .before .stands .ensures) (c .before .before .visit2 .ensures)
+returns-2 c = reached-new _ _ (c .before .before .before .before .before .before .before .before .before .before .before .pre) (c .before .before .before .before .before .before .before .if1 .taken) (omega arith) (omega arith) (sym (c .before .before .before .before .if2 .left) ∙ c .before .before .before .before .before .stands .ensures) (c .before .before .visit2 .ensures)
 
 returns-3 : tie.Need-returns-3
 returns-3 c = reached-old _ _ (c .before .before .before .before .pre) (c .if1 .left)

@@ -14,6 +14,8 @@ use Rattle.rules.specs.Mesh.{Face, face, facesOf, pointsOf, flatPoints, flatFac
 use Rattle.rules.specs.Rooms.{work-room}
 use Rattle.rules.specs.State.{State, more, vertices-split, points-added}
 use Rattle.rules.specs.Pass5.{pass5}
+use Rattle.rules.proofs.Counting.{filter-le}
+use Rattle.rules.proofs.Lists.{length-below}
 use Rattle.rules.proofs.Rising.{All, all-from}
 use Rattle.rules.proofs.Flat.{face-at, length-flat-faces, length-faces-take}
 use Rattle.rules.proofs.Once.{Inside, Corners-below}
@@ -156,6 +158,11 @@ module _ {ps : List Float} {P : ℕ} {xs : List ℕ} {n : ℕ} {w : List ℕ} (p
         least : P ≤ r .points
         least = omega (arith, s .reached .next-is, base-least (facesOf ys) P P)
 
+        -- no more vertices are split than there are
+        few : r .splits ≤ P
+        unfolding count
+        few = omega (arith, s .splits, filter-le (λ v. ltb 0 (extras (facesOf ys) v)) (below P), length-below P)
+
         pub done : SplitGives P ps xs n w ps′ xs′ w₂ r
         unfolding work-room
         done =
@@ -165,6 +172,7 @@ module _ {ps : List Float} {P : ℕ} {xs : List ℕ} {n : ℕ} {w : List ℕ} (p
               points = points;
               faces = faces;
               report = λ R. report R least;
+              few = few;
               least = least;
               most = omega (arith, s .reached .next-is, base-most (facesOf ys) P P, all-places (s .reached .rows));
               inside = within (w);

@@ -102,6 +102,7 @@ pub record SplitGives (P : ℕ) (ps : List Float) (xs : List ℕ) (n : ℕ) (w :
   pub points : (R : List ℕ) → take (3 * r .points) ps′ ≡ flatPoints (pass5 (stateOf ps P xs n R) .points)
   pub faces : (R : List ℕ) → take (3 * n) xs′ ≡ flatFaces (pass5 (stateOf ps P xs n R) .faces)
   pub report : (R : List ℕ) → pass5 (stateOf ps P xs n R) .report ≡ more points-added (r .points - P) (more vertices-split (r .splits) R)
+  pub few : r .splits ≤ P
   pub least : P ≤ r .points
   pub most : r .points ≤ P + 3 * n
   pub inside : (i : ℕ) → i < 3 * n → getD xs′ i 0 < r .points

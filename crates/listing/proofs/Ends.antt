@@ -86,6 +86,7 @@ module _ {w xs : List ℕ} {at m : ℕ} {e₀ : List ℕ} (q : EdgesAsks w xs at
     room-done {e′} o z =
         let l = rest-fits in
         record {
+          long = o .long ∙ g .only .long;
           front = kept o 0 (2 * m) (before (omega arith)) (omega arith) ∙ g .front ∙ all-ends;
           whole = filled-is (q .room) (omega (arith, fewer)) (g .only) (g .front ∙ all-ends) o z;
         }

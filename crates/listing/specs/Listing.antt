@@ -36,6 +36,7 @@ pub record EdgesGives (w xs : List ℕ) (at m : ℕ) (r r′ : List ℕ) : Type 
 
 -- the unique edges stand at the front, and the rest of the room is zero
 pub record ListGives {w xs : List ℕ} {at m : ℕ} {r : List ℕ} (q : EdgesAsks w xs at m r) (r′ : List ℕ) : Type 0 where
+  pub long : length r′ ≡ length r
   pub front : take (2 * m) r′ ≡ each both-ends (edges (q .P) (facesOf xs))
   pub whole : r′ ≡ filled 0 (2 * length xs) (each both-ends (edges (q .P) (facesOf xs))) r
 

@@ -2,12 +2,13 @@
 use mathlib.Core.Path.{_≡_, sym, ap, subst}
 use mathlib.Core.List.{List}
 use Prim.Native.Nat.{ℕ, _<_, _^_}
+use lib.Ieee.{Float}
 use lib.ListN.{length, replicate, length-replicate}
 use Rattle.rules.specs.Refusal.{Check, ok, no}
 use Rattle.rules.specs.Rooms.{Answer, accepted, refused, Outcome, outcome}
-use Rattle.rules.specs.Calls.{check-check, check, line-check, write-line}
+use Rattle.rules.specs.Calls.{EdgesRooms, edges-check, find-edges, check-check, check, line-check, write-line}
 use Rattle.shell.specs.Told.{told, Given}
-use Rattle.shell.proofs.Places.{Near, check-near, line-near}
+use Rattle.shell.proofs.Places.{Near, edges-near, check-near, line-near}
 
 module _ {R : Type 0} {rooms : R} {o : Outcome R} where
   -- accepted: 0 and 0, and the entries
@@ -34,6 +35,12 @@ module _ {R : Type 0} where
   refused-near : {o : Outcome R} {n p : ℕ} {rooms : R} → Placed (o .answer) → record { answer = refused n p; rooms = rooms } ≡ o → p < 2 ^ 32
   unfolding Placed
   refused-near h e = subst (λ q. Placed (q .answer)) (sym e) h
+
+-- the edge call's place fits C's struct
+pub edges-place :
+    (points : List Float) (faces : List ℕ) (r : EdgesRooms) {n p : ℕ} {rooms : EdgesRooms} → record { answer = refused n p; rooms = rooms } ≡ find-edges points faces r → p < 2 ^ 32
+unfolding find-edges
+edges-place points faces r e = refused-near (outcome-near (edges-check points faces r) _ _ _ (edges-near points faces r)) e
 
 -- the edge check's place fits C's struct
 pub check-place : (P : ℕ) (faces work : List ℕ) {n p : ℕ} {rooms : List ℕ} → record { answer = refused n p; rooms = rooms } ≡ check P faces work → p < 2 ^ 32

@@ -1,4 +1,4 @@
-/* The panel builder's way to call the library: is this shell sound, and what does a report say? */
+/* The panel builder's way to call the library: is this shell sound, which edges does it have, where is its boundary, and what does a report say? */
 #include "shell.h"
 #include <stdio.h>
 #include <stdlib.h>
@@ -13,12 +13,30 @@ int main(void) {
         return 1;
 
     ShellCheck sound = shell_check(points, faces, corners, work, room);
-    free(work);
     if (sound.number != SHELL_ACCEPTED) {
         printf("refused %u at %u\n", sound.number, sound.place);
         return 1;
     }
     printf("sound: %s\n", sound.yes ? "yes" : "no");
+
+    const double coordinates[] = {0, 0, 0, 1, 0, 0, 1, 1, 0, 0, 1, 0};
+    uint32_t edges[SHELL_EDGES_ROOM(2)], face_edges[SHELL_FACE_EDGES_ROOM(2)], loop_vertices[SHELL_LOOP_VERTICES_ROOM(2)], loop_ends[SHELL_LOOP_ENDS_ROOM(2)];
+    double lengths[SHELL_LENGTHS_ROOM(2)];
+    ShellEdges found = shell_edges(coordinates, 3 * points, faces, corners, edges, SHELL_EDGES_ROOM(2), lengths, SHELL_LENGTHS_ROOM(2), face_edges,
+                                   SHELL_FACE_EDGES_ROOM(2), loop_vertices, SHELL_LOOP_VERTICES_ROOM(2), loop_ends, SHELL_LOOP_ENDS_ROOM(2), work, room);
+    free(work);
+    if (found.number != SHELL_ACCEPTED) {
+        printf("refused %u at %u\n", found.number, found.place);
+        return 1;
+    }
+    for (size_t i = 0; i < found.lengths; i++)
+        printf("edge %u %u, %.3f long\n", edges[2 * i], edges[2 * i + 1], lengths[i]);
+    for (size_t i = 0, k = 0; i < found.loop_ends; i++) {
+        printf("loop");
+        for (; k < loop_ends[i]; k++)
+            printf(" %u", loop_vertices[k]);
+        printf("\n");
+    }
 
     const uint32_t counts[10] = {0, 0, 1, 1, 0, 0, 0, 1, 0, 1};
     uint8_t line[SHELL_LINE_ROOM];

@@ -40,6 +40,24 @@ enum {
 /* Rooms in entries, for P points and F faces. */
 #define SHELL_WORK_ROOM(P, F) (16 * (size_t)(P) + 64 * (size_t)(F) + 64)
 #define SHELL_LINE_ROOM ((size_t)512)
+#define SHELL_EDGES_ROOM(F) (6 * (size_t)(F))
+#define SHELL_LENGTHS_ROOM(F) (3 * (size_t)(F))
+#define SHELL_FACE_EDGES_ROOM(F) (3 * (size_t)(F))
+#define SHELL_LOOP_VERTICES_ROOM(F) (3 * (size_t)(F))
+#define SHELL_LOOP_ENDS_ROOM(F) (3 * (size_t)(F))
+
+/* The edge call. Edges: two ends each, the lower first, sorted; lengths: one for each edge; face edges: for each face the positions of its edges (1,2),
+ * (2,0), (0,1) among them; loop vertices: each boundary loop against its walk; loop ends: where each loop ends, as running totals. Rooms in this order:
+ * SHELL_EDGES_ROOM(F), SHELL_LENGTHS_ROOM(F), SHELL_FACE_EDGES_ROOM(F), SHELL_LOOP_VERTICES_ROOM(F), SHELL_LOOP_ENDS_ROOM(F), SHELL_WORK_ROOM(P, F). A
+ * work room of zeros, as every accepted call leaves it, is served fastest. */
+typedef struct {
+    uint32_t number, place;
+    uint64_t edges, lengths, face_edges, loop_vertices, loop_ends;
+} ShellEdges;
+
+ShellEdges shell_edges(const double *points, size_t points_len, const uint32_t *faces, size_t faces_len, uint32_t *edges, size_t edges_len, double *lengths,
+                       size_t lengths_len, uint32_t *face_edges, size_t face_edges_len, uint32_t *loop_vertices, size_t loop_vertices_len,
+                       uint32_t *loop_ends, size_t loop_ends_len, uint32_t *work, size_t work_len);
 
 /* The edge check: `yes` is 1 exactly when no face repeats a corner and every directed edge is used at most once. Work: SHELL_WORK_ROOM(P, F). */
 typedef struct {

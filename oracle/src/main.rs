@@ -1,10 +1,11 @@
-//! Compares the library's calls with the Rust: `oracle [--seed N] [--cases N] [--call NAME]`, `oracle --self-test`, `oracle --time CALL FACES`,
-//! `oracle --recorded CASES ANSWERS`.
+//! Compares the library's calls with the Rust: `oracle [--seed N] [--cases N] [--call NAME] [--show N]`, `oracle --self-test`,
+//! `oracle --time CALL FACES`, `oracle --recorded CASES ANSWERS`.
 
 mod case;
 mod compare;
 mod damage;
 mod defects;
+mod fallen;
 mod fault;
 mod generate;
 mod here;
@@ -32,6 +33,7 @@ struct Settings {
     seed: u64,
     cases: u64,
     calls: Vec<Call>,
+    show: Option<u64>,
 }
 
 /// The first case that differs, with its number, and the smallest one found from it.
@@ -51,7 +53,9 @@ fn main() -> ExitCode {
         _ => match settings(&words) {
             Some(settings) => compare_all(&settings),
             None => {
-                eprintln!("usage: oracle [--seed N] [--cases N] [--call NAME] | --self-test | --time CALL FACES | --recorded CASES ANSWERS");
+                eprintln!(
+                    "usage: oracle [--seed N] [--cases N] [--call NAME] [--show N] | --self-test | --time CALL FACES | --recorded CASES ANSWERS"
+                );
                 ExitCode::from(2)
             }
         },
@@ -60,11 +64,12 @@ fn main() -> ExitCode {
 
 /// What the words ask for; nothing if they are not understood.
 fn settings(words: &[&str]) -> Option<Settings> {
-    let mut settings = Settings { seed: 1, cases: 300_000, calls: CALLS.to_vec() };
+    let mut settings = Settings { seed: 1, cases: 300_000, calls: CALLS.to_vec(), show: None };
     for pair in words.chunks(2) {
         match pair {
             ["--seed", n] => settings.seed = n.parse().ok()?,
             ["--cases", n] => settings.cases = n.parse().ok()?,
+            ["--show", n] => settings.show = Some(n.parse().ok()?),
             ["--call", name] => settings.calls = vec![call_named(name)?],
             _ => return None,
         }
@@ -79,7 +84,12 @@ pub fn call_named(name: &str) -> Option<Call> {
 
 /// Runs every call's cases, and stops at the first difference.
 fn compare_all(settings: &Settings) -> ExitCode {
+    fallen::watch();
     for &call in &settings.calls {
+        if let Some(number) = settings.show {
+            print!("{}", print::shown(&generate::case(call, settings.seed, number)));
+            continue;
+        }
         let (start, mut tally) = (Instant::now(), Tally::default());
         let found = first(call, settings.seed, 0..settings.cases, None, &mut tally);
         let seconds = start.elapsed().as_secs_f64();
@@ -90,6 +100,9 @@ fn compare_all(settings: &Settings) -> ExitCode {
             return ExitCode::from(1);
         }
         println!("{}: {} cases {compared}, in {seconds:.1} s\n{}", call.name(), settings.cases, tally.shown());
+    }
+    if settings.show.is_some() {
+        return ExitCode::SUCCESS;
     }
     let missing: Vec<&str> = settings.calls.iter().filter(|call| !here::has(**call)).map(|call| call.name()).collect();
     if !missing.is_empty() {
@@ -103,6 +116,7 @@ fn compare_all(settings: &Settings) -> ExitCode {
 pub fn first(call: Call, seed: u64, numbers: Range<u64>, fault: Option<Fault>, tally: &mut Tally) -> Option<Found> {
     let differs = |case: &Case| compare::difference(case, &there::outcome(case), fault);
     for number in numbers {
+        fallen::next(call, seed, number);
         let case = generate::case(call, seed, number);
         let outcome = std::panic::catch_unwind(|| there::outcome(&case)).unwrap_or_else(|_| {
             println!("{}: the Rust fails in case {number} of seed {seed}\n{}", call.name(), print::shown(&case));

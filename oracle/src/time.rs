@@ -93,10 +93,12 @@ pub fn run(call: &str, faces: usize) -> ExitCode {
     };
     let mut case = grid(call, faces);
     println!("a grid, P = {}, F = {}", case.p(), case.f());
-    told(call.name(), &case);
     if call == Call::Repair {
+        told("repair with options 0", &case);
         case.options = 63;
         told("repair with options 63", &case);
+    } else {
+        told(call.name(), &case);
     }
     ExitCode::SUCCESS
 }

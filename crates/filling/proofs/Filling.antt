@@ -27,17 +27,17 @@ module _ {A : Type 0} {d : A} where
       ext-getD d (drop n w′) (drop n w) (simp length-drop (omega arith))
       (λ i k. getD-drop n w′ i d ∙ o .same (n + i) (above (omega arith)) ∙ sym (getD-drop n w i d))
 
-  -- the first k entries are the answer, those up to n are z, and what lies beyond is as it was
-  pub filled-is :
-      {k n : ℕ} {z : A} {answer r r₁ r₂ : List A} → n ≤ length r → k ≤ n → OnlyOf d 0 k r r₁ → take k r₁ ≡ answer
+  -- the first k entries are the answer, those up to n are z, and what lies beyond is as it was; before it was cleared, the room was changed up to n
+  pub filled-in :
+      {k n : ℕ} {z : A} {answer r r₁ r₂ : List A} → n ≤ length r → k ≤ n → OnlyOf d 0 n r r₁ → take k r₁ ≡ answer
       → OnlyOf d k (n - k) r₁ r₂ → HoldsOf d k (n - k) (λ i. z) r₂ → r₂ ≡ filled z n answer r
   unfolding filled
-  filled-is {k} {n} {z} {answer} {r} {r₁} {r₂} h l o e o₂ f =
+  filled-in {k} {n} {z} {answer} {r} {r₁} {r₂} h l o e o₂ f =
       let l₁ = o .long in
       let l₂ = o₂ .long in
       let s : k + (n - k) ≡ n = omega arith in
       let c : length answer ≡ k = ap length (sym e) ∙ length-part r₁ 0 k (omega arith) in
-      let b : OnlyOf d 0 n r r₂ = only-both (only-more (omega arith) (omega arith) o) (only-more (omega arith) (omega arith) o₂) in
+      let b : OnlyOf d 0 n r r₂ = only-both o (only-more (omega arith) (omega arith) o₂) in
       sym (take-append-drop n r₂)
       ∙ ap₂ (λ u v. u ++ v)
       (ap (λ j. take j r₂) (sym s)
@@ -45,6 +45,12 @@ module _ {A : Type 0} {d : A} where
       ∙ ap₂ (λ u v. u ++ v) (kept o₂ 0 k (before (omega arith)) (omega arith) ∙ e) (ap (λ j. part r₂ j (n - k)) (zero-add k) ∙ part-same (omega arith) f))
       (drop-kept b)
       ∙ ap (λ j. answer ++ replicate (n - j) z ++ drop n r) (sym c)
+
+  -- the same where only the answer was written before
+  pub filled-is :
+      {k n : ℕ} {z : A} {answer r r₁ r₂ : List A} → n ≤ length r → k ≤ n → OnlyOf d 0 k r r₁ → take k r₁ ≡ answer
+      → OnlyOf d k (n - k) r₁ r₂ → HoldsOf d k (n - k) (λ i. z) r₂ → r₂ ≡ filled z n answer r
+  filled-is h l o = filled-in h l (only-more (omega arith) (omega arith) o)
 
   -- an answer as long as the room
   pub filled-whole : (z : A) {n : ℕ} {answer r r₁ : List A} → n ≤ length r → OnlyOf d 0 n r r₁ → take n r₁ ≡ answer → r₁ ≡ filled z n answer r

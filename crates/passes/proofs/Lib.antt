@@ -1,0 +1,5 @@
+pub mod Standing
+pub mod Steps
+pub mod Passes
+pub mod Rooms
+pub mod Mending

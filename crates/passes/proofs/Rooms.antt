@@ -1,0 +1,108 @@
+-- Passes 5 and 6, each by its option, on the points and faces in their rooms. Assumes nothing.
+use mathlib.Core.Path.{_≡_, sym, ap, subst, _∙_}
+use mathlib.Core.Bool.{true, false}
+use mathlib.Core.List.{List, []}
+use Prim.Native.Nat.{ℕ, _+_, _*_, _-_, _≤_, _<_}
+use native.Mathlib.Omega.{arith}
+use lib.ListN.{length, getD, take}
+use lib.Seq.{length-take-le}
+use lib.Ieee.{Float}
+use Rattle.rows.proofs.Regions.{only-none}
+use Rattle.leaving.specs.Pass.{standing}
+use Rattle.rules.specs.Mesh.{pointsOf, facesOf}
+use Rattle.rules.specs.Repair.{optional}
+use Rattle.rules.specs.Rooms.{work-room}
+use Rattle.rules.specs.State.{State, more, vertices-split, points-added, isolated}
+use Rattle.rules.specs.Pass5.{pass5}
+use Rattle.rules.specs.Pass6.{pass6, number}
+use Rattle.rules.proofs.Flat.{faces-flat, points-flat, length-points}
+use Rattle.rules.proofs.Once.{Inside}
+use Rattle.rules.proofs.Output.{pass6-inside}
+use Rattle.passes.specs.Mended.{stateOf, RoomGives}
+use Rattle.split_bowtie_vertices.specs.declared.Split.{Split}
+use Rattle.split_bowtie_vertices.specs.Splits.{SplitAsks, SplitGives}
+use Rattle.drop_isolated_vertices.specs.Unused.{UnusedAsks, UnusedGives}
+use Rattle.drop_isolated_vertices.proofs.Resulting.{unused-state}
+use Rattle.splitting.proofs.Reports.{more-none}
+use Rattle.passes.proofs.Standing.{corners-inside, inside-corners}
+use Rattle.passes.proofs.Steps.{none-dropped}
+
+-- p points at the front are p
+pub length-standing-points : (ps : List Float) (p : ℕ) → 3 * p ≤ length ps → length (pointsOf (take (3 * p) ps)) ≡ p
+length-standing-points ps p h = length-points (take (3 * p) ps) ∙ (let e = length-take-le (3 * p) ps h in omega arith)
+
+-- corners inside, from a state that is what a pass makes
+inside-by :
+    (ps : List Float) (p : ℕ) (xs : List ℕ) (n : ℕ) (report : List ℕ) (m : State) → 3 * p ≤ length ps → 3 * n ≤ length xs → stateOf ps p xs n report ≡ m
+    → Inside (length (m .points)) (m .faces) → (i : ℕ) → i < 3 * n → getD xs i 0 < p
+inside-by ps p xs n report m hp hn e inside =
+    inside-corners xs n hn p
+    (subst (λ k. Inside k (standing xs n)) (length-standing-points ps p hp) (subst (λ t. Inside (length (t .points)) (t .faces)) (sym e) inside))
+
+module _ {ps : List Float} {p : ℕ} {xs : List ℕ} {n : ℕ} {w : List ℕ} (a : SplitAsks ps p xs n w) where
+  -- pass 5
+  pub off5 : RoomGives (optional false pass5) (λ report. more points-added (p - p) (more vertices-split 0 report)) (p + 3 * n) (work-room p n) ps p xs n w ps p xs w
+  unfolding optional
+  off5 =
+      record {
+        inside = a .stand .inside;
+        fewer = omega arith;
+        state = λ report. ap (stateOf ps p xs n) (none-dropped points-added p (more vertices-split 0 report) ∙ more-none vertices-split report);
+        only-points = only-none 0 (3 * (p + 3 * n)) ps;
+        only-faces = only-none 0 (3 * n) xs;
+        only-work = only-none 0 (work-room p n) w;
+      }
+
+  pub on5 :
+      {ps′ : List Float} {xs′ w′ : List ℕ} {r : Split} → SplitGives p ps xs n w ps′ xs′ w′ r
+      → RoomGives (optional true pass5) (λ report. more points-added (r .points - p) (more vertices-split (r .splits) report)) (p + 3 * n) (work-room p n) ps p xs n w ps′ (r .points) xs′ w′
+  unfolding optional
+  on5 {r = r} g =
+      record {
+        inside = g .inside;
+        fewer = g .most;
+        state =
+            λ report.
+            let m = pass5 (stateOf ps p xs n report) in
+            let q = ap pointsOf (g .points report) ∙ points-flat (m .points) in
+            let f = ap facesOf (g .faces report) ∙ faces-flat (m .faces) in
+            let e = sym (g .report report) in
+            λ i. record { points = q i; faces = f i; report = e i };
+        only-points = g .only-points;
+        only-faces = g .only-faces;
+        only-work = g .only-work;
+      }
+
+module _ {ps : List Float} {p : ℕ} {xs : List ℕ} {n : ℕ} {w : List ℕ} (a : UnusedAsks ps p xs n w) where
+  -- the corners are points that stand
+  used-inside : (report : List ℕ) → Inside (length (stateOf ps p xs n report .points)) (standing xs n)
+  used-inside report = rw (length-standing-points ps p (a .points-fit)) (corners-inside xs n (a .fit) p (a .inside))
+
+  -- pass 6
+  pub off6 : RoomGives (optional false pass6) (more isolated (p - p)) p (2 * p) ps p xs n w ps p xs w
+  unfolding optional
+  off6 =
+      record {
+        inside = a .inside;
+        fewer = omega arith;
+        state = λ report. ap (stateOf ps p xs n) (none-dropped isolated p report);
+        only-points = only-none 0 (3 * p) ps;
+        only-faces = only-none 0 (3 * n) xs;
+        only-work = only-none 0 (2 * p) w;
+      }
+
+  module _ {ps′ : List Float} {xs′ w′ : List ℕ} {r : ℕ} (g : UnusedGives ps p xs n w ps′ xs′ w′ r) where
+    pub on6 : RoomGives (optional true pass6) (more isolated (p - r)) p (2 * p) ps p xs n w ps′ r xs′ w′
+    unfolding optional
+    on6 =
+        let lp = g .only-points .long in
+        let lf = g .only-faces .long in
+        record {
+          inside =
+              inside-by ps′ r xs′ n _ (pass6 (stateOf ps p xs n [])) (omega (arith, g .number, a .points-fit)) (omega (arith, a .fit)) (unused-state [] a g) (pass6-inside (stateOf ps p xs n []) (used-inside []));
+          fewer = omega (arith, g .number);
+          state = λ report. unused-state report a g;
+          only-points = g .only-points;
+          only-faces = g .only-faces;
+          only-work = g .only-work;
+        }

@@ -1,0 +1,34 @@
+use native.Mathlib.Omega.{arith}
+use Rattle.passes.proofs.Rooms.{on5, off5}
+use borrow.Author.Needs.{needs}
+use Rattle.passes.proofs.pass5.Statement.{statement}
+use Rattle.passes.proofs.pass5.Tie as tie
+
+split-bowtie-vertices-requires : tie.Need-split-bowtie-vertices-requires
+split-bowtie-vertices-requires c κs = search needs
+
+same-length : tie.Need-same-length
+same-length c = search needs
+
+same-length-2 : tie.Need-same-length-2
+same-length-2 c = search needs
+
+same-length-3 : tie.Need-same-length-3
+same-length-3 c = search needs
+
+returns : tie.Need-returns
+returns c = (rw (c .before .before .before .before .before .before .before .before .before .before .if1 .taken) (on5 (c .before .before .before .before .before .before .before .before .before .before .before .before .before .before .pre) (c .before .before .before .before .before .before .split-bowtie-vertices .ensures)), (c .before .before .before .before .before .before .split-bowtie-vertices .ensures .least, c .before .before .before .before .before .before .split-bowtie-vertices .ensures .few))
+
+returns-2 : tie.Need-returns-2
+returns-2 c = (rw (c .if1 .left) (off5 (c .before .before .before .before .pre)), (omega arith, omega arith))
+
+pub pass5-spec : {M : Type 1} → statement M
+pass5-spec =
+    tie.close
+    (tie.spec
+    split-bowtie-vertices-requires
+    same-length
+    same-length-2
+    same-length-3
+    returns
+    returns-2)

@@ -1,0 +1,33 @@
+use Rattle.passes.proofs.Rooms.{on6, off6}
+use borrow.Author.Needs.{needs}
+use Rattle.passes.proofs.pass6.Statement.{statement}
+use Rattle.passes.proofs.pass6.Tie as tie
+
+drop-isolated-vertices-requires : tie.Need-drop-isolated-vertices-requires
+drop-isolated-vertices-requires c κs = search needs
+
+same-length : tie.Need-same-length
+same-length c = search needs
+
+same-length-2 : tie.Need-same-length-2
+same-length-2 c = search needs
+
+same-length-3 : tie.Need-same-length-3
+same-length-3 c = search needs
+
+returns : tie.Need-returns
+returns c = rw (c .before .before .before .before .before .before .before .before .before .before .if1 .taken) (on6 (c .before .before .before .before .before .before .before .before .before .before .before .before .before .before .pre) (c .before .before .before .before .before .before .drop-isolated-vertices .ensures))
+
+returns-2 : tie.Need-returns-2
+returns-2 c = rw (c .if1 .left) (off6 (c .before .before .before .before .pre))
+
+pub pass6-spec : {M : Type 1} → statement M
+pass6-spec =
+    tie.close
+    (tie.spec
+    drop-isolated-vertices-requires
+    same-length
+    same-length-2
+    same-length-3
+    returns
+    returns-2)

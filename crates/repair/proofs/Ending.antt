@@ -1,0 +1,147 @@
+-- The outcome of a repair: a refusal that leaves every room as it was, or the mended lists in their rooms. Assumes nothing.
+use mathlib.Core.Path.{_≡_, sym, ap, ap₂, _∙_}
+use mathlib.Core.List.{List, [], _∷_}
+use Prim.Native.Nat.{ℕ, _+_, _-_, _*_, _/_, _≤_}
+use native.Mathlib.Omega.{arith}
+use lib.ListN.{length, take}
+use lib.Seq.{length-take-le}
+use lib.Ieee.{Float, nan}
+use Rattle.rows.specs.Region.{OnlyOf, HoldsOf, Only, Filled}
+use Rattle.rows.proofs.Regions.{only-both}
+use Rattle.filling.proofs.Filling.{filled-in, filled-whole, cleared-is}
+use Rattle.rules.specs.Mesh.{pointsOf, facesOf, flatPoints, flatFaces, zero64}
+use Rattle.rules.specs.Refusal.{decided}
+use Rattle.rules.specs.Repair.{repaired}
+use Rattle.rules.specs.State.{State}
+use Rattle.rules.specs.Rooms.{work-room, filled, cleared, outcome, accepted}
+use Rattle.rules.specs.Calls.{RepairRooms, repair-check, repair}
+use Rattle.rules.proofs.Flat.{flat-points, flat-faces, length-faces-take}
+use Rattle.refuse.specs.Verdicts.{checkOf, repair-list}
+use Rattle.refuse.specs.Accepted.{RepairAccepted}
+use Rattle.refuse.specs.declared.Verdict.{Verdict}
+use Rattle.refuse.specs.declared.Verdict.the-variants.{Fine, Refused}
+use Rattle.refuse.proofs.Calls.{repair-is}
+use Rattle.refuse.proofs.Accept.{repair-accepted}
+use Rattle.passes.specs.declared.Mended.{Mended}
+use Rattle.repair.specs.declared.Repaired.the-variants as repaired-as
+use Rattle.passes.specs.Mended.{MendAsks, MendGives}
+use Rattle.repair.specs.Answers.{roomsOf, outcomeOf, ReportAsks, ReportGives}
+use Rattle.passes.proofs.Rooms.{length-standing-points}
+
+-- the bounds of what is cleared: P and F, the ends of the answers, the lengths of the rooms
+pub record Sizes (P F p f points-room faces-room report-room work : ℕ) : Type 0 where
+  pub few-points : P ≤ 4194304
+  pub few-faces : F ≤ 1048576
+  pub points-end : p ≤ P + 3 * F
+  pub faces-end : f ≤ F
+  pub points-long : 3 * (P + 3 * F) ≤ points-room
+  pub faces-long : 3 * F ≤ faces-room
+  pub report-long : 10 ≤ report-room
+  pub work-long : 16 * P + 64 * F + 64 ≤ work
+
+module _ (points : List Float) (faces : List ℕ) (s : Float) (o : ℕ) (ps : List Float) (xs rs w : List ℕ) (v : Verdict)
+    (e : checkOf v ≡ decided (repair-list points faces s o (length ps) (length xs) (length rs) (length w))) where
+  abbrev P : ℕ
+  P = length points / 3
+
+  abbrev F : ℕ
+  F = length faces / 3
+
+  -- what the rules leave
+  abbrev m : State
+  m = repaired s o (pointsOf points) (facesOf faces)
+
+  -- the entries that stand in each room
+  abbrev entries : List ℕ
+  entries = 3 * length (m .points) ∷ 3 * length (m .faces) ∷ 10 ∷ []
+
+  -- the rooms of an accepted repair
+  abbrev after : RepairRooms
+  after =
+      record {
+        points = filled zero64 (3 * (P + 3 * F)) (flatPoints (m .points)) ps;
+        faces = filled 0 (3 * F) (flatFaces (m .faces)) xs;
+        report = filled 0 10 (m .report) rs;
+        work = cleared (work-room P F) w;
+      }
+
+  -- the rules' check is the verdict
+  verdict-is : checkOf v ≡ repair-check points faces s o (roomsOf ps xs rs w)
+  verdict-is = e ∙ repair-is points faces s o (roomsOf ps xs rs w)
+
+  -- a refusal changes no buffer
+  pub is-refused : (n p : ℕ) → v ≡ Refused n p → outcomeOf (repaired-as.Refused n p) ps xs rs w ≡ repair points faces s o (roomsOf ps xs rs w)
+  unfolding repair outcome
+  is-refused n p t = ap (λ c. outcome c (roomsOf ps xs rs w) entries after) (sym (ap checkOf t) ∙ verdict-is)
+
+  module _ (t : v ≡ Fine) where
+    -- what an accepted call may start from
+    is-accepted : RepairAccepted points faces o (length ps) (length xs) (length rs) (length w)
+    is-accepted = repair-accepted points faces s o (length ps) (length xs) (length rs) (length w) (sym e ∙ ap checkOf t)
+
+    pub mend-asks : MendAsks points faces ps xs w
+    mend-asks =
+        let a = is-accepted in
+        record { input = a .input; room-points = a .room-points; room-faces = a .room-faces; room-work = a .room-work }
+
+    module _ {ps₁ : List Float} {xs₁ w₁ : List ℕ} {r : Mended} (g : MendGives points faces s o ps xs w ps₁ xs₁ w₁ r) where
+      -- the bounds of what is cleared
+      pub sizes : Sizes P F (r .points) (r .faces) (length ps₁) (length xs₁) (length rs) (length w₁)
+      unfolding work-room
+      sizes =
+          let a = is-accepted in
+          let lp = g .only-points .long in
+          let lf = g .only-faces .long in
+          let lw = g .only-work .long in
+          record {
+            few-points = a .input .faces-fine .points;
+            few-faces = a .input .faces-fine .few;
+            points-end = g .points-fit;
+            faces-end = g .faces-fit;
+            points-long = omega (arith, a .room-points);
+            faces-long = omega (arith, a .room-faces);
+            report-long = a .room-report;
+            work-long = omega (arith, a .room-work);
+          }
+
+      pub report-asks : ReportAsks rs (r .report)
+      report-asks = record { room = sizes .report-long; few = g .few }
+
+      -- the points in front are the rules'
+      points-front : take (3 * r .points) ps₁ ≡ flatPoints (m .points)
+      points-front =
+          let z = sizes in
+          sym (flat-points (take (3 * r .points) ps₁) (let l = length-take-le (3 * r .points) ps₁ (omega (arith, z)) in omega arith)) ∙ ap (λ t. flatPoints (t .points)) (g .state)
+
+      -- and so are the faces
+      faces-front : take (3 * r .faces) xs₁ ≡ flatFaces (m .faces)
+      faces-front =
+          let z = sizes in
+          sym (flat-faces (take (3 * r .faces) xs₁) (let l = length-take-le (3 * r .faces) xs₁ (omega (arith, z)) in omega arith)) ∙ ap (λ t. flatFaces (t .faces)) (g .state)
+
+      -- how many there are
+      entries-are : 3 * r .points ∷ 3 * r .faces ∷ 10 ∷ [] ≡ entries
+      entries-are =
+          let z = sizes in
+          let p : r .points ≡ length (m .points) = sym (length-standing-points ps₁ (r .points) (omega (arith, z))) ∙ ap (λ t. length (t .points)) (g .state) in
+          let f : r .faces ≡ length (m .faces) = sym (length-faces-take xs₁ (r .faces) (omega (arith, z))) ∙ ap (λ t. length (t .faces)) (g .state) in
+          ap₂ (λ i j. 3 * i ∷ 3 * j ∷ 10 ∷ []) p f
+
+      pub is-done :
+          {ps₂ : List Float} {xs₂ rs₂ w₂ : List ℕ}
+          → OnlyOf nan (3 * r .points) (3 * (P + 3 * F) - 3 * r .points) ps₁ ps₂ → HoldsOf nan (3 * r .points) (3 * (P + 3 * F) - 3 * r .points) (λ i. zero64) ps₂
+          → Only (3 * r .faces) (3 * F - 3 * r .faces) xs₁ xs₂ → Filled (3 * r .faces) (3 * F - 3 * r .faces) 0 xs₂
+          → ReportGives rs (r .report) rs₂
+          → Only 0 (16 * P + 64 * F + 64) w₁ w₂ → Filled 0 (16 * P + 64 * F + 64) 0 w₂
+          → outcomeOf (repaired-as.Done (3 * r .points) (3 * r .faces)) ps₂ xs₂ rs₂ w₂ ≡ repair points faces s o (roomsOf ps xs rs w)
+      unfolding repair outcome work-room
+      is-done {ps₂} {xs₂} {rs₂} {w₂} op hp of hf gr ow hw =
+          let z = sizes in
+          let a = is-accepted in
+          let p : ps₂ ≡ after .points = filled-in (a .room-points) (omega (arith, z)) (g .only-points) points-front op hp in
+          let f : xs₂ ≡ after .faces = filled-in (a .room-faces) (omega (arith, z)) (g .only-faces) faces-front of hf in
+          let b : rs₂ ≡ after .report = filled-whole 0 (a .room-report) (gr .only) (gr .written ∙ ap (λ t. t .report) (g .state)) in
+          let c : w₂ ≡ after .work = cleared-is (a .room-work) (only-both (g .only-work) ow) hw in
+          ap₂ (λ (k : List ℕ) (rooms : RepairRooms). record { answer = accepted k; rooms = rooms }) entries-are
+          (λ i. record { points = p i; faces = f i; report = b i; work = c i })
+          ∙ ap (λ c. outcome c (roomsOf ps xs rs w) entries after) (sym (ap checkOf t) ∙ verdict-is)

@@ -1,0 +1,36 @@
+-- The words of this crate's contracts: what a repair gives back, as the rules' outcome. Definitions only.
+use mathlib.Core.Path.{_≡_}
+use mathlib.Core.List.{List, [], _∷_}
+use Prim.Native.Nat.{ℕ, _^_, _≤_}
+use lib.ListN.{length, take}
+use lib.Ieee.{Float}
+use Rattle.rows.specs.Region.{Only}
+use Rattle.rules.specs.Calls.{RepairRooms}
+use Rattle.rules.specs.Rooms.{Answer, accepted, refused, Outcome}
+use Rattle.passes.specs.Mended.{countsOf, CountsBelow}
+use Rattle.passes.specs.declared.Report.{Report}
+use Rattle.repair.specs.declared.Repaired.{Repaired}
+use Rattle.repair.specs.declared.Repaired.the-variants.{Done, Refused}
+
+-- the four rooms, in checking order
+abbrev pub roomsOf : List Float → List ℕ → List ℕ → List ℕ → RepairRooms
+roomsOf points faces report work = record { points = points; faces = faces; report = report; work = work }
+
+-- document 01's answer: how many entries stand in each answer room, or a number and a place
+abbrev pub answerOf : Repaired → Answer
+answerOf (Done points faces) = accepted (points ∷ faces ∷ 10 ∷ [])
+answerOf (Refused n p) = refused n p
+
+-- with the rooms as the call leaves them
+abbrev pub outcomeOf : Repaired → List Float → List ℕ → List ℕ → List ℕ → Outcome RepairRooms
+outcomeOf r points faces report work = record { answer = answerOf r; rooms = roomsOf points faces report work }
+
+-- a room for ten counts that are numbers of 32 bits
+pub record ReportAsks (r : List ℕ) (counts : Report) : Type 0 where
+  pub room : 10 ≤ length r
+  pub few : CountsBelow (2 ^ 32) counts
+
+-- they stand at its front
+pub record ReportGives (r : List ℕ) (counts : Report) (r′ : List ℕ) : Type 0 where
+  pub only : Only 0 10 r r′
+  pub written : take 10 r′ ≡ countsOf counts

@@ -1,0 +1,68 @@
+// The repair call of document 01: its refusals, the six passes by option bits, and every room after it.
+use passes::Report;
+use refuse::RepairRooms;
+use refuse::Verdict;
+ghost use mathlib.Core.Path.{_≡_};
+ghost use Rattle.rules.specs.Calls as rule;
+ghost use Rattle.repair.specs.Answers.{roomsOf, outcomeOf, ReportAsks, ReportGives};
+
+// What a repair gives back: how many entries stand in the points and in the faces room, or a refusal's number and place.
+pub enum Repaired {
+    Done(usize, usize),
+    Refused(u32, usize),
+}
+
+// Writes the ten counts, in report order.
+fn write_report(report: &mut [u32], counts: Report)
+    requires { ⌜ ReportAsks (now report) counts ⌝ }
+    ensures { λ _. ⌜ ReportGives (now (report .entry)) counts (now (report .exit)) ⌝ }
+{
+    report[0] = counts.degenerate_removed as u32;
+    report[1] = counts.duplicate_faces_removed as u32;
+    report[2] = counts.nonmanifold_edges as u32;
+    report[3] = counts.faces_dropped_at_nonmanifold as u32;
+    report[4] = counts.faces_dropped_for_orientation as u32;
+    report[5] = counts.bowtie_vertices_split as u32;
+    report[6] = counts.points_added_by_splitting as u32;
+    report[7] = counts.faces_reoriented as u32;
+    report[8] = counts.nonorientable_components as u32;
+    report[9] = counts.isolated_vertices_removed as u32;
+}
+
+// The repair: the passes by option bits, then the rooms: each answer in front, zero to the stated room, the work room all zero.
+pub fn repair(
+    points: &[f64],
+    faces: &[u32],
+    s: f64,
+    options: u32,
+    points_room: &mut [f64],
+    faces_room: &mut [u32],
+    report: &mut [u32],
+    work: &mut [u32],
+) -> Repaired
+    ensures { λ r. ⌜ outcomeOf r (now («points_room» .exit)) (now («faces_room» .exit)) (now (report .exit)) (now (work .exit)) ≡ rule.repair (now (points .entry)) (now (faces .entry)) s options (roomsOf (now («points_room» .entry)) (now («faces_room» .entry)) (now (report .entry)) (now (work .entry))) ⌝ }
+{
+    let rooms = RepairRooms {
+        points: points_room.len(),
+        faces: faces_room.len(),
+        report: report.len(),
+        work: work.len(),
+    };
+    match refuse::repair_check(points, faces, s, options, rooms) {
+        Verdict::Fine => {}
+        Verdict::Refused(number, place) => {
+            return Repaired::Refused(number, place);
+        }
+    }
+    let p = points.len() / 3;
+    let n = faces.len() / 3;
+    let mended = passes::mend(points, faces, s, options, points_room, faces_room, work);
+    let a = 3 * mended.points;
+    let b = 3 * mended.faces;
+    let counts = mended.report;
+    rows::clear_points(points_room, a, 3 * (p + 3 * n) - a);
+    rows::clear(faces_room, b, 3 * n - b);
+    write_report(report, counts);
+    rows::clear(work, 0, 16 * p + 64 * n + 64);
+    Repaired::Done(a, b)
+}

@@ -44,7 +44,6 @@ pub record Turn (xs w : List ℕ) (n i : ℕ) : Type 0 where
   pub few : n ≤ 4194304
   pub here : i < n
   pub fit : 3 * n ≤ length xs
-  pub fit-set : 3 * n ≤ length (set xs (3 * i + 1) (getD xs (3 * i + 1 + 1) 0))
   pub room : 3 + n ≤ length w
 
 module _ {xs₀ w : List ℕ} {n : ℕ} {xs : List ℕ} {i : ℕ} (p : TurnAsks xs₀ w n) (u : TurnInv xs₀ w n xs i) where
@@ -52,7 +51,7 @@ module _ {xs₀ w : List ℕ} {n : ℕ} {xs : List ℕ} {i : ℕ} (p : TurnAsks 
     pub turn-turn : Turn xs w n i
     turn-turn =
         let l = u .only .long in
-        record { few = p .few; here = h; fit = omega (arith, p .fit); fit-set = omega (arith, p .fit, length-set xs (3 * i + 1) (getD xs (3 * i + 1 + 1) 0)); room = p .room }
+        record { few = p .few; here = h; fit = omega (arith, p .fit); room = p .room }
 
     -- face i is as it was
     was : (q : ℕ) → 3 * i ≤ q → getD xs q 0 ≡ getD xs₀ q 0

@@ -2,6 +2,7 @@
 use mathlib.Core.Logic.{⊎-elim}
 use Prim.Native.Nat.{_-_}
 use native.Mathlib.Omega.{arith}
+use lib.ListN.{length-set}
 use Rattle.orient_consistently.proofs.Turning.{TurnInv, turn-begin, turn-turn, turn-pair, turn-straight, turn-done}
 use Rattle.orient_consistently.proofs.turn_all.Statement.{statement}
 use Rattle.orient_consistently.proofs.turn_all.Tie as tie
@@ -58,7 +59,7 @@ mul-faces-3 : tie.Need-mul-faces-3 Inv-loop μ-loop
 mul-faces-3 c = omega (arith, turn-turn (c .before .before .before .before .before .before .pre) (c .before .before .before .before .before .loop .inv) (c .before .before .before .before .loop-test .taken))
 
 slice-write-faces-2 : tie.Need-slice-write-faces-2 Inv-loop μ-loop
-slice-write-faces-2 c = omega (arith, turn-turn (c .before .before .before .before .before .before .pre) (c .before .before .before .before .before .loop .inv) (c .before .before .before .before .loop-test .taken))
+slice-write-faces-2 c = simp length-set (omega (arith, turn-turn (c .before .before .before .before .before .before .pre) (c .before .before .before .before .before .loop .inv) (c .before .before .before .before .loop-test .taken)))
 
 add-i : tie.Need-add-i Inv-loop μ-loop
 add-i c = omega (arith, turn-turn (c .before .before .before .before .pre) (c .before .before .before .loop .inv) (c .before .before .loop-test .taken))

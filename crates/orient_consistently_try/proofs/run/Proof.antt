@@ -1,0 +1,39 @@
+-- `orient_consistently_try::run` is safe and ends. Assumes nothing.
+use mathlib.Core.Path.{refl}
+use Rattle.orient_consistently_try.proofs.Ready.{stand}
+use borrow.Author.Needs.{needs}
+use Rattle.orient_consistently_try.proofs.run.Statement.{statement}
+use Rattle.orient_consistently_try.proofs.run.Tie as tie
+
+slice-aggregate-orient-consistently : tie.Need-slice-aggregate-orient-consistently
+slice-aggregate-orient-consistently c = search needs
+
+orient-consistently-requires : tie.Need-orient-consistently-requires
+orient-consistently-requires c κs = stand (c .before .before .before .pre) refl
+
+show-number-requires : tie.Need-show-number-requires
+show-number-requires c κs = search needs
+
+show-number-requires-2 : tie.Need-show-number-requires-2
+show-number-requires-2 c κs = search needs
+
+show-requires : tie.Need-show-requires
+show-requires c κs = search needs
+
+same-length : tie.Need-same-length
+same-length c = search needs
+
+returns : tie.Need-returns
+returns c = search needs
+
+pub run-spec : {M : Type 1} → statement M
+run-spec =
+    tie.close
+    (tie.spec
+    slice-aggregate-orient-consistently
+    orient-consistently-requires
+    show-number-requires
+    show-number-requires-2
+    show-requires
+    same-length
+    returns)

@@ -74,6 +74,7 @@ noted {w} {xs} {n} {r} x y c = go (decLe x y)
         rw (lt-leb x y (omega arith)) (c .down ∙ ap l e)
 
 module _ {w xs : List ℕ} {n j id x y : ℕ} (p : CrossAsks w xs n j id x y) where
+  -- they hold
   pub cross-bounds : Bounds w xs n id
   cross-bounds =
       let g = p .going in
@@ -91,6 +92,7 @@ module _ {w xs : List ℕ} {n j id x y : ℕ} (p : CrossAsks w xs n j id x y) wh
   abbrev r : ℕ
   r = getD w (3 + 11 * n + 2 * length xs + id) 0
 
+  -- so the step is along that edge
   pub settle-asks : SettleAsks w xs n r x y
   settle-asks =
       let u = cross-bounds in
@@ -112,9 +114,11 @@ module _ {w xs : List ℕ} {n j id x y : ℕ} (p : CrossAsks w xs n j id x y) wh
   users-are = users-turned (part w 3 n) (facesOf xs) (edge (step x y))
 
   module _ {w₁ : List ℕ} (h : SettleGives w xs n r x y w₁) where
+    -- the number may be read
     pub who-asks : WhoAsks w₁ n r
     who-asks = record { few = p .going .ready .fits .few; fit = omega (arith, p .going .ready .fits .fit, h .only .long); here = h .few }
 
+    -- and the mark set
     pub mark-asks : MarkAsks w₁ n j
     mark-asks = record { few = p .going .ready .fits .few; fit = omega (arith, p .going .ready .fits .fit, h .only .long); here = p .here }
 
@@ -134,11 +138,13 @@ module _ {w xs : List ℕ} {n j id x y : ℕ} (p : CrossAsks w xs n j id x y) wh
       marked-later : Later (walkOf (facesOf xs) n w₁) (walkOf (facesOf xs) n w₂)
       marked-later = later-to (later-remark (not (other j known)) (walkOf (facesOf xs) n w₁)) (m .walk (facesOf xs))
 
+      -- face j stays visited
       still : getD (walkOf (facesOf xs) n w₂ .visited) j false ≡ true
       still =
           let a : Later (walkOf (facesOf xs) n w) (walkOf (facesOf xs) n w₁) = later-to (later-reach (step x y) (walkOf (facesOf xs) n w) (users (facesOf xs) (edge (step x y)))) (h .walk) in
           later-both a marked-later .stay j (p .seen) .0
 
+      -- face j has crossed
       pub cross-gives : CrossGives w xs n j x y w₂
       cross-gives =
           let g = h .going in
@@ -155,17 +161,21 @@ module _ {w xs : List ℕ} {n j id x y : ℕ} (p : CrossAsks w xs n j id x y) wh
 -- ---- cross_three
 
 module _ {w xs : List ℕ} {n j a b c first last : ℕ} (p : ThreeAsks w xs n j a b c first last) where
+  -- the first edge
   pub first-asks : CrossAsks w xs n j first a b
   first-asks = record { going = p .going; here = p .here; seen = p .seen; entry = p .is-first; along = p .along-first }
 
   module _ {w₁ : List ℕ} (h : CrossGives w xs n j a b w₁) where
+    -- the second
     pub second-asks : CrossAsks w₁ xs n j (3 * j + 1) b c
     second-asks = record { going = h .going; here = p .here; seen = h .stay; entry = omega (arith, p .here); along = p .along-second }
 
     module _ {w₂ : List ℕ} (k : CrossGives w₁ xs n j b c w₂) where
+      -- the last
       pub last-asks : CrossAsks w₂ xs n j last c a
       last-asks = record { going = k .going; here = p .here; seen = k .stay; entry = p .is-last; along = p .along-last }
 
+      -- all three, in order
       pub three-gives : {w₃ : List ℕ} → CrossGives w₂ xs n j c a w₃ → ThreeGives w xs n j a b c w₃
       unfolding through
       three-gives m =
@@ -185,6 +195,7 @@ pub record FaceBounds (w xs : List ℕ) (n j : ℕ) : Type 0 where
   pub here : j < n
 
 module _ {w xs : List ℕ} {n j : ℕ} (p : FaceAsks w xs n j) where
+  -- they hold
   pub face-bounds : FaceBounds w xs n j
   face-bounds = let f = p .going .ready .fits in record { few = f .few; long = f .long; fit = f .fit; here = p .here }
 
@@ -202,12 +213,14 @@ module _ {w xs : List ℕ} {n j : ℕ} (p : FaceAsks w xs n j) where
   whole : length xs % 3 ≡ 0
   whole = let u = face-bounds in omega (arith, u)
 
+  -- the step of its first entry
   entry-first : stepAt (facesOf xs) (3 * j) ≡ step a b
   entry-first =
       let u = face-bounds in
       let e : 3 * j % 3 ≡ 0 = omega arith in
       step-flat xs whole (3 * j) (omega (arith, u)) ∙ ap (λ f. step a (getD xs (cond f (3 * j - 2) (3 * j + 1)) 0)) (ap (λ z. eqb z 2) e)
 
+  -- of its second
   entry-second : stepAt (facesOf xs) (3 * j + 1) ≡ step b c
   entry-second =
       let u = face-bounds in
@@ -215,6 +228,7 @@ module _ {w xs : List ℕ} {n j : ℕ} (p : FaceAsks w xs n j) where
       let k : 3 * j + 1 + 1 ≡ 3 * j + 2 = omega arith in
       step-flat xs whole (3 * j + 1) (omega (arith, u)) ∙ ap (λ f. step b (getD xs (cond f (3 * j + 1 - 2) (3 * j + 1 + 1)) 0)) (ap (λ z. eqb z 2) e) ∙ ap (λ z. step b (getD xs z 0)) k
 
+  -- of its last
   entry-last : stepAt (facesOf xs) (3 * j + 2) ≡ step c a
   entry-last =
       let u = face-bounds in
@@ -226,6 +240,7 @@ module _ {w xs : List ℕ} {n j : ℕ} (p : FaceAsks w xs n j) where
   turned-edge : (s t : ℕ) → edge (step s t) ≡ edge (step t s)
   turned-edge s t = unfold opposite in edge-opposite (step t s)
 
+  -- as it was
   pub straight-asks : ThreeAsks w xs n j a b c (3 * j) (3 * j + 2)
   straight-asks =
       record {
@@ -239,6 +254,7 @@ module _ {w xs : List ℕ} {n j : ℕ} (p : FaceAsks w xs n j) where
         along-last = ap edge entry-last;
       }
 
+  -- exchanged: its entries from the last to the first
   pub turned-asks : ThreeAsks w xs n j a c b (3 * j + 2) (3 * j)
   turned-asks =
       record {
@@ -258,6 +274,7 @@ module _ {w xs : List ℕ} {n j : ℕ} (p : FaceAsks w xs n j) where
       let u = face-bounds in
       turned-at (facesOf xs) n w (omega (arith, u)) j (p .here) ∙ ap (turn (getD w (3 + j) 0)) (face-in xs j (omega (arith, u)))
 
+  -- an exchanged face has crossed
   pub turned-gives : getD w (3 + j) 0 ≡ 2 → {w′ : List ℕ} → ThreeGives w xs n j a c b w′ → FaceGives w xs n j w′
   unfolding turn exchanged
   turned-gives e g =
@@ -267,6 +284,7 @@ module _ {w xs : List ℕ} {n j : ℕ} (p : FaceAsks w xs n j) where
         walk = g .walk ∙ ap (λ f. through (across j) (walkOf (facesOf xs) n w) (steps f)) (sym (stands ∙ ap (λ s. turn s (record { a = a; b = b; c = c })) e));
       }
 
+  -- another
   pub straight-gives : (getD w (3 + j) 0 ≡ 2 → ⊥) → {w′ : List ℕ} → ThreeGives w xs n j a b c w′ → FaceGives w xs n j w′
   unfolding turn
   straight-gives e g =

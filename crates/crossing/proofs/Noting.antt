@@ -28,10 +28,12 @@ pub record Bounds (w : List ℕ) (n r : ℕ) : Type 0 where
   pub here : r < 3 * n
 
 module _ {w xs : List ℕ} {n r from to : ℕ} (p : NoteAsks w xs n r from to) where
+  -- they hold
   pub note-bounds : Bounds w n r
   note-bounds = record { few = p .run .ready .fits .few; fit = p .run .ready .fits .fit; here = p .here }
 
 module _ {w xs : List ℕ} {n r from to : ℕ} (p : NoteAsks w xs n r from to) (low high up down : ℕ) where
+  -- the row after each store
   abbrev w₁ : List ℕ
   w₁ = set w (3 + 5 * n + r) up
 
@@ -45,6 +47,7 @@ module _ {w xs : List ℕ} {n r from to : ℕ} (p : NoteAsks w xs n r from to) (
   others : (q : ℕ) → (q ≡ 3 + 2 * n + r → ⊥) → (q ≡ 3 + 8 * n + r → ⊥) → (q ≡ 3 + 5 * n + r → ⊥) → getD w₃ q 0 ≡ getD w q 0
   others q a b c = getD-set-other w₂ (3 + 2 * n + r) q 1 0 a ∙ getD-set-other w₁ (3 + 8 * n + r) q down 0 b ∙ getD-set-other w (3 + 5 * n + r) q up 0 c
 
+  -- so edge r is noted
   pub note-gives :
       up ≡ lone (n + 1) (walkOf (facesOf xs) n w .faces) (step high low) (facesIn w from to)
       → down ≡ lone (n + 1) (walkOf (facesOf xs) n w .faces) (step low high) (facesIn w from to)
@@ -76,6 +79,7 @@ module _ {w xs : List ℕ} {n r from to : ℕ} (p : NoteAsks w xs n r from to) (
 pub who-up : {w : List ℕ} {n r : ℕ} → WhoAsks w n r → (x y : ℕ) → x ≤ y → getD w (3 + 5 * n + r) 0 ≡ disagreeing w n r x y
 who-up p x y h = rw (le-leb x y h)
 
+-- or for the other way
 pub who-down : {w : List ℕ} {n r : ℕ} → WhoAsks w n r → (x y : ℕ) → y < x → getD w (3 + 8 * n + r) 0 ≡ disagreeing w n r x y
 who-down p x y h = rw (lt-leb x y h)
 

@@ -37,6 +37,7 @@ module _ {w xs : List ℕ} {n r x y : ℕ} (p : SettleAsks w xs n r x y) where
   long-faces : length (facesOf xs) ≡ n
   long-faces = length-faces xs ∙ (let l = p .going .ready .fits .long in omega arith)
 
+  -- they hold
   pub settle-bounds : Bounds w xs n r
   settle-bounds =
       let g = p .going in
@@ -70,6 +71,7 @@ module _ {w xs : List ℕ} {n r x y : ℕ} (p : SettleAsks w xs n r x y) where
       let i = id-in (t .asks) (t .table) (k - order) (omega (arith, u)) in
       omega (arith, i, ap (λ z. getD w z 0) e, u)
 
+  -- so the run may be gone through
   pub run-asks : RunAsks w xs n from to
   run-asks =
       let u = settle-bounds in
@@ -91,6 +93,7 @@ module _ {w xs : List ℕ} {n r x y : ℕ} (p : SettleAsks w xs n r x y) where
       (users-walk (facesOf xs) (step x y))
 
   module _ {w₁ : List ℕ} (h : ReachRunGives w xs n from to x y w₁) where
+    -- and again when its faces are reached
     pub note-asks : NoteAsks w₁ xs n r from to
     note-asks =
         let u = settle-bounds in
@@ -123,6 +126,7 @@ module _ {w xs : List ℕ} {n r x y : ℕ} (p : SettleAsks w xs n r x y) where
       walk-is : walkOf (facesOf xs) n w₂ ≡ through (reach (step x y)) (walkOf (facesOf xs) n w) (users (facesOf xs) (edge (step x y)))
       walk-is = same-walk ∙ h .walk ∙ ap (through (reach (step x y)) (walkOf (facesOf xs) n w)) faces-are
 
+      -- visited faces stay as they are
       later-w : Later (walkOf (facesOf xs) n w) (walkOf (facesOf xs) n w₂)
       later-w = later-to (later-reach (step x y) (walkOf (facesOf xs) n w) (users (facesOf xs) (edge (step x y)))) walk-is
 
@@ -130,6 +134,7 @@ module _ {w xs : List ℕ} {n r x y : ℕ} (p : SettleAsks w xs n r x y) where
       is-edge : step low high ≡ edge (step x y)
       is-edge = unfold edge in ap₂ (λ a b. step a b) el eh
 
+      -- and the other way
       is-opposite : step high low ≡ opposite (edge (step x y))
       is-opposite = unfold edge opposite in ap₂ (λ a b. step a b) eh el
 
@@ -167,6 +172,7 @@ module _ {w xs : List ℕ} {n r x y : ℕ} (p : SettleAsks w xs n r x y) where
               (o .2 ∙ h .only .same (3 + 8 * n + k) (above (omega arith)))
               (p .going .crossed k l (λ e. z (o .0 ∙ h .only .same (3 + 2 * n + k) (above (omega arith)) ∙ e)))
 
+      -- so the edge is crossed, and the walk goes on
       pub settle-gives : SettleGives w xs n r x y w₂
       settle-gives =
           let u = settle-bounds in

@@ -50,6 +50,7 @@ unfolding begin closed
 begin-unseen v u marks i r e f g = rw e (ap₂ (λ a b. record { walk = a; marks = b }) f (g ∙ ap (λ a. cond (a .mark) (suc marks) marks) f))
 
 module _ {w xs : List ℕ} {n i marks : ℕ} (p : BeginAsks w xs n i marks) where
+  -- the walk before
   abbrev v : Walk
   v = walkOf (facesOf xs) n w
 
@@ -57,6 +58,7 @@ module _ {w xs : List ℕ} {n i marks : ℕ} (p : BeginAsks w xs n i marks) wher
   state-is : getD (v .visited) i false ≡ not (eqb (getD w (3 + i) 0) 0)
   state-is = visited-at (facesOf xs) n w (let f = p .going .ready .fits .fit in omega arith) i (p .here)
 
+  -- where it is visited nothing is begun
   pub begin-old : (getD w (3 + i) 0 ≡ 0 → ⊥) → BeginGives w xs n i marks w marks
   begin-old z =
       record {
@@ -67,13 +69,16 @@ module _ {w xs : List ℕ} {n i marks : ℕ} (p : BeginAsks w xs n i marks) wher
       }
 
   module _ (z : getD w (3 + i) 0 ≡ 0) where
+    -- it is unvisited
     unseen : getD (v .visited) i false ≡ false
     unseen = state-is ∙ ap (λ s. not (eqb s 0)) z
 
+    -- so a component may be started
     pub start-asks : StartAsks w n i
     start-asks = let f = p .going .ready .fits in record { few = f .few; fit = f .fit; here = p .here; unseen = z }
 
     module _ {w₁ : List ℕ} (s : StartGives w n i w₁) where
+      -- and walked
       pub empty-asks : EmptyAsks w₁ xs n
       empty-asks =
           let g = p .going in
@@ -92,9 +97,11 @@ module _ {w xs : List ℕ} {n i marks : ℕ} (p : BeginAsks w xs n i marks) wher
             ∙ ap (λ u. run n (u .stack) u) (s .walk (facesOf xs))
             ∙ ap (λ k. run k (i ∷ []) (started i v)) (sym (p .going .ready .sound .whole))
 
+        -- nothing but the rows is changed
         only-all : Only 0 (3 + 11 * n) w w₂
         only-all = only-both (only-more (omega arith) (omega arith) (s .only)) (g .only)
 
+        -- its component is not marked
         pub begin-plain : getD w₂ 2 0 ≡ 0 → BeginGives w xs n i marks w₂ marks
         unfolding walkOf
         begin-plain m =
@@ -105,6 +112,7 @@ module _ {w xs : List ℕ} {n i marks : ℕ} (p : BeginAsks w xs n i marks) wher
               is = begin-unseen v (walkOf (facesOf xs) n w₂) marks i marks unseen is-component (rw m);
             }
 
+        -- its component is marked
         pub begin-marked : (getD w₂ 2 0 ≡ 0 → ⊥) → BeginGives w xs n i marks w₂ (marks + 1)
         unfolding walkOf
         begin-marked m =
@@ -122,6 +130,7 @@ pub record Bounds (w : List ℕ) (n i marks : ℕ) : Type 0 where
   pub here : i < n
   pub most : marks ≤ i
 
+-- they hold
 pub begin-bounds : {w xs : List ℕ} {n i marks : ℕ} → BeginAsks w xs n i marks → Bounds w n i marks
 begin-bounds p = let f = p .going .ready .fits in record { few = f .few; fit = f .fit; here = p .here; most = p .few }
 
@@ -135,6 +144,7 @@ pub record AllInv (w₀ xs : List ℕ) (n : ℕ) (w : List ℕ) (marks i : ℕ) 
   pub going : Going w xs n
   pub is : orientedOf xs n w marks ≡ through begin (orientedOf xs n w₀ 0) (below i)
 
+-- at first none is
 pub all-begin : {w xs : List ℕ} {n : ℕ} → AllAsks w xs n → AllInv w xs n w 0 0
 unfolding through below
 all-begin {w} {xs} {n} p = record { at-most = omega arith; most = omega arith; only = only-none 0 (3 + 11 * n) w; going = p .going; is = refl }
@@ -199,9 +209,11 @@ module _ {w₀ xs : List ℕ} {n : ℕ} (f : Fits w₀ xs n) (blank : Filled 0 (
 
 module _ {w₀ xs : List ℕ} {n : ℕ} (p : AllAsks w₀ xs n) where
   module _ {w : List ℕ} {marks i : ℕ} (u : AllInv w₀ xs n w marks i) where
+    -- face i may be begun
     pub all-ask : i < n → BeginAsks w xs n i marks
     all-ask h = record { going = u .going; here = h; few = u .most }
 
+    -- one component more, or none
     pub all-again : i < n → {w′ : List ℕ} {r : ℕ} → BeginGives w xs n i marks w′ r → AllInv w₀ xs n w′ r (i + 1)
     all-again h {w′} {r} g =
         record {
@@ -212,6 +224,7 @@ module _ {w₀ xs : List ℕ} {n : ℕ} (p : AllAsks w₀ xs n) where
           is = g .is ∙ ap (λ o. begin o i) (u .is) ∙ sym (ap (λ k. through begin (orientedOf xs n w₀ 0) (below k)) (add-one i) ∙ through-last begin (orientedOf xs n w₀ 0) i);
         }
 
+    -- past the last face
     pub all-done : n ≤ i → AllGives w₀ xs n w marks
     unfolding oriented
     all-done h =

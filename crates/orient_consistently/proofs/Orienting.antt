@@ -25,11 +25,13 @@ pub record Bounds (P : ℕ) (xs : List ℕ) (n : ℕ) (w : List ℕ) : Type 0 wh
   pub front : length (take (3 * n) xs) ≡ 3 * n
 
 module _ {P : ℕ} {xs : List ℕ} {n : ℕ} {w : List ℕ} (p : FacesStand P xs n w) where
+  -- they hold
   pub bounds : Bounds P xs n w
   unfolding work-room
   bounds = record { points = p .points; few = omega (arith, p .few); fit = p .fit; room = p .room; front = length-part xs 0 (3 * n) (omega (arith, p .fit)) }
 
   module _ {w₁ : List ℕ} (o : Only 0 (3 + 11 * n) w w₁) (z : Filled 0 (3 + 11 * n) 0 w₁) where
+    -- a table may be made of the faces
     pub table-asks : TableAsks w₁ (take (3 * n) xs) P (3 + 11 * n)
     table-asks =
         let u = bounds in
@@ -45,6 +47,7 @@ module _ {P : ℕ} {xs : List ℕ} {n : ℕ} {w : List ℕ} (p : FacesStand P xs
         }
 
     module _ {w₂ : List ℕ} {m : ℕ} (t : TableGives w₁ (take (3 * n) xs) P false (3 + 11 * n) w₂ m) where
+      -- the rows of the walk are there
       fits : Fits w₂ (take (3 * n) xs) n
       fits = let u = bounds in record { long = u .front; few = u .few; fit = omega (arith, u, o .long, t .only .long) }
 
@@ -52,6 +55,7 @@ module _ {P : ℕ} {xs : List ℕ} {n : ℕ} {w : List ℕ} (p : FacesStand P xs
       blank : Filled 0 (3 + 11 * n) 0 w₂
       blank = holds-kept (t .only) (before (omega arith)) z
 
+      -- the walk may start
       pub all-asks : AllAsks w₂ (take (3 * n) xs) n
       all-asks =
           record {
@@ -66,6 +70,7 @@ module _ {P : ℕ} {xs : List ℕ} {n : ℕ} {w : List ℕ} (p : FacesStand P xs
           }
 
       module _ {w₃ : List ℕ} {r : ℕ} (g : AllGives w₂ (take (3 * n) xs) n w₃ r) where
+        -- the faces may be turned
         pub turn-asks : TurnAsks xs w₃ n
         turn-asks = let u = bounds in record { few = u .few; fit = u .fit; room = omega (arith, u, o .long, t .only .long, g .only .long) }
 
@@ -74,6 +79,7 @@ module _ {P : ℕ} {xs : List ℕ} {n : ℕ} {w : List ℕ} (p : FacesStand P xs
         unfolding walkOf
         few-exchanges = omega (arith, g .going .ready .sound .turns)
 
+        -- nothing beyond the stated work room is changed
         pub only-all : Only 0 (work-room P n) w w₃
         unfolding work-room
         only-all =
@@ -81,6 +87,7 @@ module _ {P : ℕ} {xs : List ℕ} {n : ℕ} {w : List ℕ} (p : FacesStand P xs
             only-both (only-more (omega arith) (omega arith) o)
             (only-both (only-more (omega arith) (omega (arith, u)) (t .only)) (only-more (omega arith) (omega arith) (g .only)))
 
+        -- the rule's result
         pub orient-gives : {xs′ : List ℕ} → TurnGives xs w₃ n xs′ → OrientGives P xs n w xs′ w₃ (getD w₃ 1 0) r
         unfolding walkOf
         orient-gives {xs′} h =

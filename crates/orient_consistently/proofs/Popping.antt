@@ -36,12 +36,15 @@ unfolding popped
 later-popped rest v = record { stay = λ i h. (h, refl) }
 
 module _ {w xs : List ℕ} {n : ℕ} (p : PopAsks w xs n) where
+  -- how many stay on the stack
   abbrev top : ℕ
   top = getD w 0 0 - 1
 
+  -- the row then
   abbrev w₁ : List ℕ
   w₁ = set w 0 top
 
+  -- the walk before
   abbrev v : Walk
   v = walkOf (facesOf xs) n w
 
@@ -53,9 +56,11 @@ module _ {w xs : List ℕ} {n : ℕ} (p : PopAsks w xs n) where
   abbrev rest : List ℕ
   rest = stackOf w (3 + n) top
 
+  -- one was on top
   is-top : getD w 0 0 ≡ suc top
   is-top = let s = p .some in omega arith
 
+  -- it still stands there
   same-face : j ≡ getD w (3 + n + top) 0
   same-face = getD-set-other w 0 (3 + n + top) top 0 (λ z. absurd (omega arith))
 
@@ -68,6 +73,7 @@ module _ {w xs : List ℕ} {n : ℕ} (p : PopAsks w xs n) where
   seen : Seen n v j
   seen = (rw stack-is at (p .going .ready .sound .stacked)) .0
 
+  -- they hold
   pub pop-bounds : Bounds w n top
   pop-bounds =
       let f = p .going .ready .fits in
@@ -88,9 +94,11 @@ module _ {w xs : List ℕ} {n : ℕ} (p : PopAsks w xs n) where
       let m : getD w₁ 2 0 ≡ getD w 2 0 = getD-set-other w 0 2 top 0 (λ z. absurd (omega arith)) in
       rw (s, k, x, m)
 
+  -- one entry is changed
   only-top : Only 0 (3 + 2 * n) w w₁
   only-top = only-set w 0 top (omega arith) (omega arith)
 
+  -- so the face may cross its edges
   pub face-asks : FaceAsks w₁ xs n j
   face-asks =
       let g = p .going in
@@ -113,6 +121,7 @@ module _ {w xs : List ℕ} {n : ℕ} (p : PopAsks w xs n) where
   unfolding popped
   same-steps = refl
 
+  -- and has
   pub pop-gives : {w₂ : List ℕ} → FaceGives w₁ xs n j w₂ → PopGives w xs n w₂
   pop-gives g =
       record {
@@ -139,6 +148,7 @@ pub record EmptyInv (w₀ xs : List ℕ) (n : ℕ) (w : List ℕ) (left : ℕ) :
   pub going : Going w xs n
   pub runs : run left (walkOf (facesOf xs) n w .stack) (walkOf (facesOf xs) n w) ≡ run n (walkOf (facesOf xs) n w₀ .stack) (walkOf (facesOf xs) n w₀)
 
+-- all are at first
 pub empty-begin : {w xs : List ℕ} {n : ℕ} → EmptyAsks w xs n → EmptyInv w xs n w n
 empty-begin {w} {xs} {n} p = record { at-most = omega arith; only = only-none 0 (3 + 11 * n) w; going = p .going; runs = refl }
 
@@ -148,6 +158,7 @@ pub record Turn (w : List ℕ) (n left : ℕ) : Type 0 where
   pub fit : 3 ≤ length w
 
 module _ {w₀ xs : List ℕ} {n : ℕ} {w : List ℕ} {left : ℕ} (u : EmptyInv w₀ xs n w left) where
+  -- they hold
   pub empty-turn : Turn w n left
   empty-turn = let f = u .going .ready .fits in record { few = omega (arith, u .at-most, f .few); fit = omega (arith, f .fit) }
 
@@ -167,9 +178,11 @@ module _ {w₀ xs : List ℕ} {n : ℕ} {w : List ℕ} {left : ℕ} (u : EmptyIn
       let e : left ≡ 0 = omega arith in
       record { only = u .only; going = u .going; walk = ap (λ k. run k (v .stack) v) (sym e) ∙ u .runs }
 
+  -- a face is on the stack
   pub empty-ask : (getD w 0 0 ≡ 0 → ⊥) → PopAsks w xs n
   empty-ask z = record { going = u .going; some = omega arith }
 
+  -- one turn less is left
   pub empty-again : 0 < left → {w′ : List ℕ} → PopGives w xs n w′ → EmptyInv w₀ xs n w′ (left - 1)
   empty-again h {w′} g =
       let e : suc (left - 1) ≡ left = omega arith in

@@ -45,15 +45,18 @@ module _ {w : List ℕ} {n i : ℕ} (p : StartAsks w n i) where
   others : (q : ℕ) → (q ≡ 3 + i → ⊥) → (q ≡ 2 → ⊥) → (q ≡ 0 → ⊥) → (q ≡ 3 + n → ⊥) → getD w₄ q 0 ≡ getD w q 0
   others q a b c d = getD-set-other w₃ (3 + i) q 1 0 a ∙ getD-set-other w₂ 2 q 0 0 b ∙ getD-set-other w₁ 0 q 1 0 c ∙ getD-set-other w (3 + n) q i 0 d
 
+  -- one face is on the stack
   top-is : getD w₄ 0 0 ≡ 1
   top-is =
       getD-set-other w₃ (3 + i) 0 1 0 (λ z. absurd (omega arith))
       ∙ getD-set-other w₂ 2 0 0 0 (λ z. absurd (omega arith))
       ∙ getD-set-same w₁ 0 1 0 (omega (arith, p .fit, long₁))
 
+  -- the component is unmarked
   mark-is : getD w₄ 2 0 ≡ 0
   mark-is = getD-set-other w₃ (3 + i) 2 1 0 (λ z. absurd (omega arith)) ∙ getD-set-same w₂ 2 0 0 (omega (arith, p .fit, long₂))
 
+  -- the face is i
   pushed : getD w₄ (3 + n + 0) 0 ≡ i
   pushed =
       let e : 3 + n + 0 ≡ 3 + n = omega arith in
@@ -83,6 +86,7 @@ module _ {w : List ℕ} {n i : ℕ} (p : StartAsks w n i) where
           ∙ others (3 + j) (λ z. e (omega arith)) (λ z. absurd (omega arith)) (λ z. absurd (omega arith)) (λ z. absurd (omega arith))
           ∙ sym (getD-set-other (part w 3 n) i j 1 0 e ∙ getD-part w 3 n j q)
 
+  -- so a component is started at face i
   pub start-gives : StartGives w n i w₄
   unfolding walkOf started stackOf
   start-gives =

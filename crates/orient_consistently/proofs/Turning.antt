@@ -36,6 +36,7 @@ pub record TurnInv (xs₀ w : List ℕ) (n : ℕ) (xs : List ℕ) (i : ℕ) : Ty
   pub only : Only 0 (3 * i) xs₀ xs
   pub turned : (k : ℕ) → k < i → Stands xs k (turn (getD w (3 + k) 0) (corner-face xs₀ k))
 
+-- at first none is
 pub turn-begin : {xs w : List ℕ} {n : ℕ} → TurnAsks xs w n → TurnInv xs w n xs 0
 turn-begin {xs} p = record { at-most = omega arith; only = only-none 0 (3 * 0) xs; turned = λ k h. absurd (omega arith) }
 
@@ -48,6 +49,7 @@ pub record Turn (xs w : List ℕ) (n i : ℕ) : Type 0 where
 
 module _ {xs₀ w : List ℕ} {n : ℕ} {xs : List ℕ} {i : ℕ} (p : TurnAsks xs₀ w n) (u : TurnInv xs₀ w n xs i) where
   module _ (h : i < n) where
+    -- they hold
     pub turn-turn : Turn xs w n i
     turn-turn =
         let l = u .only .long in

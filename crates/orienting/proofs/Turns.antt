@@ -89,6 +89,7 @@ takers-turned e (k ∷ ss) (f ∷ fs) =
     ∙ ap₂ (λ x y. x ++ map suc y) (turn-takes e k f) (takers-turned e ss fs)
     ∙ sym (takers-cons (λ s. same e (edge s)) f fs)
 
+-- in the words of the rules
 pub users-turned : (ss : List ℕ) (fs : List Face) (e : Step) → users (turnedBy ss fs) e ≡ users fs e
 users-turned ss fs e = users-takers (turnedBy ss fs) e ∙ takers-turned e ss fs ∙ sym (users-takers fs e)
 

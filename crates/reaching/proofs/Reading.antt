@@ -75,10 +75,12 @@ module _ (xs : List ℕ) (i x y : ℕ) (h : i < length xs / 3) where
   unfolding walks any
   makes-first e = rw (face-in xs i h, ← e)
 
+  -- or the second
   pub makes-second : false ≡ first → true ≡ second → true ≡ walks (face (facesOf xs) i) (step x y)
   unfolding walks any
   makes-second d e = rw (face-in xs i h, ← d, ← e)
 
+  -- or the third decides
   pub makes-third : false ≡ first → false ≡ second → {r : Bool} → r ≡ third → r ≡ walks (face (facesOf xs) i) (step x y)
   unfolding walks any
   makes-third d e f = rw (face-in xs i h, ← d, ← e, or-false third) f

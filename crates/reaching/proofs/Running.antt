@@ -33,6 +33,7 @@ pub record ReachInv (w₀ xs : List ℕ) (n from to x y : ℕ) (w : List ℕ) (k
   pub ready : Ready w xs n
   pub walk : walkOf (facesOf xs) n w ≡ through (reach (step x y)) (walkOf (facesOf xs) n w₀) (facesIn w₀ from k)
 
+-- at first none is
 pub reach-begin : {w xs : List ℕ} {n from to x y : ℕ} → RunAsks w xs n from to → ReachInv w xs n from to x y w from
 unfolding through
 reach-begin {w} {xs} {n} {from} q =
@@ -44,15 +45,18 @@ module _ {w₀ xs : List ℕ} {n from to x y : ℕ} {w : List ℕ} {k : ℕ} (q 
     same : getD w k 0 ≡ getD w₀ k 0
     same = v .only .same k (above (omega (arith, q .behind, v .at-least)))
 
+    -- they hold
     pub reach-turn : Turn w n k (getD w k 0 / 3)
     reach-turn =
         let e = q .entries k (v .at-least) h in
         let s = same in
         record { few = q .ready .fits .few; place = omega (arith, q .inside, v .only .long); entry = omega arith; face = omega arith }
 
+    -- so the face may be reached
     pub reach-ask : ReachAsks w xs n (getD w k 0 / 3)
     reach-ask = record { ready = v .ready; here = reach-turn .face }
 
+    -- and is
     pub reach-again : {w′ : List ℕ} → ReachGives w xs n (getD w k 0 / 3) x y w′ → ReachInv w₀ xs n from to x y w′ (k + 1)
     unfolding through
     reach-again g =
@@ -68,6 +72,7 @@ module _ {w₀ xs : List ℕ} {n from to x y : ℕ} {w : List ℕ} {k : ℕ} (q 
               ∙ through-append (reach (step x y)) (walkOf (facesOf xs) n w₀) (facesIn w₀ from k) (getD w₀ k 0 / 3 ∷ []));
         }
 
+  -- past the last place
   pub reach-done : to ≤ k → ReachRunGives w₀ xs n from to x y w
   reach-done l =
       let e : k ≡ to = omega (arith, v .at-most) in
@@ -79,20 +84,24 @@ pub record LoneInv (w xs : List ℕ) (n from to x y known k : ℕ) : Type 0 wher
   pub at-most : k ≤ to
   pub is : known ≡ lone (n + 1) (walkOf (facesOf xs) n w .faces) (step x y) (facesIn w from k)
 
+-- at first nobody
 pub lone-begin : {w xs : List ℕ} {n from to x y : ℕ} → RunAsks w xs n from to → LoneInv w xs n from to x y 0 from
 unfolding lone through filter
 lone-begin {w} {xs} {n} {from} q = record { at-least = omega arith; at-most = q .rising; is = rw (faces-none w from) }
 
 module _ {w xs : List ℕ} {n from to x y known k : ℕ} (q : RunAsks w xs n from to) (v : LoneInv w xs n from to x y known k) where
   module _ (h : k < to) where
+    -- the bounds of a turn hold
     pub lone-turn : Turn w n k (getD w k 0 / 3)
     lone-turn =
         let e = q .entries k (v .at-least) h in
         record { few = q .ready .fits .few; place = omega (arith, q .inside); entry = e; face = omega arith }
 
+    -- so the face may be met
     pub lone-ask : StandsAsks w xs n (getD w k 0 / 3)
     lone-ask = record { fits = q .ready .fits; here = lone-turn .face }
 
+    -- and is
     pub lone-again : {r : ℕ} → r ≡ met (walkOf (facesOf xs) n w .faces) n (step x y) known (getD w k 0 / 3) → LoneInv w xs n from to x y r (k + 1)
     lone-again e =
         let fs = walkOf (facesOf xs) n w .faces in
@@ -105,6 +114,7 @@ module _ {w xs : List ℕ} {n from to x y known k : ℕ} (q : RunAsks w xs n fro
               ∙ lone-next fs n (step x y) (facesIn w from k) (getD w k 0 / 3));
         }
 
+  -- past the last place
   pub lone-done : to ≤ k → known ≡ lone (n + 1) (walkOf (facesOf xs) n w .faces) (step x y) (facesIn w from to)
   lone-done l =
       let e : k ≡ to = omega (arith, v .at-most) in

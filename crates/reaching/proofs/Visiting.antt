@@ -28,6 +28,7 @@ map-set f (k ∷ ss) zero s = refl
 map-set f (k ∷ ss) (suc i) s = ap (λ l. f k ∷ l) (map-set f ss i s)
 
 module _ {w : List ℕ} {n i state : ℕ} (p : VisitAsks w n i state) where
+  -- how many are on the stack
   abbrev top : ℕ
   top = getD w 0 0
 
@@ -56,30 +57,31 @@ module _ {w : List ℕ} {n i state : ℕ} (p : VisitAsks w n i state) where
 
   -- each store is within
   pub record Bounds : Type 0 where
-    pub a : n ≤ 4194304
-    pub b : 3 + n + top < length w
-    pub c : 0 < length w₁
-    pub d : 1 < length w₂
-    pub e : 3 + i < length w₃
-    pub f : i < n
-    pub g : top < n
-    pub h : getD w 1 0 < n
-    pub j : 1 ≤ state
-    pub k : state ≤ 2
+    pub few : n ≤ 4194304
+    pub fit-push : 3 + n + top < length w
+    pub fit-top : 0 < length w₁
+    pub fit-exchanges : 1 < length w₂
+    pub fit-state : 3 + i < length w₃
+    pub here : i < n
+    pub top-below : top < n
+    pub turns-below : getD w 1 0 < n
+    pub least : 1 ≤ state
+    pub most : state ≤ 2
 
+  -- they hold
   pub bounds : Bounds
   bounds =
       record {
-        a = p .few;
-        b = omega (arith, p .fit, p .top);
-        c = omega (arith, p .fit, long₁);
-        d = omega (arith, p .fit, long₂);
-        e = omega (arith, p .fit, p .here, long₃);
-        f = p .here;
-        g = p .top;
-        h = p .turns;
-        j = p .least;
-        k = p .most;
+        few = p .few;
+        fit-push = omega (arith, p .fit, p .top);
+        fit-top = omega (arith, p .fit, long₁);
+        fit-exchanges = omega (arith, p .fit, long₂);
+        fit-state = omega (arith, p .fit, p .here, long₃);
+        here = p .here;
+        top-below = p .top;
+        turns-below = p .turns;
+        least = p .least;
+        most = p .most;
       }
 
   -- what is not stored to is as it was
@@ -90,23 +92,26 @@ module _ {w : List ℕ} {n i state : ℕ} (p : VisitAsks w n i state) where
       ∙ getD-set-other w₁ 0 q (top + 1) 0 c
       ∙ getD-set-other w (3 + n + top) q i 0 d
 
+  -- one more is on the stack
   top-is : getD w₄ 0 0 ≡ top + 1
   top-is =
       getD-set-other w₃ (3 + i) 0 state 0 (λ z. absurd (omega arith))
       ∙ getD-set-other w₂ 1 0 (getD w 1 0 + (state - 1)) 0 (λ z. absurd (omega arith))
       ∙ getD-set-same w₁ 0 (top + 1) 0 (omega (arith, p .fit, long₁))
 
+  -- as many more were exchanged as the state says
   exchanges-is : getD w₄ 1 0 ≡ getD w 1 0 + (state - 1)
   exchanges-is =
       getD-set-other w₃ (3 + i) 1 state 0 (λ z. absurd (omega arith))
       ∙ getD-set-same w₂ 1 (getD w 1 0 + (state - 1)) 0 (omega (arith, p .fit, long₂))
 
+  -- the face on top is i
   pushed : getD w₄ (3 + n + top) 0 ≡ i
   pushed =
       getD-set-other w₃ (3 + i) (3 + n + top) state 0 (λ z. absurd (omega (arith, p .here)))
       ∙ getD-set-other w₂ 1 (3 + n + top) (getD w 1 0 + (state - 1)) 0 (λ z. absurd (omega arith))
       ∙ getD-set-other w₁ 0 (3 + n + top) (top + 1) 0 (λ z. absurd (omega arith))
-      ∙ getD-set-same w (3 + n + top) i 0 (bounds .b)
+      ∙ getD-set-same w (3 + n + top) i 0 (bounds .fit-push)
 
   -- the stack has one more
   stack-is : stackOf w₄ (3 + n) (getD w₄ 0 0) ≡ i ∷ stackOf w (3 + n) top
@@ -127,7 +132,7 @@ module _ {w : List ℕ} {n i state : ℕ} (p : VisitAsks w n i state) where
       at j q (yes e) =
           getD-part w₄ 3 n j q
           ∙ ap (λ k. getD w₄ (3 + k) 0) e
-          ∙ getD-set-same w₃ (3 + i) state 0 (bounds .e)
+          ∙ getD-set-same w₃ (3 + i) state 0 (bounds .fit-state)
           ∙ sym (ap (λ k. getD (set (part w 3 n) i state) k 0) e ∙ getD-set-same (part w 3 n) i state 0 (omega (arith, p .here, p .fit, length-part w 3 n (omega (arith, p .fit)))))
       at j q (no e) =
           getD-part w₄ 3 n j q

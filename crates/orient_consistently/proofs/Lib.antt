@@ -8,3 +8,5 @@ pub mod Beginning
 pub mod Turning
 -- `Orienting` has the whole.
 pub mod Orienting
+-- `Standing` has that the faces stand as before, for the next pass.
+pub mod Standing

@@ -25,6 +25,16 @@ corner-face xs k = record { a = getD xs (3 * k) 0; b = getD xs (3 * k + 1) 0; c 
 abbrev Stands : List ℕ → ℕ → Face → Type 0
 Stands ys k f = (getD ys (3 * k) 0 ≡ f .a) × (getD ys (3 * k + 1) 0 ≡ f .b) × (getD ys (3 * k + 2) 0 ≡ f .c)
 
+-- the corners of face k of the first n
+pub front-face : (xs : List ℕ) (n k : ℕ) → 3 * n ≤ length xs → k < n → face (facesOf (take (3 * n) xs)) k ≡ corner-face xs k
+front-face xs n k l h =
+    let m = length-part xs 0 (3 * n) (omega arith) in
+    let at : (j : ℕ) → j < 3 * n → getD (take (3 * n) xs) j 0 ≡ getD xs j 0 = λ j q. getD-part xs 0 (3 * n) j q ∙ ap (λ z. getD xs z 0) (omega arith) in
+    let a = at (3 * k) (omega arith) in
+    let b = at (3 * k + 1) (omega arith) in
+    let c = at (3 * k + 2) (omega arith) in
+    face-in (take (3 * n) xs) k (omega arith) ∙ (λ z. record { a = a z; b = b z; c = c z })
+
 -- lists of the same faces
 faces-ext : (fs gs : List Face) → length fs ≡ length gs → ((k : ℕ) → k < length fs → face fs k ≡ face gs k) → fs ≡ gs
 unfolding face
@@ -142,15 +152,6 @@ module _ {xs₀ w : List ℕ} {n : ℕ} {xs : List ℕ} {i : ℕ} (p : TurnAsks 
       whole : length (take (3 * n) xs) % 3 ≡ 0
       whole = omega (arith, long)
 
-      -- face k of the first n
-      face-of : (ys : List ℕ) → length (take (3 * n) ys) ≡ 3 * n → (k : ℕ) → k < n → face (facesOf (take (3 * n) ys)) k ≡ corner-face ys k
-      face-of ys m k q =
-          let at : (j : ℕ) → j < 3 * n → getD (take (3 * n) ys) j 0 ≡ getD ys j 0 = λ j h. getD-part ys 0 (3 * n) j h ∙ ap (λ z. getD ys z 0) (omega arith) in
-          let a = at (3 * k) (omega arith) in
-          let b = at (3 * k + 1) (omega arith) in
-          let c = at (3 * k + 2) (omega arith) in
-          face-in (take (3 * n) ys) k (omega arith) ∙ (λ z. record { a = a z; b = b z; c = c z })
-
       faces-are : facesOf (take (3 * n) xs) ≡ turnedBy (part w 3 n) (standing xs₀ n)
       faces-are =
           let m : length (facesOf (take (3 * n) xs)) ≡ n = length-faces (take (3 * n) xs) ∙ omega (arith, long) in
@@ -159,6 +160,6 @@ module _ {xs₀ w : List ℕ} {n : ℕ} {xs : List ℕ} {i : ℕ} (p : TurnAsks 
           (λ k q.
           let h : k < n = omega arith in
           let t = u .turned k (omega (arith, is-n)) in
-          face-of xs long k h
+          front-face xs n k (omega (arith, p .fit, u .only .long)) h
           ∙ (λ z. record { a = t .0 z; b = t .1 z; c = t .2 z })
-          ∙ sym (face-turned (part w 3 n) (standing xs₀ n) k ∙ ap (λ s. turn s (face (standing xs₀ n) k)) (getD-part w 3 n k h) ∙ ap (turn (getD w (3 + k) 0)) (face-of xs₀ long₀ k h)))
+          ∙ sym (face-turned (part w 3 n) (standing xs₀ n) k ∙ ap (λ s. turn s (face (standing xs₀ n) k)) (getD-part w 3 n k h) ∙ ap (turn (getD w (3 + k) 0)) (front-face xs₀ n k (p .fit) h)))

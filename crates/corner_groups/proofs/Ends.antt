@@ -1,5 +1,5 @@
 -- The corners at the two ends of a step. Assumes nothing.
-use mathlib.Core.Path.{_≡_, refl, sym, ap, _∙_, subst}
+use mathlib.Core.Path.{_≡_, sym, ap, _∙_, subst}
 use mathlib.Core.Bool.{Bool, true, false, cond}
 use mathlib.Core.List.{List}
 use Prim.Native.Nat.{ℕ, _≤_, _<_}
@@ -20,6 +20,7 @@ module _ {xs : List ℕ} {s : ℕ} (p : SideAsks xs s) {t : ℕ} (e : t ≡ next
   pub lower-same : getD xs s 0 ≡ getD xs t 0 → 0 ≡ lowerOf xs s
   lower-same q = let r : getD xs s 0 ≡ getD xs (next s) 0 = q ∙ ap (λ k. getD xs k 0) e in rw (eq-eqb (getD xs s 0) (getD xs (next s) 0) r)
 
+  -- so are the higher ones
   pub higher-same : getD xs s 0 ≡ getD xs t 0 → 0 ≡ higherOf xs s
   higher-same q = let r : getD xs s 0 ≡ getD xs (next s) 0 = q ∙ ap (λ k. getD xs k 0) e in rw (eq-eqb (getD xs s 0) (getD xs (next s) 0) r)
 
@@ -29,6 +30,7 @@ module _ {xs : List ℕ} {s : ℕ} (p : SideAsks xs s) {t : ℕ} (e : t ≡ next
       let r : getD xs s 0 < getD xs (next s) 0 = subst (λ k. getD xs s 0 < getD xs k 0) e q in
       rw (ne-eqb (getD xs s 0) (getD xs (next s) 0) (λ z. absurd (omega arith)), lt-ltb (getD xs s 0) (getD xs (next s) 0) r)
 
+  -- its higher end is the other corner
   pub higher-up : getD xs s 0 < getD xs t 0 → t ≡ higherOf xs s
   higher-up q =
       let r : getD xs s 0 < getD xs (next s) 0 = subst (λ k. getD xs s 0 < getD xs k 0) e q in
@@ -41,6 +43,7 @@ module _ {xs : List ℕ} {s : ℕ} (p : SideAsks xs s) {t : ℕ} (e : t ≡ next
       let r : getD xs (next s) 0 ≤ getD xs s 0 = subst (λ k. getD xs k 0 ≤ getD xs s 0) e q in
       rw (ne-eqb (getD xs s 0) (getD xs (next s) 0) m, le-ltb (getD xs s 0) (getD xs (next s) 0) r) e
 
+  -- its higher end is where it begins
   pub higher-down : (getD xs s 0 ≡ getD xs t 0 → ⊥) → getD xs t 0 ≤ getD xs s 0 → s ≡ higherOf xs s
   higher-down n q =
       let m : getD xs s 0 ≡ getD xs (next s) 0 → ⊥ = λ z. n (z ∙ ap (λ k. getD xs k 0) (sym e)) in
@@ -53,9 +56,10 @@ pick true b n x y h k = omega arith
 pick false true n x y h k = h
 pick false false n x y h k = k
 
--- both are corners
+-- the lower one is a corner
 pub lower-in : {xs : List ℕ} {s : ℕ} → SideAsks xs s → lowerOf xs s < length xs
 lower-in {xs} {s} p = pick (eqb (getD xs s 0) (getD xs (next s) 0)) (ltb (getD xs s 0) (getD xs (next s) 0)) (length xs) s (next s) (p .here) (side-next p)
 
+-- so is the higher one
 pub higher-in : {xs : List ℕ} {s : ℕ} → SideAsks xs s → higherOf xs s < length xs
 higher-in {xs} {s} p = pick (eqb (getD xs s 0) (getD xs (next s) 0)) (ltb (getD xs s 0) (getD xs (next s) 0)) (length xs) (next s) s (side-next p) (p .here)

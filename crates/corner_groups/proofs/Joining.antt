@@ -1,7 +1,7 @@
 -- Corners at the same end of steps of one edge are joined in the words of pass 5, and all that are joined there are such. Assumes nothing.
 use mathlib.Core.Path.{_≡_, refl, sym, ap, _∙_, subst}
 use mathlib.Core.Logic.{_⊎_, inl, inr, _≢_}
-use mathlib.Core.Bool.{Bool, true, false, _&&_, cond}
+use mathlib.Core.Bool.{Bool, true, false, cond}
 use mathlib.Core.List.{List, List·Memᴰ, List·Memᴰ·head, List·Memᴰ·tail}
 use Prim.Native.Nat.{ℕ, _+_, _*_, _-_, _/_, _%_, _≤_, _<_, min, max}
 use native.Mathlib.Omega.{arith}
@@ -11,18 +11,18 @@ use lib.ListN.{length, getD}
 use lib.Dec.{T, eqb, eqb→eq}
 use lib.Ieee.Fits.{and-i}
 use Rattle.rules.specs.Mesh.{Face, face, facesOf, corners}
-use Rattle.rules.specs.Steps.{Step, step, edge}
+use Rattle.rules.specs.Steps.{step, edge}
 use Rattle.rules.specs.Pass5.{share}
 use Rattle.rules.proofs.Tests.{and-elim}
 use Rattle.rules.proofs.Members.{mem-three}
 use Rattle.rules.proofs.Flat.{face-at, flat-faces}
 use Rattle.rules.proofs.Fans.{share-elim, share-intro}
 use Rattle.table.specs.Entries.{next, stepAt}
-use Rattle.table.proofs.Ids.{next-in, step-flat, three-faces}
+use Rattle.table.proofs.Ids.{next-in, step-flat}
 use Rattle.splitting.specs.Corners.{cornerAt, joinedAt}
 use Rattle.corner_groups.specs.Sides.{lowerOf, higherOf}
 
--- the corner after one of a face is of the face, and of two corners of a face one comes after the other
+-- the corner after one of a face is of the face
 next-face : (i : ℕ) → next i / 3 ≡ i / 3
 next-face i = go (eqb (i % 3) 2) refl
   where
@@ -30,6 +30,7 @@ next-face i = go (eqb (i % 3) 2) refl
     go true e = let q = eqb-true (i % 3) 2 e in omega arith
     go false e = let q = eqb-false (i % 3) 2 e in omega arith
 
+-- of two corners of a face one comes after the other
 next-or : (x y : ℕ) → x / 3 ≡ y / 3 → x ≢ y → (next x ≡ y) ⊎ (next y ≡ x)
 next-or x y f ne = go (eqb (x % 3) 2) (eqb (y % 3) 2) refl refl
   where
@@ -61,6 +62,7 @@ module _ (xs : List ℕ) (whole : length xs % 3 ≡ 0) where
   abbrev at : ℕ → ℕ
   at id = getD xs id 0
 
+  -- the point at a corner, from the flat list
   pub corner-flat : (id : ℕ) → cornerAt fs id ≡ at id
   unfolding cornerAt
   corner-flat id = ap (λ l. getD l id 0) (flat-faces xs whole)
@@ -90,6 +92,7 @@ module _ (xs : List ℕ) (whole : length xs % 3 ≡ 0) where
       rw (corner-flat x, corner-flat y)
       (and-i (eqb (at x) (at y)) (share (at x) (face fs (x / 3)) (face fs (y / 3))) (rw (eq-eqb (at x) (at y) e) tt) (share-intro (at x) (face fs (x / 3)) (face fs (y / 3)) u ne mx my))
 
+  -- and what joined corners have
   pub joined-elim : (x y : ℕ) → T (joinedAt fs x y) → (at x ≡ at y) × ((u : ℕ) × (u ≢ at x) × List·Memᴰ u (corners (face fs (x / 3))) × List·Memᴰ u (corners (face fs (y / 3))))
   unfolding joinedAt
   joined-elim x y t =
@@ -112,6 +115,7 @@ module _ (xs : List ℕ) (whole : length xs % 3 ≡ 0) where
     pub is-at : at id ≡ v
     pub with : List·Memᴰ u (corners (face fs (id / 3)))
 
+  -- the corner at the lower end
   lower-at : (s : ℕ) → s < length xs → at s ≢ at (next s) → Stands (min (at s) (at (next s))) (max (at s) (at (next s))) (lowerOf xs s)
   lower-at s h ne = go (decLt (at s) (at (next s)))
     where
@@ -131,6 +135,7 @@ module _ (xs : List ℕ) (whole : length xs % 3 ≡ 0) where
           let b : max (at s) (at (next s)) ≡ at s = omega arith in
           rw (a, b) (subst (λ i. Stands (at (next s)) (at s) i) (sym (down (omega arith))) (record { is-at = refl; with = subst (λ f. List·Memᴰ (at s) (corners (face fs f))) (sym (next-face s)) (corner-mem s h) }))
 
+  -- the corner at the higher end
   higher-at : (s : ℕ) → s < length xs → at s ≢ at (next s) → Stands (max (at s) (at (next s))) (min (at s) (at (next s))) (higherOf xs s)
   higher-at s h ne = go (decLt (at s) (at (next s)))
     where
@@ -192,6 +197,7 @@ module _ (xs : List ℕ) (whole : length xs % 3 ≡ 0) where
     pub up : v < u → lowerOf xs s ≡ x
     pub down : u < v → higherOf xs s ≡ x
 
+  -- there is one for each other corner of the face
   pub between : (x u : ℕ) → x < length xs → u ≢ at x → List·Memᴰ u (corners (face fs (x / 3))) → (s : ℕ) × Between (at x) u x s
   between x u h ne m =
       let w = mem-corner (x / 3) u (omega arith) m in

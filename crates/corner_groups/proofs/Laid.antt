@@ -1,7 +1,7 @@
 -- The corners at the ends of the steps, run after run, joined by `flood`: the leaders are those of pass 5's joining. Assumes nothing.
 use mathlib.Core.Path.{_≡_, refl, sym, ap, _∙_, subst}
 use mathlib.Core.Logic.{_⊎_, inl, inr, _≢_}
-use mathlib.Core.Bool.{Bool, true, false}
+use mathlib.Core.Bool.{Bool, false}
 use mathlib.Core.List.{List, List·Memᴰ}
 use Prim.Native.Nat.{ℕ, suc, _+_, _*_, _-_, _^_, _%_, _≤_, _<_, min, max}
 use native.Mathlib.Omega.{arith}
@@ -9,18 +9,16 @@ use native.Mathlib.Numerals.{add-one}
 use native.Mathlib.Decide.{decLt}
 use lib.ListN.{length, getD}
 use lib.Dec.{T}
-use Rattle.rows.specs.Region.{Apart, Apart.before, Apart.after, Holds}
-use Rattle.rules.specs.Lists.{below}
+use Rattle.rows.specs.Region.{Apart.before, Apart.after, Holds}
 use Rattle.rules.specs.Mesh.{facesOf}
-use Rattle.rules.specs.Steps.{Step, step, edge, same}
+use Rattle.rules.specs.Steps.{step, edge, same}
 use Rattle.rules.specs.Groups.{group, leads}
 use Rattle.rules.proofs.Groups.{Chain, Chain.stay, Chain.link, chain-end, group-chain, chain-group, covered, chain-group}
-use Rattle.rules.proofs.Leaders.{leads-le, leads-of, group-sym, group-trans}
+use Rattle.rules.proofs.Leaders.{leads-le, leads-of, group-trans}
 use Rattle.rules.specs.Lists.{first}
 use Rattle.table.specs.Entries.{stepAt, under, keysOf, startOf}
 use Rattle.table.specs.Table.{Tabled, runOf}
-use Rattle.table.proofs.Ids.{three-faces}
-use Rattle.table.proofs.Places.{start-zero, starts-rise, starts-mono, start-least, last-start, id-in, key-at, run-number, run-in, placed}
+use Rattle.table.proofs.Places.{start-zero, starts-rise, starts-mono, last-start, id-in, key-at, run-number, run-in, placed}
 use Rattle.flood.specs.Plan.{Plan, plan, begins, thing, joins, FloodAsks}
 use Rattle.flood.specs.Uniting.{Turns}
 use Rattle.flood.specs.Answers.{leaderOf}
@@ -32,20 +30,19 @@ use Rattle.corner_groups.specs.Sides.{lowerOf, higherOf, SideAsks}
 use Rattle.corner_groups.proofs.Ends.{lower-in, higher-in}
 use Rattle.corner_groups.proofs.Joining.{joined-elim, lowers-joined, highers-joined, between, Between}
 
--- two corners at one point are in one group of pass 5's joining exactly if they have one leader
+-- ---- leaders of a joining, and of one that joins more
+
 module _ (joined : ℕ → ℕ → Bool) (n : ℕ) (turns : (x y : ℕ) → T (joined x y) → T (joined y x)) where
+  -- the joining goes both ways
   abbrev t : Turns joined
   t = record { each = turns }
 
   -- the leader leads, and has x in its group
-  leader-leads : (x : ℕ) → x < n → (leaderOf joined n x < n) × T (leads joined n (leaderOf joined n x)) × List·Memᴰ x (group joined n (leaderOf joined n x))
-  leader-leads x h =
+  pub leader-of : (x : ℕ) → x < n → (leaderOf joined n x < n) × T (leads joined n (leaderOf joined n x)) × List·Memᴰ x (group joined n (leaderOf joined n x))
+  leader-of x h =
       let c = covered joined n turns x h in
       let e = leader-is joined n t x (c .0) h (c .1) (c .2) (c .3) in
       rw e (c .1, c .2, c .3)
-
-  pub leader-of : (x : ℕ) → x < n → (leaderOf joined n x < n) × T (leads joined n (leaderOf joined n x)) × List·Memᴰ x (group joined n (leaderOf joined n x))
-  leader-of = leader-leads
 
   -- joined things have one leader
   pub one-leads : (x y : ℕ) → x < n → y < n → T (joined x y) → leaderOf joined n x ≡ leaderOf joined n y
@@ -67,7 +64,7 @@ module _ (joined : ℕ → ℕ → Bool) (n : ℕ) (turns : (x y : ℕ) → T (j
 
     pub same-leader : (x : ℕ) → x < n → leaderOf joined′ n x ≡ leaderOf joined n x
     same-leader x h =
-        let l = leader-leads x h in
+        let l = leader-of x h in
         leader-is joined′ n turns′ x (leaderOf joined n x) h (l .0)
         (leads-of joined′ n (leaderOf joined n x) (λ y m. first-of x y (l .0) (l .1) (l .2) h (group-chain joined′ n (leaderOf joined n x) y m)))
         (chain-group joined′ n (l .0) (chain-more (l .0) (group-chain joined n (leaderOf joined n x) x (l .2))))
@@ -75,7 +72,7 @@ module _ (joined : ℕ → ℕ → Bool) (n : ℕ) (turns : (x y : ℕ) → T (j
         first-of : (x y : ℕ) → leaderOf joined n x < n → T (leads joined n (leaderOf joined n x)) → List·Memᴰ x (group joined n (leaderOf joined n x)) → x < n → Chain joined′ n (leaderOf joined n x) y → leaderOf joined n x ≤ y
         first-of x y hl tl ml h c =
             let hy = chain-end hl c in
-            let k = leader-leads y hy in
+            let k = leader-of y hy in
             let a : leaderOf joined n (leaderOf joined n x) ≡ leaderOf joined n x = leader-is joined n t (leaderOf joined n x) (leaderOf joined n x) hl hl tl (chain-group joined n hl stay) in
             let b : leaderOf joined n x ≡ leaderOf joined n y = sym a ∙ chain-only c in
             omega (arith, leads-le joined n (leaderOf joined n y) y (k .1) (k .2))
@@ -95,33 +92,43 @@ pub record Laid (w xs : List ℕ) (P at m starts order labels : ℕ) : Type 0 wh
   pub labels-in : labels + length xs ≤ length w
 
 module _ {w xs : List ℕ} {P at m starts order labels : ℕ} (z : Laid w xs P at m starts order labels) where
+  -- where the rows stand
   abbrev g : Plan
   g = plan (length xs) (2 * m) starts order labels
 
+  -- where run r of the table begins
   abbrev S : ℕ → ℕ
   S r = startOf false P (facesOf xs) r
 
+  -- the step at a place of the table's order
   abbrev id : ℕ → ℕ
   id p = getD w (at + 3 * length xs + p) 0
 
+  -- the faces are whole
   whole : length xs % 3 ≡ 0
   whole = z .tabled .asks .whole
 
+  -- the joining of pass 5
   abbrev joined : ℕ → ℕ → Bool
   joined = joinedAt (facesOf xs)
 
+  -- as many runs as edges
   m-is : m ≡ length (keysOf false P (facesOf xs))
   m-is = z .tabled .count
 
+  -- the first run begins at 0
   S-zero : S 0 ≡ 0
   S-zero = start-zero false P (facesOf xs)
 
+  -- the last one ends where the order does
   S-last : S m ≡ length xs
   S-last = ap S m-is ∙ last-start (z .tabled .asks) (z .tabled .table)
 
+  -- no run is empty
   S-rise : (r : ℕ) → r < m → S r < S (r + 1)
   S-rise r h = rw (add-one r) (starts-rise false P (facesOf xs) r (omega (arith, m-is)))
 
+  -- a run begins within the order
   S-in : (r : ℕ) → r ≤ m → S r ≤ length xs
   S-in r h = omega (arith, starts-mono false P (facesOf xs) r m h, S-last)
 
@@ -136,6 +143,7 @@ module _ {w xs : List ℕ} {P at m starts order labels : ℕ} (z : Laid w xs P a
           let f : starts + r ≡ starts + m + 0 = omega arith in
           ap (λ k. getD w k 0) f ∙ z .starts-high .each 0 (omega arith) ∙ omega (arith, S-zero, S-last, ap S e)
 
+  -- and those of the higher ends
   begins-high : (r : ℕ) → r ≤ m → begins w g (m + r) ≡ length xs + S r
   begins-high r h = let f : starts + (m + r) ≡ starts + m + r = omega arith in ap (λ k. getD w k 0) f ∙ z .starts-high .each r (omega arith)
 
@@ -143,9 +151,11 @@ module _ {w xs : List ℕ} {P at m starts order labels : ℕ} (z : Laid w xs P a
   thing-low : (p : ℕ) → p < length xs → thing w g p ≡ lowerOf xs (id p)
   thing-low p h = z .lows .each p h
 
+  -- and in the second half
   thing-high : (p : ℕ) → p < length xs → thing w g (length xs + p) ≡ higherOf xs (id p)
   thing-high p h = let f : order + (length xs + p) ≡ order + length xs + p = omega arith in ap (λ k. getD w k 0) f ∙ z .highs .each p h
 
+  -- a step of the order is one of the faces
   step-in : (p : ℕ) → p < length xs → SideAsks xs (id p)
   step-in p h = record { whole = whole; few = z .few; here = id-in (z .tabled .asks) (z .tabled .table) p h }
 
@@ -196,9 +206,11 @@ module _ {w xs : List ℕ} {P at m starts order labels : ℕ} (z : Laid w xs P a
       let k : r < length (keysOf false P (facesOf xs)) = omega (arith, m-is) in
       key-at (z .tabled .asks) (z .tabled .table) r p k a (omega arith) ∙ sym (key-at (z .tabled .asks) (z .tabled .table) r q k c (omega arith))
 
+  -- the leader in pass 5's joining
   abbrev lead : ℕ → ℕ
   lead x = leaderOf joined (length xs) x
 
+  -- corners that are one or joined have one leader
   led-alike : (x y : ℕ) → x < length xs → y < length xs → (x ≡ y) ⊎ T (joined x y) → lead x ≡ lead y
   led-alike x y hx hy (inl e) = ap lead e
   led-alike x y hx hy (inr j) = one-leads joined (length xs) (joined-turns (facesOf xs)) x y hx hy j
@@ -249,6 +261,7 @@ module _ {w xs : List ℕ} {P at m starts order labels : ℕ} (z : Laid w xs P a
     pub q-from : S r ≤ q
     pub q-to : q < S (r + 1)
 
+  -- so do any two
   together : (s t : ℕ) → s < length xs → t < length xs → edge (stepAt (facesOf xs) s) ≡ edge (stepAt (facesOf xs) t) → Together s t
   together s t hs ht e =
       let a = placed (z .tabled .asks) (z .tabled .table) s hs in

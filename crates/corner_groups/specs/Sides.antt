@@ -11,10 +11,11 @@ use Rattle.table.specs.Entries.{next}
 use Rattle.flood.specs.Answers.{leaderOf}
 use Rattle.splitting.specs.Corners.{joinedAt}
 
--- the corner at the lower end of step s, and at the higher one; 0 where both ends are one point
+-- the corner at the lower end of step s; 0 where both ends are one point
 abbrev pub lowerOf : List ℕ → ℕ → ℕ
 lowerOf xs s = cond (eqb (getD xs s 0) (getD xs (next s) 0)) 0 (cond (ltb (getD xs s 0) (getD xs (next s) 0)) s (next s))
 
+-- the corner at the higher end of step s; 0 where both ends are one point
 abbrev pub higherOf : List ℕ → ℕ → ℕ
 higherOf xs s = cond (eqb (getD xs s 0) (getD xs (next s) 0)) 0 (cond (ltb (getD xs s 0) (getD xs (next s) 0)) (next s) s)
 

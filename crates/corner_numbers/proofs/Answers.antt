@@ -1,12 +1,12 @@
 -- What the tests on the rows say of the numbers. Assumes nothing.
-use mathlib.Core.Path.{_≡_, sym, ap, _∙_}
-use mathlib.Core.Bool.{Bool, true, false, _&&_, cond}
+use mathlib.Core.Path.{_≡_}
+use mathlib.Core.Bool.{false}
 use mathlib.Core.List.{List}
-use Prim.Native.Nat.{ℕ, _+_, _*_, _/_, _<_}
+use Prim.Native.Nat.{ℕ, _+_, _*_, _/_}
 use native.Mathlib.Omega.{arith}
 use borrow.Author.Tests.{eq-eqb, ne-eqb, lt-ltb, le-ltb}
-use lib.ListN.{length, getD}
-use lib.Dec.{eqb, ltb}
+use lib.ListN.{getD}
+use lib.Dec.{eqb}
 use Rattle.corner_numbers.specs.Numbers.{extraBy, ExtraAsks, ledBy, aloneBy, newBy, AloneAsks, NewAsks}
 
 -- the first corner keeps the point

@@ -1,7 +1,7 @@
 -- The corners sorted by their points are the corners at each point, one after the other. Assumes nothing.
 use mathlib.Core.Path.{_≡_, refl, sym, ap, _∙_}
 use mathlib.Core.Bool.{Bool, true, false, cond}
-use mathlib.Core.List.{List, [], _∷_, _++_}
+use mathlib.Core.List.{List, [], _∷_}
 use Prim.Native.Nat.{ℕ, zero, suc, _+_, _*_, _%_, _≤_, _<_}
 use native.Mathlib.Omega.{arith}
 use lib.ListN.{length, getD}
@@ -16,7 +16,7 @@ use Rattle.rules.specs.Mesh.{facesOf}
 use Rattle.rules.proofs.Lists.{length-below}
 use Rattle.rules.proofs.Rising.{getD-below}
 use Rattle.table.proofs.Ids.{three-faces}
-use Rattle.splitting.specs.Corners.{cornerAt, cornersAt}
+use Rattle.splitting.specs.Corners.{cornersAt}
 use Rattle.splitting.proofs.AllAtOnce.{each-last}
 use Rattle.corner_groups.proofs.Joining.{corner-flat}
 

@@ -1,7 +1,7 @@
 -- The points and their copies in the room are the points of the rule. Assumes nothing.
 use mathlib.Core.Path.{_≡_, refl, sym, ap, ap₂, _∙_}
-use mathlib.Core.List.{List, [], _∷_, _++_, map}
-use Prim.Native.Nat.{ℕ, zero, suc, _+_, _*_, _/_, _%_, _≤_, _<_}
+use mathlib.Core.List.{List, [], _∷_, _++_}
+use Prim.Native.Nat.{ℕ, suc, _+_, _*_, _≤_, _<_}
 use native.Mathlib.Omega.{arith}
 use native.Mathlib.Numerals.{add-one, add-two}
 use lib.Ieee.{Float, nan}
@@ -9,15 +9,15 @@ use lib.ListN.{length, getD, take}
 use lib.Seq.{drop-cons, getD-take, length-take-le}
 use Rattle.rows.specs.Region.{part}
 use Rattle.rules.specs.Lists.{below, each}
-use Rattle.rules.specs.Mesh.{Point, point, pointsOf, flatPoints, coordinates, facesOf}
+use Rattle.rules.specs.Mesh.{point, pointsOf, flatPoints, coordinates, facesOf}
 use Rattle.rules.specs.State.{State}
-use Rattle.rules.specs.Pass5.{pass5, fans}
+use Rattle.rules.specs.Pass5.{pass5}
 use Rattle.rules.proofs.Lists.{each-append, each-map, below-suc}
 use Rattle.rules.proofs.Flat.{point-at, flat-points, length-points}
 use Rattle.rules.proofs.Once.{Inside}
 use Rattle.splitting.specs.Corners.{extras}
 use Rattle.splitting.proofs.Agreeing.{each-agree, on-below}
-use Rattle.splitting.proofs.AllAtOnce.{each-last, points-now, rest, copies}
+use Rattle.splitting.proofs.AllAtOnce.{points-now, rest, copies}
 use Rattle.splitting.proofs.Numbers.{rest-length}
 use Rattle.split_bowtie_vertices.specs.Splits.{copiesOf}
 
@@ -49,6 +49,7 @@ each-each h f [] = refl
 each-each h f (x ∷ xs) = each-append h (f x) (each f xs) ∙ ap (λ l. each h (f x) ++ l) (each-each h f xs)
 
 module _ (ps : List Float) (P : ℕ) (fit : 3 * P ≤ length ps) (ys R : List ℕ) (inside : Inside (length (pointsOf (take (3 * P) ps))) (facesOf ys)) where
+  -- the state before the pass
   abbrev m : State
   m = record { points = pointsOf (take (3 * P) ps); faces = facesOf ys; report = R }
 

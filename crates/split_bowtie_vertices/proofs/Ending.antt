@@ -1,32 +1,29 @@
 -- The rooms after pass 5 hold what the rule says. Assumes nothing.
-use mathlib.Core.Path.{_≡_, refl, sym, ap, _∙_, subst}
+use mathlib.Core.Path.{_≡_, sym, ap, _∙_, subst}
 use mathlib.Core.List.{List}
-use Prim.Native.Nat.{ℕ, suc, _+_, _*_, _-_, _^_, _/_, _%_, _≤_, _<_}
+use Prim.Native.Nat.{ℕ, _+_, _*_, _-_, _/_, _≤_, _<_}
 use native.Mathlib.Omega.{arith}
 use lib.Dec.{ltb}
-use lib.Ieee.{Float, nan}
+use lib.Ieee.{Float}
 use lib.ListN.{length, getD, take}
 use lib.Seq.{getD-take, length-take-le, ext-getD}
-use Rattle.rows.specs.Region.{OnlyOf, Only}
 use Rattle.rows.proofs.Regions.{only-both, only-more}
 use Rattle.rules.specs.Lists.{below, count}
-use Rattle.rules.specs.Mesh.{Face, face, facesOf, pointsOf, flatPoints, flatFaces, renamed}
+use Rattle.rules.specs.Mesh.{face, facesOf, flatPoints, flatFaces, renamed}
 use Rattle.rules.specs.Rooms.{work-room}
 use Rattle.rules.specs.State.{State, more, vertices-split, points-added}
 use Rattle.rules.specs.Pass5.{pass5}
 use Rattle.rules.proofs.Counting.{filter-le}
 use Rattle.rules.proofs.Lists.{length-below}
-use Rattle.rules.proofs.Rising.{All, all-from}
+use Rattle.rules.proofs.Rising.{all-from}
 use Rattle.rules.proofs.Flat.{face-at, length-flat-faces, length-faces-take}
 use Rattle.rules.proofs.Once.{Inside, Corners-below}
 use Rattle.rules.proofs.Pass5.{pass5-inside}
 use Rattle.rules.proofs.Splitting.{length-map-below}
-use Rattle.leaving.specs.Pass.{standing, FacesStand}
 use Rattle.splitting.specs.Corners.{cornerAt, extras, base, goalOf}
 use Rattle.splitting.proofs.Goals.{base-least, faces-are, points-many, report-is}
-use Rattle.corner_groups.proofs.Joining.{corner-flat}
-use Rattle.corner_numbers.specs.Numbers.{SortAsks, SortGives, NewAsks, newBy}
-use Rattle.split_bowtie_vertices.specs.Splits.{Rows, Reached, AllAsks, AllGives, RenameAsks, RenameGives, SplitAsks, SplitGives, stateOf}
+use Rattle.corner_numbers.specs.Numbers.{SortAsks, SortGives, newBy}
+use Rattle.split_bowtie_vertices.specs.Splits.{Rows, AllAsks, AllGives, RenameAsks, RenameGives, SplitAsks, SplitGives, stateOf}
 use Rattle.split_bowtie_vertices.specs.declared.Split.{Split}
 use Rattle.split_bowtie_vertices.proofs.Places.{base-most, all-places}
 use Rattle.split_bowtie_vertices.proofs.Renamed.{corner-made, corner-within, leader-row, new-is}
@@ -37,16 +34,20 @@ module _ {ps : List Float} {P : ℕ} {xs : List ℕ} {n : ℕ} {w : List ℕ} (p
   abbrev ys : List ℕ
   ys = take (3 * n) xs
 
+  -- there are 3n of them
   pub long : length ys ≡ 3 * n
   long = length-take-le (3 * n) xs (p .stand .fit)
 
+  -- they are points
   corner-in : (i : ℕ) → i < length ys → getD ys i 0 < P
   corner-in i h = let e = getD-take (3 * n) xs i 0 (omega (arith, long)) in omega (arith, p .stand .inside i (omega (arith, long)))
 
+  -- the work room holds the rows
   room : 14 * (3 * n) + 2 + P ≤ length w
   unfolding work-room
   room = omega (arith, p .stand .room)
 
+  -- what the sort of the corners asks
   pub sort-ok : SortAsks w ys P
   sort-ok = let l = long in let r = room in record { whole = omega arith; few = omega (arith, p .stand .few); fit = omega arith; inside = corner-in }
 

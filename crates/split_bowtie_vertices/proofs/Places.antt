@@ -1,31 +1,29 @@
 -- The sorted corners by place: the corners at v stand in one run, and after it none is at v. Assumes nothing.
 use mathlib.Core.Path.{_≡_, refl, sym, ap, _∙_, subst}
 use mathlib.Core.Logic.{_≢_}
-use mathlib.Core.Bool.{Bool, _&&_}
-use mathlib.Core.List.{List, [], _∷_, _++_}
+use mathlib.Core.Bool.{_&&_}
+use mathlib.Core.List.{List, _∷_, _++_}
 use Prim.Native.Nat.{ℕ, zero, suc, _+_, _*_, _-_, _≤_, _<_}
 use native.Mathlib.Omega.{arith}
 use native.Mathlib.Decide.{decLt}
-use borrow.Author.Tests.{eq-eqb}
 use lib.ListN.{length, getD, length-append, List·getD-append}
 use lib.Seq.{getD-append-add}
 use lib.Dec.{T, eqb, eqb→eq, eqb-refl, ltb}
-use Rattle.rows.specs.Region.{part}
 use Rattle.rows.proofs.Regions.{getD-part, length-part}
-use Rattle.rules.specs.Lists.{below, count, each}
+use Rattle.rules.specs.Lists.{below, each}
 use Rattle.rules.specs.Mesh.{Face, facesOf}
 use Rattle.rules.specs.Groups.{leads}
 use Rattle.rules.proofs.Tests.{both-ways}
 use Rattle.rules.proofs.Lists.{each-append}
 use Rattle.rules.proofs.Rising.{All, all-imp, all-each, all-at, all-from, below-at}
-use Rattle.rules.proofs.Counting.{count-below-le, count-below-agree}
+use Rattle.rules.proofs.Counting.{count-below-le}
 use Rattle.rules.proofs.Groups.{group-self}
 use Rattle.table.proofs.Ids.{three-faces}
 use Rattle.flood.specs.Answers.{leaderOf}
 use Rattle.flood.proofs.Leading.{leader-is}
 use Rattle.splitting.specs.Corners.{cornerAt, joinedAt, cornersAt, extra, extras, base}
 use Rattle.splitting.proofs.AllAtOnce.{each-last}
-use Rattle.splitting.proofs.Entries.{as-many, corner-is, corner-rises, joined-turns}
+use Rattle.splitting.proofs.Entries.{as-many, corner-is, joined-turns}
 use Rattle.corner_groups.proofs.Joining.{corner-flat}
 use Rattle.corner_groups.proofs.Laid.{leader-of}
 use Rattle.corner_numbers.specs.Numbers.{extraBy, EndAsks, EndGives}
@@ -36,6 +34,7 @@ module _ (fs : List Face) where
   abbrev pub before-of : ℕ → ℕ
   before-of v = length (each (cornersAt fs) (below v))
 
+  -- and before those at the next point
   pub before-suc : (v : ℕ) → before-of (suc v) ≡ before-of v + length (cornersAt fs v)
   before-suc v = ap length (each-last (cornersAt fs) v) ∙ length-append (each (cornersAt fs) (below v)) (cornersAt fs v)
 
@@ -88,6 +87,7 @@ module _ (fs : List Face) where
   unfolding extras
   few-extras v = count-below-le (extra fs v) (length (cornersAt fs v))
 
+  -- so no more points than corners are added
   pub base-most : (P v : ℕ) → base fs P v ≤ P + before-of v
   unfolding base
   base-most P zero = omega arith
@@ -96,9 +96,11 @@ module _ (fs : List Face) where
 -- ---- read from the rows
 
 module _ {ys : List ℕ} {P : ℕ} {w : List ℕ} (r : Rows ys P w) where
+  -- the faces
   abbrev fs′ : List Face
   fs′ = facesOf ys
 
+  -- three corners for each face
   three : 3 * length fs′ ≡ length ys
   three = three-faces ys (r .whole)
 
@@ -118,6 +120,7 @@ module _ {ys : List ℕ} {P : ℕ} {w : List ℕ} (r : Rows ys P w) where
   pub run-fits : (v : ℕ) → v < P → before-of fs′ v + length (cornersAt fs′ v) ≤ length ys
   run-fits v h = omega (arith, places-fit fs′ P v h, all-places)
 
+  -- and the corners in it
   pub run-row : (v j : ℕ) → v < P → j < length (cornersAt fs′ v) → getD w (12 * length ys + 2 + P + (before-of fs′ v + j)) 0 ≡ getD (cornersAt fs′ v) j 0
   run-row v j h l = place-row (before-of fs′ v + j) (omega (arith, run-fits v h)) ∙ at-place fs′ P v j h l
 
@@ -133,6 +136,7 @@ module _ {ys : List ℕ} {P : ℕ} {w : List ℕ} (r : Rows ys P w) where
       all-from-each : (q : ℕ) → q < length ys → getD (each (cornersAt fs′) (below P)) q 0 < 3 * length fs′
       all-from-each q h = all-at (λ id. id < 3 * length fs′) (each (cornersAt fs′) (below P)) 0 q corners-all (omega (arith, all-places))
 
+  -- what the search for the end of a run asks
   pub end-ok : (v begin : ℕ) → v < P → begin ≡ before-of fs′ v → EndAsks w (12 * length ys + 2 + P) begin (length ys)
   end-ok v begin h e =
       let f = r .fit in

@@ -1,9 +1,9 @@
 -- The number that a corner takes, read from the rows, is what the pass makes of the corner. Assumes nothing.
-use mathlib.Core.Path.{_≡_, refl, sym, ap, ap₂, _∙_, subst}
+use mathlib.Core.Path.{_≡_, refl, sym, ap, _∙_, subst}
 use mathlib.Core.Logic.{_⊎_, inl, inr, _≢_}
-use mathlib.Core.Bool.{Bool, true, false, _&&_, cond}
+use mathlib.Core.Bool.{_&&_, cond}
 use mathlib.Core.List.{List, map, List·Memᴰ, List·Memᴰ·head, List·Memᴰ·tail}
-use Prim.Native.Nat.{ℕ, suc, _+_, _*_, _/_, _%_, _≤_, _<_}
+use Prim.Native.Nat.{ℕ, _+_, _*_, _/_, _%_, _<_}
 use native.Mathlib.Omega.{arith}
 use native.Mathlib.Decide.{ℕ-discrete}
 use borrow.Author.Tests.{eq-eqb, ne-eqb}
@@ -17,13 +17,12 @@ use Rattle.rules.proofs.Members.{mem-three}
 use Rattle.rules.proofs.Once.{Inside, Corners-below, face-inside}
 use Rattle.rules.proofs.Splitting.{face-map-below, length-map-below}
 use Rattle.table.proofs.Ids.{three-faces}
-use Rattle.flood.specs.Answers.{leaderOf}
-use Rattle.splitting.specs.Corners.{cornerAt, joinedAt, cornersAt, numberAt, base, goalOf}
+use Rattle.splitting.specs.Corners.{cornerAt, joinedAt, numberAt, base, goalOf}
 use Rattle.splitting.proofs.Entries.{joined-turns, three-at}
 use Rattle.splitting.proofs.Goals.{led, alone}
 use Rattle.corner_groups.proofs.Laid.{leader-of}
 use Rattle.corner_numbers.specs.Numbers.{ledBy, aloneBy, newBy}
-use Rattle.split_bowtie_vertices.specs.Splits.{Rows, Reached}
+use Rattle.split_bowtie_vertices.specs.Splits.{Reached}
 use Rattle.split_bowtie_vertices.proofs.Places.{column-row}
 
 -- which corner of its face a corner is
@@ -66,15 +65,19 @@ corner-within Q fs inside id h = go (which id) (subst (Corners-below Q) (three-a
     go (inr (inr e)) b = omega (arith, ap (cornerAt fs) e, b .2)
 
 module _ {ys : List ℕ} {P : ℕ} {ps₀ : List Float} {ps : List Float} {w : List ℕ} {begin next : ℕ} (q : Reached ys P ps₀ P ps w begin next) where
+  -- the faces
   abbrev fs : List Face
   fs = facesOf ys
 
+  -- where the numbers stand
   abbrev numbers : ℕ
   numbers = 13 * length ys + 2 + P
 
+  -- where the first members stand
   abbrev leading : ℕ
   leading = 10 * length ys + 2 + P
 
+  -- three corners for each face
   three : 3 * length fs ≡ length ys
   three = three-faces ys (q .rows .whole)
 

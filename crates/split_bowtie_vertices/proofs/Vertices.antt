@@ -1,16 +1,15 @@
 -- One vertex more is split: its groups have numbers, and the copies of its point stand. Assumes nothing.
 use mathlib.Core.Path.{_≡_, refl, sym, ap, ap₂, _∙_, subst}
-use mathlib.Core.Logic.{_≢_}
-use mathlib.Core.Bool.{Bool, cond}
+use mathlib.Core.Bool.{cond}
 use mathlib.Core.List.{List, _++_, append-nil, append-assoc}
-use Prim.Native.Nat.{ℕ, zero, suc, _+_, _*_, _-_, _^_, _≤_, _<_}
+use Prim.Native.Nat.{ℕ, suc, _+_, _*_, _-_, _^_, _≤_, _<_}
 use native.Mathlib.Omega.{arith}
 use native.Mathlib.Decide.{ℕ-discrete}
 use lib.Ieee.{Float, nan}
 use lib.ListN.{length, getD, take}
-use Rattle.rows.specs.Region.{part, OnlyOf, Only, Holds, Apart.before, Apart.after}
+use Rattle.rows.specs.Region.{part, OnlyOf, Only, Apart.before}
 use Rattle.rows.proofs.Regions.{only-none, only-both, only-more, kept, holds-kept}
-use Rattle.rules.specs.Lists.{below, count, each, filter}
+use Rattle.rules.specs.Lists.{below, count, each}
 use Rattle.rules.specs.Mesh.{Face, facesOf}
 use Rattle.rules.proofs.Counting.{count-below-agree}
 use Rattle.table.proofs.Ids.{three-faces}
@@ -49,9 +48,11 @@ at-first {ys} {P} {ps} r h =
     }
 
 module _ {ys : List ℕ} {P : ℕ} {ps₀ : List Float} {v : ℕ} {ps : List Float} {w : List ℕ} {begin next : ℕ} (h : v < P) (q : Reached ys P ps₀ v ps w begin next) where
+  -- the faces
   abbrev fs : List Face
   fs = facesOf ys
 
+  -- how many corners are at v
   abbrev many : ℕ
   many = length (cornersAt fs v)
 
@@ -64,6 +65,7 @@ module _ {ys : List ℕ} {P : ℕ} {ps₀ : List Float} {v : ℕ} {ps : List Flo
     least : P ≤ next
     most : next ≤ P + begin
 
+  -- they hold
   bounds : Bounds
   bounds =
       record {
@@ -75,6 +77,7 @@ module _ {ys : List ℕ} {P : ℕ} {ps₀ : List Float} {v : ℕ} {ps : List Flo
         most = omega (arith, base-most fs P v, q .next-is, q .begin-is);
       }
 
+  -- what the search for the end of the run asks
   pub end-asks : EndAsks w (12 * length ys + 2 + P) begin (length ys)
   end-asks = end-ok (q .rows) v begin h (q .begin-is)
 

@@ -1,7 +1,7 @@
 -- Two joinings that agree on 0 .. n - 1 have the same groups, in the same order. Assumes nothing.
 use mathlib.Core.Path.{_≡_, refl, ap, _∙_}
-use mathlib.Core.Bool.{Bool, _||_, cond}
-use mathlib.Core.List.{List, [], _∷_, _++_, map}
+use mathlib.Core.Bool.{Bool, _||_}
+use mathlib.Core.List.{List, [], _∷_, map}
 use Prim.Native.Nat.{ℕ, zero, suc, _<_}
 use lib.Dec.{T, eqb, leb}
 use Rattle.rules.specs.Lists.{below, filter, any, all, each, times}

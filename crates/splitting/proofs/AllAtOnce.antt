@@ -1,24 +1,23 @@
 -- Pass 5 in one formula: every number, copy and count by the fans of the unchanged list. Assumes nothing.
-use mathlib.Core.Path.{_≡_, refl, sym, ap, _∙_, subst}
+use mathlib.Core.Path.{_≡_, refl, sym, ap, _∙_}
 use mathlib.Core.Logic.{_⊎_, inl, inr, _≢_}
-use mathlib.Core.Bool.{Bool, true, false, cond}
+use mathlib.Core.Bool.{Bool, cond}
 use mathlib.Core.List.{List, [], _∷_, _++_, map, append-nil, append-assoc}
 use Prim.Native.Nat.{ℕ, zero, suc, _+_, _-_, _≤_, _<_}
 use native.Mathlib.Omega.{arith}
-use native.Mathlib.Nat.{not-suc-le-zero}
 use native.Mathlib.Decide.{ℕ-discrete, decLt}
 use borrow.Author.Tests.{eq-eqb, ne-eqb, lt-ltb, le-ltb}
-use lib.ListN.{length, getD, drop, length-append, List·getD-append}
-use lib.Dec.{eqb, ltb}
+use lib.ListN.{length, drop, length-append, List·getD-append}
+use lib.Dec.{ltb}
 use Rattle.rules.specs.Lists.{below, filter, count, each, through}
 use Rattle.rules.specs.Mesh.{Point, Face, point, face, renamed}
-use Rattle.rules.specs.State.{State, Count, place, more, counted, vertices-split, points-added}
+use Rattle.rules.specs.State.{State, place, more, counted, vertices-split, points-added}
 use Rattle.rules.specs.Pass5.{fans, split-off, split, pass5}
 use Rattle.rules.proofs.Lists.{through-last, each-append, count-below}
 use Rattle.rules.proofs.Once.{Inside, Corners-below, face-inside}
 use Rattle.rules.proofs.Splitting.{instead, target, map-below, face-map-below, length-map-below, faces-by-place, split-is}
 use Rattle.rules.proofs.Fans.{target-new}
-use Rattle.rules.proofs.Pass5.{Turned-to, turns, split-length, split-grows, target-below}
+use Rattle.rules.proofs.Pass5.{turns, split-length}
 use Rattle.splitting.proofs.Reports.{more-none, more-twice, more-swap}
 use Rattle.splitting.proofs.Unchanged.{fans-kept}
 
@@ -83,12 +82,15 @@ module _ (m : State) (inside : Inside (length (m .points)) (m .faces)) where
   abbrev now : ℕ → ℕ → ℕ → ℕ
   now k i x = cond (ltb x k) (goal i x) x
 
+  -- one point more is one split more
   last : (k : ℕ) → state (suc k) ≡ split (state k) k
   last k = through-last split m k
 
+  -- corners stay points
   still : (k : ℕ) → k ≤ length (m .points) → Inside (so-far k) (state k .faces)
   still k h = turns m inside k h .inside
 
+  -- the points only become more
   pub grown : (k : ℕ) → k ≤ length (m .points) → length (m .points) ≤ so-far k
   grown k h = turns m inside k h .grown
 

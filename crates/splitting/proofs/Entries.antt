@@ -1,21 +1,20 @@
 -- The entries at a point by the numbers of corners, and their groups among all corners. Assumes nothing.
 use mathlib.Core.Path.{_≡_, refl, sym, ap, _∙_, subst}
-use mathlib.Core.Bool.{Bool, true, false, not, _&&_, Bool·not-not}
-use mathlib.Core.List.{List, [], _∷_, _++_, map, map-map, map-append, append-assoc, List·Memᴰ}
+use mathlib.Core.Bool.{Bool, not, Bool·not-not}
+use mathlib.Core.List.{List, [], _∷_, _++_, map, map-map, map-append, append-assoc}
 use Prim.Native.Nat.{ℕ, zero, suc, _+_, _*_, _/_, _≤_, _<_}
 use native.Mathlib.Omega.{arith}
 use native.Mathlib.Numerals.{add-one, add-two}
-use borrow.Author.Tests.{eq-eqb, eqb-true}
+use borrow.Author.Tests.{eq-eqb}
 use lib.ListN.{length, getD, length-map}
 use lib.Dec.{T, eqb, eqb→eq, eqb-refl}
 use lib.Ieee.Fits.{and-i}
 use Rattle.rules.specs.Lists.{below, filter, each}
-use Rattle.rules.specs.Mesh.{Face, face, corners, flatFaces, facesOf}
-use Rattle.rules.specs.Groups.{group, leads}
+use Rattle.rules.specs.Mesh.{Face, face, corners, flatFaces}
 use Rattle.rules.specs.Pass5.{entriesAt, share}
 use Rattle.rules.proofs.Tests.{both-ways, and-elim}
 use Rattle.rules.proofs.Lists.{filter-append, filter-map, getD-map-in}
-use Rattle.rules.proofs.Rising.{All, all-at, all-imp, all-filter, below-all, map-same, Up, up-at, stay-up}
+use Rattle.rules.proofs.Rising.{all-at, all-imp, all-filter, below-all, map-same, Up, up-at, stay-up}
 use Rattle.rules.proofs.Members.{mem-filter, mem-below, mem-index}
 use Rattle.rules.proofs.Flat.{face-at, faces-flat, length-flat-faces}
 use Rattle.rules.proofs.Splitting.{share-sym}

@@ -1,7 +1,7 @@
 -- What stands at a corner after pass 5, by the number of its group's leader. Assumes nothing.
 use mathlib.Core.Path.{_≡_, refl, sym, ap, _∙_, subst}
 use mathlib.Core.Logic.{_≢_}
-use mathlib.Core.Bool.{Bool, true, false, cond}
+use mathlib.Core.Bool.{cond}
 use mathlib.Core.List.{List, map, List·Memᴰ}
 use Prim.Native.Nat.{ℕ, zero, suc, _+_, _*_, _/_, _≤_, _<_}
 use native.Mathlib.Omega.{arith}
@@ -10,7 +10,7 @@ use borrow.Author.Tests.{eq-eqb, ne-eqb}
 use lib.ListN.{length, getD, drop}
 use lib.Dec.{T, eqb, ltb}
 use Rattle.rules.specs.Lists.{below, count}
-use Rattle.rules.specs.Mesh.{Point, Face, face, corners, renamed}
+use Rattle.rules.specs.Mesh.{Face, face, corners, renamed}
 use Rattle.rules.specs.State.{State, more, vertices-split, points-added}
 use Rattle.rules.specs.Groups.{group, leads}
 use Rattle.rules.specs.Pass5.{entriesAt, fans, pass5}
@@ -20,7 +20,7 @@ use Rattle.rules.proofs.Classes.{group-into, leads-same}
 use Rattle.rules.proofs.Once.{Inside, Corners-below, face-inside}
 use Rattle.rules.proofs.Splitting.{target, map-below}
 use Rattle.splitting.specs.Corners.{cornerAt, joinedAt, cornersAt, extra, extras, numberAt, base, goalOf}
-use Rattle.splitting.proofs.Entries.{corner, at, joined, as-many, corner-is, place-of, corner-rises, at-is, class, joined-turns, three-at}
+use Rattle.splitting.proofs.Entries.{corner, at, joined, as-many, place-of, corner-rises, at-is, class, joined-turns}
 use Rattle.splitting.proofs.Numbers.{by-leader, by-first, turns, number-new, number-old, leads-extra, alone-leads, zero-not, rest-length, split-is}
 use Rattle.splitting.proofs.AllAtOnce.{so-far, so-far-suc, so-far-zero, goal, faces-after, is-split, report-after}
 

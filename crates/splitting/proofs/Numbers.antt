@@ -1,13 +1,13 @@
 -- The number that a face has for a corner, by the leaders among the corners. Assumes nothing.
 use mathlib.Core.Path.{_≡_, refl, sym, ap, _∙_, subst}
-use mathlib.Core.Logic.{_⊎_, inl, inr, _≢_}
-use mathlib.Core.Bool.{Bool, true, false, not, _&&_, cond}
+use mathlib.Core.Logic.{_≢_}
+use mathlib.Core.Bool.{Bool, false, not, _&&_, cond}
 use mathlib.Core.List.{List, [], _∷_, _++_, map, map-append, map-map, List·Memᴰ, Memᴰ·map, Memᴰ·of-map}
-use Prim.Native.Nat.{ℕ, zero, suc, _+_, _*_, _/_, _≤_, _<_, zero-le}
+use Prim.Native.Nat.{ℕ, zero, suc, _+_, _*_, _≤_, _<_, zero-le}
 use native.Mathlib.Omega.{arith}
 use native.Mathlib.Nat.{add-zero}
 use native.Mathlib.Decide.{decLt}
-use borrow.Author.Tests.{lt-ltb, le-ltb, ltb-true}
+use borrow.Author.Tests.{lt-ltb, le-ltb}
 use lib.ListN.{length, getD, drop, length-map}
 use lib.Dec.{T, ltb, ltb→lt, not-T}
 use lib.Ieee.Fits.{and-i}
@@ -15,19 +15,19 @@ use lib.Ieee.Bits.{is-true, is-false}
 use Rattle.rules.specs.Lists.{below, filter, count, has}
 use Rattle.rules.specs.Mesh.{Face, face, corners}
 use Rattle.rules.specs.Groups.{group, groups, leads}
-use Rattle.rules.specs.Pass5.{entriesAt, share, fans}
+use Rattle.rules.specs.Pass5.{entriesAt, fans}
 use Rattle.rules.proofs.Tests.{and-elim}
-use Rattle.rules.proofs.Lists.{below-suc, filter-append, filter-cons, length-below}
+use Rattle.rules.proofs.Lists.{below-suc, filter-append, filter-cons}
 use Rattle.rules.proofs.Rising.{All, all-imp, all-filter, all-map, below-all, below-at}
-use Rattle.rules.proofs.Members.{mem-has, has-mem, all-in, in-all}
-use Rattle.rules.proofs.Groups.{Chain, Chain.stay, Chain.link, group-chain, chain-group, group-self, group-within, group-closed, covered}
+use Rattle.rules.proofs.Members.{mem-has, has-mem, in-all}
+use Rattle.rules.proofs.Groups.{Chain, Chain.stay, Chain.link, group-chain, group-self, group-closed}
 use Rattle.rules.proofs.Leaders.{leads-of, group-sym, one-leader}
-use Rattle.rules.proofs.Classes.{group-into, leads-same, group-same}
+use Rattle.rules.proofs.Classes.{leads-same}
 use Rattle.rules.proofs.Splitting.{target, share-sym}
 use Rattle.rules.proofs.Fans.{share-elim, share-intro}
-use Rattle.splitting.specs.Corners.{cornerAt, joinedAt, cornersAt, extra, extras, numberAt}
+use Rattle.splitting.specs.Corners.{joinedAt, cornersAt, extra, extras, numberAt}
 use Rattle.splitting.proofs.Agreeing.{filter-agree, on-below}
-use Rattle.splitting.proofs.Entries.{corner, at, joined, as-many, corner-is, place-of, corner-rises, at-is, class, joined-turns, three-at}
+use Rattle.splitting.proofs.Entries.{corner, at, joined, as-many, class}
 
 -- ---- the number by the first group that has the face
 

@@ -5,7 +5,7 @@ use mathlib.Core.Bool.{Bool, true, false, cond}
 use mathlib.Core.List.{List, map, map-map, List·Memᴰ, Memᴰ·map}
 use Prim.Native.Nat.{ℕ, _≤_, _<_}
 use native.Mathlib.Omega.{arith}
-use borrow.Author.Tests.{ne-eqb, eqb-true, ltb-true}
+use borrow.Author.Tests.{ne-eqb, eqb-true}
 use lib.ListN.{length, getD, drop}
 use lib.Dec.{T, eqb, eqb→eq, ltb}
 use Rattle.rules.specs.Lists.{below, filter, each, has}
@@ -16,10 +16,10 @@ use Rattle.rules.specs.Pass5.{entriesAt, share, fans, split}
 use Rattle.rules.proofs.Tests.{both-ways}
 use Rattle.rules.proofs.Lists.{filter-map, getD-map-in}
 use Rattle.rules.proofs.Rising.{All, all-at, all-imp, all-filter, all-each, all-map}
-use Rattle.rules.proofs.Members.{all-members, mem-has}
+use Rattle.rules.proofs.Members.{all-members}
 use Rattle.rules.proofs.Once.{Inside}
 use Rattle.rules.proofs.Splitting.{instead, target, face-map-below, length-map-below, split-is}
-use Rattle.rules.proofs.Fans.{across-intro, across-elim, keep-edge, out-length, share-elim, share-intro, target-new}
+use Rattle.rules.proofs.Fans.{across-intro, across-elim, keep-edge, share-elim, share-intro, target-new}
 use Rattle.rules.proofs.Fans as of-split
 use Rattle.rules.proofs.Pass5.{home, split-home}
 use Rattle.splitting.proofs.Agreeing.{each-agree, on-below, groups-agree}
@@ -54,6 +54,7 @@ module _ (m : State) (v u : ℕ) (inside : Inside (length (m .points)) (m .faces
   abbrev fs : List Face
   fs = m .faces
 
+  -- the faces after the split
   abbrev out : List Face
   out = split m v .faces
 
@@ -61,13 +62,16 @@ module _ (m : State) (v u : ℕ) (inside : Inside (length (m .points)) (m .faces
   t : ℕ → ℕ
   t i = target v (length (m .points)) (drop 1 (fans (m .faces) v)) i
 
+  -- all of them, in one formula
   out-is : out ≡ map (λ i. renamed (instead v (t i)) (face fs i)) (below (length fs))
   unfolding t
   out-is = split-is m v hv
 
+  -- face i after the split
   out-at : (i : ℕ) → i < length fs → face out i ≡ renamed (instead v (t i)) (face fs i)
   out-at i h = ap (λ l. face l i) out-is ∙ face-map-below (λ k. renamed (instead v (t k)) (face fs k)) (length fs) i h
 
+  -- they are as many as before
   long : length out ≡ length fs
   long = ap length out-is ∙ length-map-below (λ i. renamed (instead v (t i)) (face fs i)) (length fs)
 

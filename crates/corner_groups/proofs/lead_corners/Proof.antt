@@ -5,7 +5,7 @@ use mathlib.Core.List.{List}
 use Prim.Native.Nat.{ℕ, _+_, _*_, _≤_, _<_}
 use native.Mathlib.Omega.{arith}
 use lib.ListN.{length, getD}
-use Rattle.rows.specs.Region.{Apart.before, Apart.after, Holds, CopyAsks, CopyGives}
+use Rattle.rows.specs.Region.{Apart.before, CopyAsks, CopyGives}
 use Rattle.rows.proofs.Regions.{only-both, only-more, kept-at, holds-kept, getD-part}
 use Rattle.rules.specs.Lists.{below}
 use Rattle.rules.specs.Mesh.{facesOf}

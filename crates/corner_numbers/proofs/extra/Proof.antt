@@ -1,5 +1,4 @@
 -- `corner_numbers::extra` meets its contract. Assumes nothing.
-use native.Mathlib.Omega.{arith}
 use Rattle.corner_numbers.proofs.Answers.{extra-first, extra-other}
 use borrow.Author.Needs.{needs}
 use Rattle.corner_numbers.proofs.extra.Statement.{statement}

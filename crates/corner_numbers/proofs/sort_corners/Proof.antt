@@ -3,7 +3,7 @@ use mathlib.Core.Path.{_≡_, sym, ap, ap₂, _∙_}
 use mathlib.Core.List.{List}
 use Prim.Native.Nat.{ℕ, _+_, _*_, _≤_, _<_}
 use native.Mathlib.Omega.{arith}
-use lib.ListN.{length, getD, take}
+use lib.ListN.{length, getD}
 use lib.Seq.{take-all}
 use Rattle.rows.specs.Region.{part, Apart.before, Apart.after, Only, Holds, RowAsks, RowGives}
 use Rattle.rows.specs.Groups.{sortedBy, keyIn}

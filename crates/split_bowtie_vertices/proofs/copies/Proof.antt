@@ -1,14 +1,14 @@
 -- `split_bowtie_vertices::copies` meets its contract. The invariant: j copies stand behind the points. Assumes nothing.
 use mathlib.Core.Path.{_≡_, sym, ap, ap₂, _∙_}
 use mathlib.Core.List.{List, _++_, append-nil, append-assoc}
-use Prim.Native.Nat.{ℕ, suc, _+_, _*_, _-_, _≤_, _<_}
+use Prim.Native.Nat.{ℕ, _+_, _*_, _-_, _≤_, _<_}
 use native.Mathlib.Omega.{arith}
 use native.Mathlib.Numerals.{add-one}
 use native.Mathlib.Nat.{add-zero}
-use lib.ListN.{length, take}
+use lib.ListN.{take}
 use lib.Seq.{take-add}
 use lib.Ieee.{Float, nan}
-use Rattle.rows.specs.Region.{part, OnlyOf, Apart.before, Apart.after}
+use Rattle.rows.specs.Region.{part, OnlyOf, Apart.before}
 use Rattle.rows.specs.Retain.{MoveAsks, MoveGives}
 use Rattle.rows.proofs.Regions.{only-none, only-both, only-more, kept}
 use Rattle.rules.specs.Lists.{below, each}

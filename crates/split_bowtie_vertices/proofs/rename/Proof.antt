@@ -8,7 +8,7 @@ use lib.ListN.{length, getD, set}
 use lib.Seq.{getD-set-same, getD-set-other}
 use Rattle.rows.specs.Region.{Only}
 use Rattle.rows.proofs.Regions.{only-none, only-both, only-set}
-use Rattle.corner_numbers.specs.Numbers.{NewAsks, newBy}
+use Rattle.corner_numbers.specs.Numbers.{newBy}
 use Rattle.split_bowtie_vertices.specs.Splits.{RenameAsks, RenameGives}
 use Rattle.split_bowtie_vertices.proofs.rename.Statement.{statement}
 use Rattle.split_bowtie_vertices.proofs.rename.Tie as tie

@@ -1,15 +1,14 @@
 -- `split_bowtie_vertices::split_all` meets its contract. The invariant: the vertices passed are split, and counted. Assumes nothing.
-use mathlib.Core.Path.{_≡_, refl, sym, ap, _∙_, subst}
+use mathlib.Core.Path.{_≡_, refl, sym, ap, _∙_}
 use mathlib.Core.Logic.{⊎-elim}
-use mathlib.Core.Bool.{Bool, cond}
+use mathlib.Core.Bool.{cond}
 use mathlib.Core.List.{List}
-use Prim.Native.Nat.{ℕ, suc, _+_, _*_, _-_, _^_, _≤_, _<_}
+use Prim.Native.Nat.{ℕ, _+_, _*_, _-_, _^_, _≤_, _<_}
 use native.Mathlib.Omega.{arith}
 use native.Mathlib.Numerals.{add-one}
 use borrow.Author.Tests.{lt-ltb, le-ltb}
 use lib.Dec.{ltb}
 use lib.Ieee.{Float, nan}
-use lib.ListN.{length}
 use Rattle.rows.specs.Region.{OnlyOf, Only}
 use Rattle.rows.proofs.Regions.{only-none, only-both}
 use Rattle.rules.specs.Lists.{below, count, filter}
@@ -19,7 +18,6 @@ use Rattle.rules.proofs.Counting.{count-below-le}
 use Rattle.splitting.specs.Corners.{extras}
 use Rattle.split_bowtie_vertices.specs.Splits.{Reached, VertexAsks, VertexGives, AllAsks, AllGives}
 use Rattle.split_bowtie_vertices.specs.declared.Run.{Run}
-use Rattle.split_bowtie_vertices.specs.declared.Split.{Split}
 use Rattle.split_bowtie_vertices.proofs.Vertices.{at-first}
 use Rattle.split_bowtie_vertices.proofs.split_all.Statement.{statement}
 use Rattle.split_bowtie_vertices.proofs.split_all.Tie as tie

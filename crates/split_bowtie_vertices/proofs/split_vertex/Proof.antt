@@ -1,14 +1,12 @@
 -- `split_bowtie_vertices::split_vertex` meets its contract. Assumes nothing.
-use mathlib.Core.Path.{_≡_, refl, sym, subst}
+use mathlib.Core.Path.{sym, subst}
 use mathlib.Core.List.{List}
-use Prim.Native.Nat.{ℕ, _+_, _*_, _-_, _≤_, _<_}
-use native.Mathlib.Omega.{arith}
+use Prim.Native.Nat.{ℕ, _+_, _*_, _-_}
 use lib.Ieee.{Float, nan}
 use lib.ListN.{length}
-use Rattle.rows.specs.Region.{OnlyOf, Only}
+use Rattle.rows.specs.Region.{OnlyOf}
 use Rattle.corner_numbers.specs.Numbers.{EndAsks, EndGives, RunAsks, RunGives}
 use Rattle.split_bowtie_vertices.specs.Splits.{CopiesAsks, CopiesGives, VertexAsks, VertexGives}
-use Rattle.split_bowtie_vertices.specs.declared.Run.{Run}
 use Rattle.split_bowtie_vertices.proofs.Vertices.{end-asks, run-asks, copies-asks, added, only-points, onward}
 use borrow.Author.Needs.{needs}
 use Rattle.split_bowtie_vertices.proofs.split_vertex.Statement.{statement}

@@ -135,9 +135,9 @@ pub fn count_faces(labels: &[u32], counts: &mut [u32], count: usize)
     rows::clear(counts, 0, count);
     let mut i = 0;
     while i < labels.len() {
-        let label = labels[i];
-        if label != NO_PATCH {
-            counts[label as usize] += 1;
+        let patch = labels[i];
+        if patch != NO_PATCH {
+            counts[patch as usize] += 1;
         }
         i += 1;
     }

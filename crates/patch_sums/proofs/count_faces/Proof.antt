@@ -20,11 +20,11 @@ clear-requires c κs = omega (arith, c .before .before .before .pre .fit)
 loop-holds : tie.Need-loop-holds Inv-loop μ-loop
 loop-holds c = begin (c .before .before .before .before .before .before .pre) (c .before .before .clear .ensures .0) (c .before .before .clear .ensures .1)
 
-mul-label : tie.Need-mul-label Inv-loop μ-loop
-mul-label c = omega (arith, c .loop-test .taken, c .before .before .before .before .before .before .before .before .pre .few)
+mul-patch : tie.Need-mul-patch Inv-loop μ-loop
+mul-patch c = omega (arith, c .loop-test .taken, c .before .before .before .before .before .before .before .before .pre .few)
 
-shared-slice-read-label : tie.Need-shared-slice-read-label Inv-loop μ-loop
-shared-slice-read-label c = c .before .loop-test .taken
+shared-slice-read-patch : tie.Need-shared-slice-read-patch Inv-loop μ-loop
+shared-slice-read-patch c = c .before .loop-test .taken
 
 cast-counts : tie.Need-cast-counts Inv-loop μ-loop
 cast-counts c = omega (arith, turn (c .before .before .before .before .before .before .before .before .before .before .pre) (c .before .before .before .before .before .before .clear .ensures .0 .long) (c .before .before .before .loop .inv) (c .before .before .loop-test .taken) (c .if1 .taken))
@@ -68,8 +68,8 @@ count-faces-spec =
     μ-loop
     clear-requires
     loop-holds
-    mul-label
-    shared-slice-read-label
+    mul-patch
+    shared-slice-read-patch
     cast-counts
     mul-counts
     slice-read-counts

@@ -3,6 +3,21 @@
 #include <stdio.h>
 #include <stdlib.h>
 
+/* Two patches of two faces, a square of side 1 and one of side 3: which of them is the part, by area? */
+static int patches(void) {
+    const double points[] = {0, 0, 0, 1, 0, 0, 1, 1, 0, 0, 1, 0, 5, 0, 0, 8, 0, 0, 8, 3, 0, 5, 3, 0};
+    const uint32_t faces[] = {0, 1, 2, 0, 2, 3, 4, 5, 6, 4, 6, 7}, labels[] = {0, 0, 1, 1};
+    uint32_t face_counts[2], flags[2], work[SHELL_PATCHES_WORK_ROOM(2)];
+    double numbers[SHELL_NUMBERS_ROOM(2)];
+    ShellPatches found = shell_patches(points, 24, faces, 12, labels, 4, 2, SHELL_KEEP_LARGEST_N, 0, 0, 0, 0, 1, face_counts, 2, numbers, 14, flags, 2,
+                                       work, SHELL_PATCHES_WORK_ROOM(2));
+    if (found.number != SHELL_ACCEPTED)
+        return 1;
+    for (size_t k = 0; k < found.flags; k++)
+        printf("patch %zu: %u faces, area %g, %s\n", k, face_counts[k], numbers[7 * k], flags[k] ? "kept" : "dropped");
+    return 0;
+}
+
 int main(void) {
     /* Two faces of a shell of four points, which walk their common edge in opposite directions. */
     const uint32_t faces[] = {0, 1, 2, 0, 2, 3};
@@ -44,5 +59,5 @@ int main(void) {
     if (written.number != SHELL_ACCEPTED)
         return 1;
     printf("%.*s\n", (int)written.bytes, (const char *)line);
-    return 0;
+    return patches();
 }

@@ -185,6 +185,61 @@ static int replay_line(Words *w, Recorded want) {
     return ok;
 }
 
+static double *floats(Row row) {
+    double *out = malloc(8 * row.count + 8);
+    for (uint64_t i = 0; out != NULL && i < row.count; i++) {
+        uint64_t bits = entry(row, i);
+        memcpy(out + i, &bits, 8);
+    }
+    return out;
+}
+
+/* The recorded box numbers with the sign of each zero as it was found: the Rust may keep either of two zeros. */
+static Row same_zeros(Row answer, const double *found) {
+    uint64_t *out = malloc(8 * answer.count + 8);
+    for (uint64_t i = 0; out != NULL && i < answer.count; i++) {
+        out[i] = entry(answer, i);
+        if (i % 7 != 0 && out[i] << 1 == 0 && found[i] == 0)
+            memcpy(out + i, found + i, 8);
+    }
+    Row row = {answer.count, 0, out};
+    return row;
+}
+
+static int replay_patches(Words *w, Recorded want) {
+    Row points = array(w), faces = array(w), labels = array(w);
+    uint64_t count = one(w), setting[5];
+    uint32_t limits = 0;
+    for (int k = 0; k < 5; k++) {
+        limits |= (uint32_t)one(w) << k;
+        setting[k] = one(w);
+    }
+    Row rooms = array(w);
+    uint64_t length[4];
+    for (int k = 0; k < 4; k++)
+        length[k] = entry(rooms, k);
+    double least[3], *places = floats(points), *seven = lent(length[1], 8);
+    memcpy(least, setting + 1, sizeof least);
+    uint32_t *corners = numbers(faces), *patch = numbers(labels), *counted = lent(length[0], 4), *flags = lent(length[2], 4), *work = lent(length[3], 4);
+    ShellPatches got = shell_patches(places, points.count, corners, faces.count, patch, labels.count, count, limits, setting[0], least[0], least[1],
+                                     least[2], setting[4], counted, length[0], seven, length[1], flags, length[2], work, length[3]);
+    int accepted = want.number == 0;
+    uint64_t stated = accepted ? count : 0;
+    Row numbers_row = accepted ? same_zeros(want.row[1], seven) : NOTHING;
+    int ok = got.number == want.number && got.place == want.place && got.face_counts == stated && got.numbers == 7 * stated && got.flags == stated &&
+             holds(counted, 4, length[0], stated, accepted ? want.row[0] : NOTHING) && holds(seven, 8, length[1], 7 * stated, numbers_row) &&
+             holds(flags, 4, length[2], stated, accepted ? want.row[2] : NOTHING) && holds(work, 4, length[3], 4 * stated, NOTHING);
+    free(places);
+    free(seven);
+    free(corners);
+    free(patch);
+    free(counted);
+    free(flags);
+    free(work);
+    free((void *)numbers_row.entries);
+    return ok;
+}
+
 int main(int count, char **names) {
     if (count != 3) {
         fprintf(stderr, "usage: replay CASES ANSWERS\n");
@@ -204,6 +259,8 @@ int main(int count, char **names) {
             ok = replay_edges(&cases, want);
         else if (call == 3)
             ok = replay_check(&cases, want);
+        else if (call == 4)
+            ok = replay_patches(&cases, want);
         else if (call == 5)
             ok = replay_line(&cases, want);
         else
@@ -211,7 +268,7 @@ int main(int count, char **names) {
         if (!ok) {
             different++;
             printf("case %lu of call %lu differs\n", k, (unsigned long)call);
-        } else if (call == 2 || call == 3 || call == 5)
+        } else if (call >= 2 && call <= 5)
             same++;
         cases.at = end;
         answers.at = after;

@@ -59,6 +59,13 @@ ShellEdges shell_edges(const double *points, size_t points_len, const uint32_t *
                        size_t lengths_len, uint32_t *face_edges, size_t face_edges_len, uint32_t *loop_vertices, size_t loop_vertices_len,
                        uint32_t *loop_ends, size_t loop_ends_len, uint32_t *work, size_t work_len);
 
+/* Rooms in entries, for C patches, and the bits that set the filter's limits. */
+#define SHELL_FACE_COUNTS_ROOM(C) ((size_t)(C))
+#define SHELL_NUMBERS_ROOM(C) (7 * (size_t)(C))
+#define SHELL_FLAGS_ROOM(C) ((size_t)(C))
+#define SHELL_PATCHES_WORK_ROOM(C) (4 * (size_t)(C))
+enum { SHELL_MIN_FACES = 1, SHELL_MIN_AREA = 2, SHELL_MIN_AABB_DIAGONAL = 4, SHELL_MIN_AREA_FRACTION = 8, SHELL_KEEP_LARGEST_N = 16 };
+
 /* The edge check: `yes` is 1 exactly when no face repeats a corner and every directed edge is used at most once. Work: SHELL_WORK_ROOM(P, F). */
 typedef struct {
     uint32_t number, place;
@@ -74,6 +81,21 @@ typedef struct {
 } ShellLine;
 
 ShellLine shell_line(const uint32_t *counts, size_t counts_len, uint8_t *line, size_t line_len);
+
+/* The patch call, from a label for each face: face counts, seven numbers a patch (area, min x y z, max x y z), and the flag 1 for each patch that the
+ * filter keeps. `limits` is the sum of the bits of the limits that count; other bits say nothing, and with 0 every patch is kept. A patch is dropped
+ * where its value is below the limit; keep_largest_n ranks all patches by area, ties by index. Rooms, in this order: SHELL_FACE_COUNTS_ROOM(C),
+ * SHELL_NUMBERS_ROOM(C), SHELL_FLAGS_ROOM(C), SHELL_PATCHES_WORK_ROOM(C). A place beyond 32 bits, in a list of more labels than that, is told as
+ * 4294967295. */
+typedef struct {
+    uint32_t number, place;
+    uint64_t face_counts, numbers, flags;
+} ShellPatches;
+
+ShellPatches shell_patches(const double *points, size_t points_len, const uint32_t *faces, size_t faces_len, const uint32_t *labels, size_t labels_len,
+                           uint64_t patch_count, uint32_t limits, uint64_t min_faces, double min_area, double min_aabb_diagonal,
+                           double min_area_fraction, uint64_t keep_largest_n, uint32_t *face_counts, size_t face_counts_len, double *numbers,
+                           size_t numbers_len, uint32_t *flags, size_t flags_len, uint32_t *work, size_t work_len);
 
 #ifdef __cplusplus
 }

@@ -2,10 +2,18 @@
 use edge_check::Checked;
 use edges::Found;
 use line::Lined;
+use patches::Filter;
+use patches::Limit;
+use patches::Patched;
+use patches::Whole;
+ghost use mathlib.Core.Path.{_≡_};
 ghost use mathlib.Core.List.{[], _∷_};
+ghost use Prim.Native.Nat.{_<_};
 ghost use Rattle.rules.specs.Calls as rule;
-ghost use Rattle.edges.specs.Answers.{roomsOf};
+ghost use Rattle.edges.specs.Answers as edged;
+ghost use Rattle.patches.specs.Answers.{limitOf, wholeOf, roomsOf};
 ghost use Rattle.shell.specs.Told.{Given};
+ghost use Rattle.shell.specs.Mask.{set, held, clip, clipped, masked};
 
 // What the edge call gives back: how many entries stand in the rooms of edges, lengths, face edges, loop vertices and loop ends.
 #[repr(C)]
@@ -31,7 +39,7 @@ pub extern "C" fn shell_edges(
     ends: &mut [u32],
     work: &mut [u32],
 ) -> ShellEdges
-    ensures { λ r. ⌜ Given (r .number) (r .place) (r .edges ∷ r .lengths ∷ r .sides ∷ r .vertices ∷ r .ends ∷ []) (roomsOf (now (edges .exit)) (now (lengths .exit)) (now (sides .exit)) (now (vertices .exit)) (now (ends .exit)) (now (work .exit))) (rule.find-edges (now (points .entry)) (now (faces .entry)) (roomsOf (now (edges .entry)) (now (lengths .entry)) (now (sides .entry)) (now (vertices .entry)) (now (ends .entry)) (now (work .entry)))) ⌝ }
+    ensures { λ r. ⌜ Given (r .number) (r .place) (r .edges ∷ r .lengths ∷ r .sides ∷ r .vertices ∷ r .ends ∷ []) (edged.roomsOf (now (edges .exit)) (now (lengths .exit)) (now (sides .exit)) (now (vertices .exit)) (now (ends .exit)) (now (work .exit))) (rule.find-edges (now (points .entry)) (now (faces .entry)) (edged.roomsOf (now (edges .entry)) (now (lengths .entry)) (now (sides .entry)) (now (vertices .entry)) (now (ends .entry)) (now (work .entry)))) ⌝ }
 {
     match edges::find_edges(points, faces, edges, lengths, sides, vertices, ends, work) {
         Found::Done(a, b, c, d, e) => ShellEdges {
@@ -115,5 +123,108 @@ pub extern "C" fn shell_line(counts: &[u32], line: &mut [u8]) -> ShellLine
                 bytes: 0,
             }
         }
+    }
+}
+
+// What the patch call gives back.
+#[repr(C)]
+pub struct ShellPatches {
+    pub number: u32,
+    pub place: u32,
+    pub face_counts: u64,
+    pub numbers: u64,
+    pub flags: u64,
+}
+
+// Whether the mask sets the limit with this bit.
+fn is_set(limits: u32, bit: u32) -> bool
+    requires { ⌜ 0 < bit ⌝ }
+    ensures { λ r. ⌜ r ≡ set limits bit ⌝ }
+{
+    limits / bit % 2 == 1
+}
+
+// A float limit, if it is set.
+fn limit(is: bool, x: f64) -> Limit
+    ensures { λ r. ⌜ limitOf r ≡ held is x ⌝ }
+{
+    if is { Limit::Limit(x) } else { Limit::Absent }
+}
+
+// A limit that is a whole number, if it is set.
+fn whole(is: bool, n: u64) -> Whole
+    ensures { λ r. ⌜ wholeOf r ≡ held is n ⌝ }
+{
+    if is {
+        Whole::Limit(n as usize)
+    } else {
+        Whole::Absent
+    }
+}
+
+// A place in 32 bits: one that does not fit is told as the largest that does.
+fn place_of(at: usize) -> u32
+    ensures { λ r. ⌜ r ≡ clip at ⌝ }
+{
+    if at < 4294967295 {
+        at as u32
+    } else {
+        4294967295
+    }
+}
+
+// The patch call: face counts, area and box of each patch, and 1 for each that the filter keeps. Limit k of the filter counts where bit k of `limits`
+// is 1; the other bits say nothing.
+#[no_mangle]
+pub extern "C" fn shell_patches(
+    points: &[f64],
+    faces: &[u32],
+    labels: &[u32],
+    patch_count: u64,
+    limits: u32,
+    min_faces: u64,
+    min_area: f64,
+    min_aabb_diagonal: f64,
+    min_area_fraction: f64,
+    keep_largest_n: u64,
+    face_counts: &mut [u32],
+    numbers: &mut [f64],
+    flags: &mut [u32],
+    work: &mut [u32],
+) -> ShellPatches
+    ensures { λ r. ⌜ Given (r .number) (r .place) (r .«face_counts» ∷ r .numbers ∷ r .flags ∷ []) (roomsOf (now («face_counts» .exit)) (now (numbers .exit)) (now (flags .exit)) (now (work .exit))) (clipped (rule.find-patches (now (points .entry)) (now (faces .entry)) (now (labels .entry)) «patch_count» (masked limits «min_faces» «min_area» «min_aabb_diagonal» «min_area_fraction» «keep_largest_n») (roomsOf (now («face_counts» .entry)) (now (numbers .entry)) (now (flags .entry)) (now (work .entry))))) ⌝ }
+{
+    let by = Filter {
+        min_faces: whole(is_set(limits, 1), min_faces),
+        min_area: limit(is_set(limits, 2), min_area),
+        min_aabb_diagonal: limit(is_set(limits, 4), min_aabb_diagonal),
+        min_area_fraction: limit(is_set(limits, 8), min_area_fraction),
+        keep_largest_n: whole(is_set(limits, 16), keep_largest_n),
+    };
+    match patches::find_patches(
+        points,
+        faces,
+        labels,
+        patch_count as usize,
+        by,
+        face_counts,
+        numbers,
+        flags,
+        work,
+    ) {
+        Patched::Done(a, b, c) => ShellPatches {
+            number: 0,
+            place: 0,
+            face_counts: a as u64,
+            numbers: b as u64,
+            flags: c as u64,
+        },
+        Patched::Refused(number, at) => ShellPatches {
+            number: number,
+            place: place_of(at),
+            face_counts: 0,
+            numbers: 0,
+            flags: 0,
+        },
     }
 }

@@ -1,3 +1,4 @@
 pub mod Places
 pub mod Outcomes
 pub mod Patching
+pub mod PatchPlaces

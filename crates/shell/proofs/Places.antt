@@ -33,7 +33,7 @@ Near (no n p) = p < 2 ^ 32
 -- ---- one check
 
 -- a test reports the place it is given
-unless-near : (n p : ℕ) (b : Bool) → p < 2 ^ 32 → Near (unless n p b)
+pub unless-near : (n p : ℕ) (b : Bool) → p < 2 ^ 32 → Near (unless n p b)
 unfolding unless Near
 unless-near n p true l = tt
 unless-near n p false l = l
@@ -49,17 +49,17 @@ first-at-most p (x ∷ xs) = go (p x) (first-at-most p xs)
     go false l = omega arith
 
 -- the first at fault of a list that is not too long
-at-first-near : {A : Type 0} (n : ℕ) (fault : A → Bool) (xs : List A) → length xs < 2 ^ 32 → Near (at-first n fault xs)
+pub at-first-near : {A : Type 0} (n : ℕ) (fault : A → Bool) (xs : List A) → length xs < 2 ^ 32 → Near (at-first n fault xs)
 unfolding at-first
 at-first-near n fault xs l = unless-near n (first fault xs) (all (λ x. not (fault x)) xs) (omega (arith, first-at-most fault xs))
 
 -- 5: at most F
-no5-near : (P : ℕ) (faces : List ℕ) → length faces / 3 ≤ most-faces → Near (no5 P (facesOf faces))
+pub no5-near : (P : ℕ) (faces : List ℕ) → length faces / 3 ≤ most-faces → Near (no5 P (facesOf faces))
 unfolding no5
 no5-near P faces l = at-first-near 5 (λ f. any (leb P) (corners f)) (facesOf faces) (omega (arith, length-faces faces))
 
 -- 6: at most the number of rooms
-no6-near : (stated given : List ℕ) → length stated < 2 ^ 32 → Near (no6 stated given)
+pub no6-near : (stated given : List ℕ) → length stated < 2 ^ 32 → Near (no6 stated given)
 unfolding no6
 no6-near stated given l =
     at-first-near 6 (λ k. ltb (getD given k 0) (getD stated k 0)) (below (length stated)) (omega (arith, length-below (length stated)))
@@ -87,13 +87,13 @@ edges-few P fs =
 -- ---- the checks of a call
 
 -- a check decides, or it finds nothing and the next ones decide
-step : (c : Check) (cs : List Check) → Near c → (c ≡ ok → Near (decided cs)) → Near (decided (c ∷ cs))
+pub step : (c : Check) (cs : List Check) → Near c → (c ≡ ok → Near (decided cs)) → Near (decided (c ∷ cs))
 unfolding decided
 step ok cs h r = r refl
 step (no n p) cs h r = h
 
 -- no check is left
-end : Near (decided [])
+pub end : Near (decided [])
 unfolding decided Near
 end = tt
 

@@ -6,9 +6,9 @@ use lib.Ieee.{Float}
 use lib.ListN.{length, replicate, length-replicate}
 use Rattle.rules.specs.Refusal.{Check, ok, no}
 use Rattle.rules.specs.Rooms.{Answer, accepted, refused, Outcome, outcome}
-use Rattle.rules.specs.Calls.{EdgesRooms, edges-check, find-edges, check-check, check, line-check, write-line}
+use Rattle.rules.specs.Calls.{RepairRooms, repair-check, repair, EdgesRooms, edges-check, find-edges, check-check, check, line-check, write-line}
 use Rattle.shell.specs.Told.{told, Given}
-use Rattle.shell.proofs.Places.{Near, edges-near, check-near, line-near}
+use Rattle.shell.proofs.Places.{Near, repair-near, edges-near, check-near, line-near}
 
 module _ {R : Type 0} {rooms : R} {o : Outcome R} where
   -- accepted: 0 and 0, and the entries
@@ -36,13 +36,20 @@ module _ {R : Type 0} where
   unfolding Placed
   refused-near h e = subst (λ q. Placed (q .answer)) (sym e) h
 
--- the edge call's place fits C's struct
+-- the repair's place fits C's struct
+pub repair-place :
+    (points : List Float) (faces : List ℕ) (s : Float) (options : ℕ) (r : RepairRooms) {n p : ℕ} {rooms : RepairRooms}
+    → record { answer = refused n p; rooms = rooms } ≡ repair points faces s options r → p < 2 ^ 32
+unfolding repair
+repair-place points faces s options r e = refused-near (outcome-near (repair-check points faces s options r) _ _ _ (repair-near points faces s options r)) e
+
+-- the edge call's too
 pub edges-place :
     (points : List Float) (faces : List ℕ) (r : EdgesRooms) {n p : ℕ} {rooms : EdgesRooms} → record { answer = refused n p; rooms = rooms } ≡ find-edges points faces r → p < 2 ^ 32
 unfolding find-edges
 edges-place points faces r e = refused-near (outcome-near (edges-check points faces r) _ _ _ (edges-near points faces r)) e
 
--- the edge check's place fits C's struct
+-- the edge check's too
 pub check-place : (P : ℕ) (faces work : List ℕ) {n p : ℕ} {rooms : List ℕ} → record { answer = refused n p; rooms = rooms } ≡ check P faces work → p < 2 ^ 32
 unfolding check
 check-place P faces work e = refused-near (outcome-near (check-check P faces work) _ _ _ (check-near P faces work)) e

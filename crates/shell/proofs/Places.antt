@@ -10,10 +10,10 @@ use lib.Ieee.{Float}
 use Rattle.rules.specs.Lists.{below, any, all, first}
 use Rattle.rules.specs.Mesh.{Face, facesOf, pointsOf, corners}
 use Rattle.rules.specs.Steps.{edge, same, entries, pairs, edges}
-use Rattle.rules.specs.Refusal.{Check, ok, no, decided, unless, at-first, no1, no1-counts, no2, no4, no5, no6, most-points, most-faces}
+use Rattle.rules.specs.Refusal.{no3-threshold, no3-options, Check, ok, no, decided, unless, at-first, no1, no1-counts, no2, no4, no5, no6, most-points, most-faces}
 use Rattle.rules.specs.Edges.{no7, no8}
-use Rattle.rules.specs.Rooms.{edges-rooms, check-rooms, line-rooms}
-use Rattle.rules.specs.Calls.{EdgesRooms, edges-check, check-check, line-check}
+use Rattle.rules.specs.Rooms.{repair-rooms, edges-rooms, check-rooms, line-rooms}
+use Rattle.rules.specs.Calls.{RepairRooms, repair-check, EdgesRooms, edges-check, check-check, line-check}
 use Rattle.rules.proofs.Flat.{length-faces, length-points}
 use Rattle.rules.proofs.Lists.{length-below}
 use Rattle.rules.proofs.Rising.{All, all-at}
@@ -96,6 +96,23 @@ step (no n p) cs h r = h
 pub end : Near (decided [])
 unfolding decided Near
 end = tt
+
+-- of a repair: 2 comes before 4 and 5, so P and F are not too large
+pub repair-near : (points : List Float) (faces : List ℕ) (s : Float) (options : ℕ) (r : RepairRooms) → Near (repair-check points faces s options r)
+unfolding repair-check repair-rooms no1 no2 no3-threshold no3-options no4
+repair-near points faces s options r =
+    let P = length points / 3 in
+    let F = length faces / 3 in
+    step _ _ (unless-near 1 0 _ (omega arith))
+    (λ _. step _ _ (unless-near 1 1 _ (omega arith))
+    (λ _. step _ _ (unless-near 2 0 _ (omega arith))
+    (λ p. step _ _ (unless-near 2 1 _ (omega arith))
+    (λ f. step _ _ (unless-near 3 0 _ (omega arith))
+    (λ _. step _ _ (unless-near 3 1 _ (omega arith))
+    (λ _. step _ _ (at-first-near 4 _ (pointsOf points) (omega (arith, no2-fine 0 P most-points p, length-points points)))
+    (λ _. step _ _ (no5-near P faces (no2-fine 1 F most-faces f))
+    (λ _. step _ _ (no6-near (repair-rooms P F) _ (omega arith))
+    (λ _. end)))))))))
 
 -- of the edge call: 2 comes before 4, 5, 7 and 8, so P and F are not too large
 pub edges-near : (points : List Float) (faces : List ℕ) (r : EdgesRooms) → Near (edges-check points faces r)

@@ -6,14 +6,61 @@ use patches::Filter;
 use patches::Limit;
 use patches::Patched;
 use patches::Whole;
+use repair::Repaired;
 ghost use mathlib.Core.Path.{_≡_};
 ghost use mathlib.Core.List.{[], _∷_};
 ghost use Prim.Native.Nat.{_<_};
 ghost use Rattle.rules.specs.Calls as rule;
+ghost use Rattle.repair.specs.Answers as repaired;
 ghost use Rattle.edges.specs.Answers as edged;
 ghost use Rattle.patches.specs.Answers.{limitOf, wholeOf, roomsOf};
 ghost use Rattle.shell.specs.Told.{Given};
 ghost use Rattle.shell.specs.Mask.{set, held, clip, clipped, masked};
+
+// What a repair gives back: how many entries stand in the rooms of points, faces and report.
+#[repr(C)]
+pub struct ShellRepaired {
+    pub number: u32,
+    pub place: u32,
+    pub points: u64,
+    pub faces: u64,
+    pub counts: u64,
+}
+
+// The repair: the mended points and faces, and the ten counts of the report.
+#[no_mangle]
+pub extern "C" fn shell_repair(
+    points: &[f64],
+    faces: &[u32],
+    s: f64,
+    options: u32,
+    mended: &mut [f64],
+    triples: &mut [u32],
+    report: &mut [u32],
+    work: &mut [u32],
+) -> ShellRepaired
+    ensures { λ r. ⌜ Given (r .number) (r .place) (r .points ∷ r .faces ∷ r .counts ∷ []) (repaired.roomsOf (now (mended .exit)) (now (triples .exit)) (now (report .exit)) (now (work .exit))) (rule.repair (now (points .entry)) (now (faces .entry)) s options (repaired.roomsOf (now (mended .entry)) (now (triples .entry)) (now (report .entry)) (now (work .entry)))) ⌝ }
+{
+    match repair::repair(points, faces, s, options, mended, triples, report, work) {
+        Repaired::Done(a, b) => ShellRepaired {
+            number: 0,
+            place: 0,
+            points: a as u64,
+            faces: b as u64,
+            counts: 10,
+        },
+        Repaired::Refused(number, at) => {
+            let place = at as u32;
+            ShellRepaired {
+                number: number,
+                place: place,
+                points: 0,
+                faces: 0,
+                counts: 0,
+            }
+        }
+    }
+}
 
 // What the edge call gives back: how many entries stand in the rooms of edges, lengths, face edges, loop vertices and loop ends.
 #[repr(C)]

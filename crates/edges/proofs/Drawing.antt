@@ -2,27 +2,25 @@
 use mathlib.Core.Path.{_≡_, refl, sym, ap, _∙_, subst}
 use mathlib.Core.Bool.{true, false}
 use mathlib.Core.List.{List}
-use Prim.Native.Nat.{ℕ, _+_, _*_, _/_, _^_, _≤_, _<_}
+use Prim.Native.Nat.{ℕ, _+_, _*_, _/_, _≤_}
 use native.Mathlib.Omega.{arith}
 use lib.Dec.{eqb}
 use lib.ListN.{length, take}
-use Rattle.rows.specs.Region.{Apart.before, Only, Holds, Filled}
+use Rattle.rows.specs.Region.{Apart.before, Only, Filled}
 use Rattle.rows.proofs.Regions.{only-none, only-both, only-more}
 use Rattle.rules.specs.Lists.{all}
-use Rattle.rules.specs.Mesh.{facesOf}
 use Rattle.rules.specs.Refusal.{ok, no}
 use Rattle.rules.specs.Rooms.{work-room}
-use Rattle.rules.specs.Edges as rule
 use Rattle.rules.proofs.Decided.{is-ok}
 use Rattle.refuse.specs.Verdicts as refuse
 use Rattle.refuse.specs.declared.Verdict.{Verdict}
 use Rattle.refuse.specs.declared.Verdict.the-variants.{Fine, Refused}
 use Rattle.table.specs.Table.{TableAsks, TableGives}
-use Rattle.boundary.specs.Rows.{onward, BoundaryAsks, BoundaryGives}
+use Rattle.boundary.specs.Rows.{BoundaryAsks, BoundaryGives}
 use Rattle.boundary.proofs.Zeros.{restored}
 use Rattle.edges.specs.declared.Drawn.{Drawn}
 use Rattle.edges.specs.declared.Drawn.the-variants as drawn
-use Rattle.edges.specs.Steps.{DrawAsks, judged, checkOf, Stands, Standing, Prepared, DrawGives, PrepareGives}
+use Rattle.edges.specs.Steps.{DrawAsks, judged, checkOf, Standing, Prepared, DrawGives, PrepareGives}
 
 -- a refusal is not nothing
 not-ok : {n p : ℕ} → no n p ≡ ok → ⊥

@@ -1,15 +1,15 @@
 -- The outcome of the edge call: a refusal that leaves every room as it was, or the rules' rooms. Assumes nothing.
-use mathlib.Core.Path.{_≡_, refl, sym, ap, ap₂, _∙_, subst}
+use mathlib.Core.Path.{_≡_, sym, ap, _∙_, subst}
 use mathlib.Core.List.{List, [], _∷_, _++_}
-use Prim.Native.Nat.{ℕ, _+_, _*_, _/_, _-_, _≤_, _<_}
+use Prim.Native.Nat.{ℕ, _*_, _/_, _-_}
 use native.Mathlib.Omega.{arith}
 use lib.ListN.{length, replicate}
 use lib.Ieee.{Float}
 use Rattle.rows.specs.Region.{Only}
 use Rattle.rules.specs.Mesh.{facesOf}
 use Rattle.rules.specs.Steps.{edges}
-use Rattle.rules.specs.Refusal.{Check, ok, no, decided}
-use Rattle.rules.specs.Rooms.{work-room, filled, cleared, Outcome, outcome}
+use Rattle.rules.specs.Refusal.{Check, ok, decided}
+use Rattle.rules.specs.Rooms.{filled, cleared, Outcome, outcome}
 use Rattle.rules.specs.Edges as rule
 use Rattle.rules.specs.Calls.{EdgesRooms, edges-check, find-edges}
 use Rattle.rules.proofs.Decided.{decided-all}
@@ -26,7 +26,7 @@ use Rattle.edges.specs.declared.Drawn.{Drawn}
 use Rattle.edges.specs.declared.Drawn.the-variants as drawn
 use Rattle.edges.specs.declared.Found.the-variants as found
 use Rattle.edges.specs.Answers.{outcomeOf, roomsOf}
-use Rattle.edges.specs.Steps.{DrawAsks, judged, checkOf, Stands, Prepared, PrepareGives, ListAsks, ListGives, after}
+use Rattle.edges.specs.Steps.{DrawAsks, judged, checkOf, Prepared, PrepareGives, ListAsks, ListGives, after}
 
 -- what is cleared does not depend on what was written there before
 cleared-kept : {n : ℕ} {w w′ : List ℕ} → Only 0 n w w′ → cleared n w′ ≡ cleared n w

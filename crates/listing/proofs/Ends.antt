@@ -1,10 +1,10 @@
 -- The ends of the edges, written edge by edge, and that they are the rules'. Assumes nothing.
 use mathlib.Core.Path.{_≡_, refl, sym, ap, _∙_}
 use mathlib.Core.Bool.{false}
-use mathlib.Core.List.{List, [], _∷_, map}
-use Prim.Native.Nat.{ℕ, _+_, _-_, _*_, _^_, _≤_, _<_}
+use mathlib.Core.List.{List}
+use Prim.Native.Nat.{ℕ, _+_, _-_, _*_, _≤_, _<_}
 use native.Mathlib.Omega.{arith}
-use lib.ListN.{length, getD, take, set}
+use lib.ListN.{length, take, set}
 use Rattle.rows.specs.Region.{Only, Filled, Apart.before}
 use Rattle.rows.proofs.Regions.{only-none, only-both, only-more, kept}
 use Rattle.rules.specs.Lists.{below, each}

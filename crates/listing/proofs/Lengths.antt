@@ -10,7 +10,7 @@ use lib.Seq.{ext-getD}
 use lib.Ieee.{Float, nan}
 use Rattle.rows.specs.Region.{OnlyOf, HoldsOf}
 use Rattle.rows.proofs.Regions.{only-none, only-next, holds-none, holds-next, length-part, getD-part, getD-part-of}
-use Rattle.rules.specs.Lists.{below, filter, any, each}
+use Rattle.rules.specs.Lists.{below, any, each}
 use Rattle.rules.specs.Mesh.{facesOf, pointsOf, point, zero64}
 use Rattle.rules.specs.Float.{norm, difference}
 use Rattle.rules.specs.Steps.{Step, step, edge, same, entries, pairs, edges}

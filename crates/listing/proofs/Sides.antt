@@ -1,12 +1,11 @@
 -- The edges of the faces, written face by face, and that they are the rules'. Assumes nothing.
 use mathlib.Core.Path.{_≡_, refl, sym, ap, ap₂, _∙_}
-use mathlib.Core.Bool.{Bool, true, false, cond}
+use mathlib.Core.Bool.{cond}
 use mathlib.Core.List.{List, [], _∷_, _++_, map}
 use Prim.Native.Nat.{ℕ, zero, suc, _+_, _-_, _*_, _/_, _%_, _≤_, _<_}
 use native.Mathlib.Omega.{arith}
 use borrow.Author.Tests.{eq-eqb, ne-eqb}
 use lib.ListN.{length, getD, take, set}
-use lib.Dec.{eqb}
 use Rattle.rows.specs.Region.{Only}
 use Rattle.rows.proofs.Regions.{only-none, only-both, only-more}
 use Rattle.rules.specs.Lists.{below, each}
@@ -16,7 +15,7 @@ use Rattle.rules.specs.Edges.{position, face-edges}
 use Rattle.rules.proofs.Lists.{each-map}
 use Rattle.rules.proofs.Flat.{face-in, length-faces}
 use Rattle.rules.proofs.Splitting.{faces-by-place}
-use Rattle.table.specs.Entries.{stepAt, next}
+use Rattle.table.specs.Entries.{stepAt}
 use Rattle.table.proofs.Ids.{each-snoc, step-flat}
 use Rattle.table.proofs.Theorems.{positions-row}
 use Rattle.filling.proofs.Filling.{filled-whole}

@@ -2,22 +2,20 @@
 use mathlib.Core.Path.{_≡_, refl, sym, ap, ap₂, _∙_, subst}
 use mathlib.Core.Bool.{Bool, true, false, cond}
 use mathlib.Core.List.{List, [], _∷_, _++_}
-use Prim.Native.Nat.{ℕ, zero, suc, _+_, _-_, _^_, _≤_, _<_}
+use Prim.Native.Nat.{ℕ, _+_, _^_, _≤_, _<_}
 use native.Mathlib.Nat.{zero-add}
 use native.Mathlib.Omega.{arith}
 use native.Mathlib.Numerals.{add-one}
-use lib.ListN.{length, getD, set, take, length-append}
+use lib.ListN.{length, set, length-append}
 use lib.Seq.{take-suc-set}
-use Rattle.rows.specs.Region.{part, Out, Out.below, Out.above, Apart, Apart.before, Apart.after, Only, Only2, Holds}
+use Rattle.rows.specs.Region.{part, Out, Out.below, Out.above, Apart, Apart.before, Apart.after, Only2, Holds}
 use Rattle.rows.proofs.Regions.{kept, part-add, only-none, only-set, only-more}
 use Rattle.rules.specs.Lists.{any, each, has}
-use Rattle.rules.specs.Steps.{Step}
 use Rattle.rules.specs.Edges.{turn}
 use Rattle.rules.proofs.Along.{down}
-use Rattle.rules.proofs.Next.{On}
 use Rattle.rules.proofs.Growing.{vertices}
 use Rattle.loops.specs.Walks.{WalkAsks, WalkGives, MirrorAsks, MirrorGives}
-use Rattle.loops.specs.Loops.{left, loopsTo, endsOf, Plan, Listed, AddAsks, AddGives}
+use Rattle.loops.specs.Loops.{loopsTo, AddAsks, AddGives}
 use Rattle.loops.proofs.Mirrored.{length-down, mirrored-is}
 use Rattle.loops.proofs.Growth.{starts, same-loops, more-loops, new-loop, vertices-more, ends-more, left-more, vertices-fit, loops-fit, at, at-on, at-leads, at-zero, at-back, at-differ, at-within, at-least}
 

@@ -3,20 +3,19 @@ use mathlib.Core.Path.{_≡_, refl, sym, ap, ap₂, _∙_, subst}
 use mathlib.Core.Logic.{_≢_}
 use mathlib.Core.Bool.{Bool, true, false, not, _&&_, _||_, cond}
 use mathlib.Core.List.{List, [], _∷_, _++_, map, reverse, append-nil, map-append, List·Memᴰ, Memᴰ·map}
-use Prim.Native.Nat.{ℕ, zero, suc, _+_, _≤_, _<_, zero-le}
+use Prim.Native.Nat.{ℕ, suc, _+_, _≤_, _<_, zero-le}
 use native.Mathlib.Omega.{arith}
-use native.Mathlib.Numerals.{add-one}
 use lib.Dec.{T, eqb, eqb→eq, eqb-refl}
 use lib.Ieee.Bits.{is-true}
 use lib.ListN.{length, getD, take, length-append, length-map}
 use lib.Seq.{take-append-le, take-length}
-use Rattle.rules.specs.Lists.{below, filter, count, any, each, through, times, has}
-use Rattle.rules.specs.Steps.{Step, step}
+use Rattle.rules.specs.Lists.{below, filter, count, any, each, times, has}
+use Rattle.rules.specs.Steps.{Step}
 use Rattle.rules.specs.Edges.{next, turn, walk, add-loop}
-use Rattle.rules.proofs.Lists.{each-append, through-last, length-below}
+use Rattle.rules.proofs.Lists.{each-append, through-last}
 use Rattle.rules.proofs.Tests.{and-elim}
 use Rattle.rules.proofs.Rising.{All, all-imp, all-map, map-same, below-all}
-use Rattle.rules.proofs.Members.{any-intro, any-mem, has-mem, mem-has, mem-each, mem-at, all-in, none-filter}
+use Rattle.rules.proofs.Members.{any-intro, any-mem, has-mem, mem-each, mem-at, all-in, none-filter}
 use Rattle.rules.proofs.Counting.{count-append, count-some, count-two}
 use Rattle.rules.proofs.Returns.{times-on}
 use Rattle.rules.proofs.Pigeons.{fewer}

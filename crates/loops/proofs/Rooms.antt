@@ -1,11 +1,11 @@
 -- The two rooms of the loops, once their rest is cleared, and what the faces' boundary gives the walk. Assumes nothing.
-use mathlib.Core.Path.{_≡_, refl, sym, ap, _∙_}
+use mathlib.Core.Path.{refl, sym, _∙_}
 use mathlib.Core.List.{List}
 use Prim.Native.Nat.{ℕ, suc, _+_, _-_, _*_, _/_, _≤_, _<_}
 use native.Mathlib.Omega.{arith}
 use lib.Dec.{eqb}
 use lib.ListN.{length, take, length-map}
-use Rattle.rows.specs.Region.{Apart, Apart.before, Apart.after, Only, Filled}
+use Rattle.rows.specs.Region.{Only, Filled}
 use Rattle.rules.specs.Lists.{below, each}
 use Rattle.rules.specs.Mesh.{facesOf, face}
 use Rattle.rules.specs.Steps.{steps, edge, users}
@@ -17,7 +17,7 @@ use Rattle.rules.proofs.Flat.{face-in, length-faces}
 use Rattle.rules.proofs.Once.{Corners-below, Inside}
 use Rattle.rules.proofs.Next.{no8-simple, boundary-inside}
 use Rattle.filling.proofs.Filling.{filled-is}
-use Rattle.loops.specs.Loops.{loopsTo, endsOf, TraceAsks, TraceGives, LoopsAsks, LoopsGives}
+use Rattle.loops.specs.Loops.{TraceAsks, TraceGives, LoopsAsks, LoopsGives}
 use Rattle.loops.proofs.Adding.{apart-less, only2-more}
 
 module _ {w xs : List ℕ} {P next spare : ℕ} {vs es : List ℕ} (q : LoopsAsks w xs P next spare vs es) where

@@ -1,13 +1,13 @@
 -- All vertices in turn: the loops that those below v start are listed. Assumes nothing.
-use mathlib.Core.Path.{_≡_, refl, sym, ap, _∙_}
-use mathlib.Core.List.{List, []}
+use mathlib.Core.Path.{_≡_, refl, _∙_}
+use mathlib.Core.List.{List}
 use Prim.Native.Nat.{ℕ, _+_, _≤_, _<_}
 use native.Mathlib.Omega.{arith}
-use lib.ListN.{length, take}
-use Rattle.rows.specs.Region.{Only, Only2, Holds}
+use lib.ListN.{length}
+use Rattle.rows.specs.Region.{Only, Only2}
 use Rattle.rows.proofs.Regions.{only-none, only-both, only-more, only2-none, only2-both}
 use Rattle.rules.specs.Lists.{below, each, through}
-use Rattle.loops.specs.Loops.{Plan, Listed, AddAsks, AddGives, TraceAsks, TraceGives}
+use Rattle.loops.specs.Loops.{Listed, AddAsks, AddGives, TraceAsks, TraceGives}
 use Rattle.loops.proofs.Growth.{left-none, vertices-fit, loops-fit}
 
 -- the loops that vertices below v start are listed, and nothing else is written

@@ -1,19 +1,18 @@
 -- The walk from a vertex: what was passed is listed and leads nowhere, so the walk ends where it began. Assumes nothing.
 use mathlib.Core.Path.{_≡_, refl, sym, ap, _∙_, subst}
-use mathlib.Core.Logic.{_⊎_, inl, inr, _≢_}
 use mathlib.Core.Bool.{Bool, true, false, _||_, cond}
-use mathlib.Core.List.{List, List·Memᴰ}
-use Prim.Native.Nat.{ℕ, zero, suc, _+_, _-_, _^_, _≤_, _<_}
+use mathlib.Core.List.{List}
+use Prim.Native.Nat.{ℕ, zero, suc, _+_, _^_, _≤_, _<_}
 use native.Mathlib.Omega.{arith}
-use native.Mathlib.Decide.{decLt, ℕ-discrete}
+use native.Mathlib.Decide.{ℕ-discrete}
 use native.Mathlib.Numerals.{add-one}
 use borrow.Author.Tests.{eq-eqb, ne-eqb}
-use lib.Dec.{T, eqb}
+use lib.Dec.{T}
 use lib.Ieee.Bits.{is-true}
 use lib.ListN.{length, getD, set, length-set}
-use lib.Seq.{getD-set-same, getD-set-other}
-use Rattle.rows.specs.Region.{Out, Apart, Only, Only2, Holds}
-use Rattle.rows.proofs.Regions.{apart-ne, apart-sym, holds-none, holds-next, holds-set, only-set, only2-none, only2-both, only2-left, only2-right}
+use lib.Seq.{getD-set-other}
+use Rattle.rows.specs.Region.{Only2, Holds}
+use Rattle.rows.proofs.Regions.{apart-ne, holds-none, holds-next, holds-set, only-set, only2-none, only2-both, only2-left, only2-right}
 use Rattle.rules.specs.Lists.{any, has, below}
 use Rattle.rules.proofs.Lists.{length-below}
 use Rattle.rules.proofs.Members.{has-mem, mem-has, mem-below}

@@ -64,7 +64,7 @@ clear-requires c κs =
     let f = o .before .before .before .before .before .before in
     let l = f .before .before .before .before .before in
     let e = l .before .before .before .before .before in
-    clear-fits (e .before .before .before .before .before .before .before .before .before .before .before .pre) (e .list-edges .ensures) (l .list-lengths .ensures) (f .list-face-edges .ensures) (o .list-loops .ensures)
+    omega (arith, clear-fits (e .before .before .before .before .before .before .before .before .before .before .before .pre) (e .list-edges .ensures) (l .list-lengths .ensures) (f .list-face-edges .ensures) (o .list-loops .ensures))
 
 same-length : tie.Need-same-length
 same-length c = search needs

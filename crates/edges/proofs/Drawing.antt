@@ -28,10 +28,19 @@ unfolding is-ok
 not-ok e = subst is-ok (sym e) tt
 
 module _ {w xs : List ℕ} {P : ℕ} (a : DrawAsks w xs P) where
-  -- the stated work room, as the code has it
-  pub stated-fits : (16 * P + 64 * (length xs / 3) + 64 ≤ length w) × (P ≤ 4194304) × (length xs ≤ 3145728)
+  -- the stated work room as the code has it, and sizes
+  stated-fits : (16 * P + 64 * (length xs / 3) + 64 ≤ length w) × (P ≤ 4194304) × (length xs ≤ 3145728)
   unfolding work-room
   stated-fits = (a .room, a .faces .points, omega (arith, a .faces .few, a .faces .whole))
+
+  -- what the table and the rows take of it
+  pub taken-fits : 5 * length xs + 1 + 4 * P ≤ length w
+  taken-fits = omega (arith, stated-fits .0, a .faces .whole)
+
+  -- nothing beyond the stated room is written where nothing beyond that is
+  within : {w₁ : List ℕ} → Only 0 (5 * length xs + 1 + 4 * P) w w₁ → Only 0 (work-room P (length xs / 3)) w w₁
+  unfolding work-room
+  within o = only-more (omega arith) (omega (arith, a .faces .whole)) o
 
   -- the table fits
   pub table-asks : TableAsks w xs P 0
@@ -49,11 +58,9 @@ module _ {w xs : List ℕ} {P : ℕ} (a : DrawAsks w xs P) where
         record { points = omega (arith, r .1); tabled = t .tabled; fit = omega (arith, r .0, a .faces .whole); apart = before (omega arith) }
 
     module _ {w₂ : List ℕ} {v : Verdict} (g : BoundaryGives w₁ xs P 0 m (5 * length xs + 1 + P) w₂ v) where
-      -- nothing beyond the stated room is written
-      both-only : Only 0 (work-room P (length xs / 3)) w w₂
-      unfolding work-room
-      both-only =
-          only-both (only-more (omega arith) (omega (arith, a .faces .whole)) (t .only)) (only-more (omega arith) (omega (arith, a .faces .whole)) (g .only))
+      -- nothing beyond the rows is written
+      both-only : Only 0 (5 * length xs + 1 + 4 * P) w w₂
+      both-only = only-both (only-more (omega arith) (omega arith) (t .only)) (only-more (omega arith) (omega arith) (g .only))
 
       -- no refusal: all stands
       pub is-ready : v ≡ Fine → DrawGives w xs P w₂ (drawn.Ready m)
@@ -73,16 +80,15 @@ module _ {w xs : List ℕ} {P : ℕ} (a : DrawAsks w xs P) where
 
   -- in a room of zeros: all stands
   pub zero-ready : {w₁ : List ℕ} {d : Drawn} {m : ℕ} → DrawGives w xs P w₁ d → d ≡ drawn.Ready m → PrepareGives w xs P w₁ (drawn.Ready m)
-  zero-ready {w₁} g e = record { only = g .only; says = sym (ap checkOf e) ∙ g .says; prepared = subst (Standing xs P w₁) e (g .stands) }
+  zero-ready {w₁} g e = record { only = within (g .only); says = sym (ap checkOf e) ∙ g .says; prepared = subst (Standing xs P w₁) e (g .stands) }
 
   -- or the room is cleared again
   pub zero-refused :
-      {w₁ w₂ : List ℕ} {d : Drawn} {n p : ℕ} → all (eqb 0) (take (16 * P + 64 * (length xs / 3) + 64) w) ≡ true → DrawGives w xs P w₁ d → d ≡ drawn.Refused n p
-      → Only 0 (16 * P + 64 * (length xs / 3) + 64) w₁ w₂ → Filled 0 (16 * P + 64 * (length xs / 3) + 64) 0 w₂ → PrepareGives w xs P w₂ (drawn.Refused n p)
-  unfolding work-room
+      {w₁ w₂ : List ℕ} {d : Drawn} {n p : ℕ} → all (eqb 0) (take (5 * length xs + 1 + 4 * P) w) ≡ true → DrawGives w xs P w₁ d → d ≡ drawn.Refused n p
+      → Only 0 (5 * length xs + 1 + 4 * P) w₁ w₂ → Filled 0 (5 * length xs + 1 + 4 * P) 0 w₂ → PrepareGives w xs P w₂ (drawn.Refused n p)
   zero-refused {w₁} {w₂} z g e o f =
       let b = only-both (g .only) o in
-      record { only = b; says = sym (ap checkOf e) ∙ g .says; prepared = restored w (16 * P + 64 * (length xs / 3) + 64) (a .room) z b f }
+      record { only = within b; says = sym (ap checkOf e) ∙ g .says; prepared = restored w (5 * length xs + 1 + 4 * P) taken-fits z b f }
 
   module _ {v : Verdict} (s : refuse.checkOf v ≡ judged P xs) where
     -- the faces alone refuse
@@ -91,7 +97,7 @@ module _ {w xs : List ℕ} {P : ℕ} (a : DrawAsks w xs P) where
 
     -- or do not, and then the table does not
     pub alone-fine : v ≡ Fine → {w₁ : List ℕ} {d : Drawn} → DrawGives w xs P w₁ d → PrepareGives w xs P w₁ d
-    alone-fine e {w₁} {d} g = record { only = g .only; says = g .says; prepared = go d (g .says ∙ sym s ∙ ap refuse.checkOf e) (g .stands) }
+    alone-fine e {w₁} {d} g = record { only = within (g .only); says = g .says; prepared = go d (g .says ∙ sym s ∙ ap refuse.checkOf e) (g .stands) }
       where
         go : (d : Drawn) → checkOf d ≡ ok → Standing xs P w₁ d → Prepared w xs P w₁ d
         go (drawn.Ready m) q h = h

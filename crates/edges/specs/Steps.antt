@@ -50,7 +50,7 @@ Prepared w xs P w′ (Refused n p) = w′ ≡ w
 
 -- the verdict is the rules'; where it is none, all stands
 pub record DrawGives (w xs : List ℕ) (P : ℕ) (w′ : List ℕ) (r : Drawn) : Type 0 where
-  pub only : Only 0 (work-room P (length xs / 3)) w w′
+  pub only : Only 0 (5 * length xs + 1 + 4 * P) w w′
   pub says : checkOf r ≡ judged P xs
   pub stands : Standing xs P w′ r
 

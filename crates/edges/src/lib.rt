@@ -41,20 +41,20 @@ fn draw(work: &mut [u32], faces: &[u32], count: usize) -> Drawn
     }
 }
 
-// 7 and 8, which leave the work room as it was. A room of zeros can be written to before the verdict and cleared again; else the verdict is reached from
-// the faces alone.
+// 7 and 8, which leave the work room as it was. Where what the table and the rows take is all zero, they are made there, and cleared again on a refusal;
+// else the verdict is reached from the faces alone.
 fn prepare(work: &mut [u32], faces: &[u32], count: usize) -> Drawn
     requires { ⌜ DrawAsks (now work) (now faces) count ⌝ }
     ensures { λ r. ⌜ PrepareGives (now (work .entry)) (now (faces .entry)) count (now (work .exit)) r ⌝ }
 {
-    let stated = 16 * count + 64 * (faces.len() / 3) + 64;
-    if boundary::is_zero(work, stated) {
+    let taken = 5 * faces.len() + 1 + 4 * count;
+    if boundary::is_zero(work, taken) {
         match draw(work, faces, count) {
             Drawn::Ready(m) => {
                 return Drawn::Ready(m);
             }
             Drawn::Refused(number, place) => {
-                rows::clear(work, 0, stated);
+                rows::clear(work, 0, taken);
                 return Drawn::Refused(number, place);
             }
         }

@@ -1,25 +1,25 @@
 -- `edges::prepare` meets its contract: by the table in a room of zeros, which is cleared again, or by the faces alone. Assumes nothing.
 use mathlib.Core.Path.{sym, _∙_}
 use native.Mathlib.Omega.{arith}
-use Rattle.edges.proofs.Drawing.{stated-fits, zero-ready, zero-refused, alone-refused, alone-fine}
+use Rattle.edges.proofs.Drawing.{taken-fits, zero-ready, zero-refused, alone-refused, alone-fine}
 use borrow.Author.Needs.{needs}
 use Rattle.edges.proofs.prepare.Statement.{statement}
 use Rattle.edges.proofs.prepare.Tie as tie
 
-mul-stated : tie.Need-mul-stated
-mul-stated c = search needs
+mul-taken : tie.Need-mul-taken
+mul-taken c = search needs
 
-mul-stated-2 : tie.Need-mul-stated-2
-mul-stated-2 c = search needs
+mul-taken-2 : tie.Need-mul-taken-2
+mul-taken-2 c = search needs
 
-add-stated : tie.Need-add-stated
-add-stated c = search needs
+add-taken : tie.Need-add-taken
+add-taken c = search needs
 
-add-stated-2 : tie.Need-add-stated-2
-add-stated-2 c = search needs
+add-taken-2 : tie.Need-add-taken-2
+add-taken-2 c = search needs
 
 is-zero-requires : tie.Need-is-zero-requires
-is-zero-requires c κs = stated-fits (c .before .before .before .pre) .0
+is-zero-requires c κs = taken-fits (c .before .before .before .pre)
 
 draw-requires : tie.Need-draw-requires
 draw-requires c κs = search needs
@@ -41,7 +41,7 @@ enum-known-number c = search needs
 clear-requires : tie.Need-clear-requires
 clear-requires c κs =
     let d = c .before .before .before .before .before .before in
-    omega (arith, stated-fits (d .before .before .before .before .before .before .before .pre), d .draw .ensures .only .long)
+    omega (arith, taken-fits (d .before .before .before .before .before .before .before .pre), d .draw .ensures .only .long)
 
 same-length-2 : tie.Need-same-length-2
 same-length-2 c = search needs
@@ -85,10 +85,10 @@ pub prepare-spec : {M : Type 1} → statement M
 prepare-spec =
     tie.close
     (tie.spec
-    mul-stated
-    mul-stated-2
-    add-stated
-    add-stated-2
+    mul-taken
+    add-taken
+    mul-taken-2
+    add-taken-2
     is-zero-requires
     draw-requires
     enum-known-m

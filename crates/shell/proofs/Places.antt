@@ -1,5 +1,5 @@
 -- The place of a refusal is below 2^32, as C's struct holds it. Assumes nothing.
-use mathlib.Core.Path.{_≡_, refl, sym, ap, _∙_}
+use mathlib.Core.Path.{_≡_, refl, ap, _∙_}
 use mathlib.Core.Bool.{Bool, true, false, not, cond}
 use mathlib.Core.List.{List, [], _∷_, map, List·Memᴰ, Memᴰ·map, Memᴰ·cast}
 use Prim.Native.Nat.{ℕ, suc, _*_, _/_, _≤_, _<_, _^_}

@@ -57,6 +57,7 @@ unfolding thinned-report more place
 report-is t k q r = simp zero-add
 
 module _ {points : List Float} {faces : List ℕ} {ps : List Float} {xs w : List ℕ} (a : MendAsks points faces ps xs w) where
+  -- how many points and faces are given
   abbrev P : ℕ
   P = length points / 3
 
@@ -67,6 +68,7 @@ module _ {points : List Float} {faces : List ℕ} {ps : List Float} {xs w : List
   whole-points : take (3 * P) points ≡ points
   whole-points = take-all (3 * P) points (omega (arith, a .input .whole))
 
+  -- and so are the faces
   whole-faces : take (3 * n) faces ≡ faces
   whole-faces = take-all (3 * n) faces (omega (arith, a .input .faces-fine .whole))
 
@@ -74,6 +76,7 @@ module _ {points : List Float} {faces : List ℕ} {ps : List Float} {xs w : List
   pub copies-points : RowAsks points (3 * P) ps
   copies-points = record { from-fit = omega arith; to-fit = omega (arith, a .room-points) }
 
+  -- the faces too
   pub copies-faces : RowAsks faces (3 * n) xs
   copies-faces = record { from-fit = omega arith; to-fit = omega (arith, a .room-faces) }
 
@@ -104,6 +107,7 @@ module _ {points : List Float} {faces : List ℕ} {ps : List Float} {xs w : List
         ap₂ (λ qs fs. record { points = pointsOf qs; faces = facesOf fs; report = replicate 10 0 }) whole-points (cf .copied ∙ whole-faces)
 
     module _ (s : Float) (o : ℕ) (t : Thinned) {xs₂ w₂ : List ℕ} (g : StepGives (thinned s o) (thinned-report t) points xs₁ n w xs₂ w₂ (t .faces)) (few : Few n t) where
+      -- how many faces are left
       abbrev m : ℕ
       m = t .faces
 

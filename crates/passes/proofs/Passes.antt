@@ -32,28 +32,31 @@ module _ {ps : List Float} {xs : List ℕ} {n : ℕ} {w : List ℕ} (a : PassAsk
   points-stand : length (pointsOf (take (3 * (length ps / 3)) ps)) ≡ length ps / 3
   points-stand = ap (λ qs. length (pointsOf qs)) (all-points a) ∙ length-points ps
 
-  -- pass 1
+  -- pass 1 that is off
   pub off1 : (s : Float) → StepGives (optional false (pass1 s)) (more degenerates (n - n)) ps xs n w xs w n
   off1 s = step-off (pass1 s) (more degenerates (n - n)) (none-dropped degenerates n) a
 
+  -- pass 1 that is on: degenerate faces leave
   pub on1 : (s : Float) {xs′ w′ : List ℕ} {r : ℕ} → LeaveGives (marked1 s (pointsOf ps) (standing xs n)) (length ps / 3) xs n w xs′ w′ r → StepGives (optional true (pass1 s)) (more degenerates (n - r)) ps xs n w xs′ w′ r
   unfolding pass1
   on1 s g =
       step-left (pass1 s) degenerates (λ report. report) (marked1 s (pointsOf ps) (standing xs n))
       (λ report. ap (λ qs. dropped degenerates (marked1 s (pointsOf qs) (standing xs n)) (stateOf ps (length ps / 3) xs n report)) (all-points a)) a g
 
-  -- pass 2
+  -- pass 2 that is off
   pub off2 : StepGives (optional false pass2) (more duplicates (n - n)) ps xs n w xs w n
   off2 = step-off pass2 (more duplicates (n - n)) (none-dropped duplicates n) a
 
+  -- pass 2 that is on: all but the first of faces alike leave
   pub on2 : {xs′ w′ : List ℕ} {r : ℕ} → LeaveGives (marked2 (standing xs n)) (length ps / 3) xs n w xs′ w′ r → StepGives (optional true pass2) (more duplicates (n - r)) ps xs n w xs′ w′ r
   unfolding pass2
   on2 g = step-left pass2 duplicates (λ report. report) (marked2 (standing xs n)) (λ report. refl) a g
 
-  -- pass 3
+  -- pass 3 that is off
   pub off3 : StepGives (optional false pass3) (λ report. more dropped-at-edges (n - n) (more crowded-edges 0 report)) ps xs n w xs w n
   off3 = step-off pass3 (λ report. more dropped-at-edges (n - n) (more crowded-edges 0 report)) (λ report. none-dropped dropped-at-edges n (more crowded-edges 0 report) ∙ more-none crowded-edges report) a
 
+  -- pass 3 that is on: crowded edges are counted, and marked faces leave
   pub on3 :
       {xs′ w′ : List ℕ} {r k : ℕ} → LeaveGives (marked3 (pointsOf ps) (standing xs n)) (length ps / 3) xs n w xs′ w′ r → k ≡ length (crowded (length ps / 3) (standing xs n))
       → StepGives (optional true pass3) (λ report. more dropped-at-edges (n - r) (more crowded-edges k report)) ps xs n w xs′ w′ r
@@ -72,7 +75,7 @@ module _ {ps : List Float} {xs : List ℕ} {n : ℕ} {w : List ℕ} (a : PassAsk
       let l = length-faces-take xs n (a .stand .fit) in
       omega (arith, e, few-edges (length ps / 3) (standing xs n), filter-le (λ d. ltb 2 (length (users (standing xs n) d))) (edges (length ps / 3) (standing xs n)))
 
-  -- pass 4
+  -- pass 4 that is off
   pub off4 : StepGives (optional false pass4) (λ report. more dropped-for-direction (n - n) (more components 0 (more reoriented 0 report))) ps xs n w xs w n
   off4 =
       step-off pass4 (λ report. more dropped-for-direction (n - n) (more components 0 (more reoriented 0 report)))
@@ -102,6 +105,7 @@ module _ {ps : List Float} {xs : List ℕ} {n : ℕ} {w : List ℕ} (a : PassAsk
           };
         }
 
+    -- pass 4 that is on: the faces that the first half leaves, less those that collide
     pub on4 :
         {xs′ w′ : List ℕ} {r : ℕ} → LeaveGives (marked4 (pointsOf ps) (standing xs₁ n)) (length ps / 3) xs₁ n w₁ xs′ w′ r
         → StepGives (optional true pass4) (λ report. more dropped-for-direction (n - r) (more components k (more reoriented e report))) ps xs n w xs′ w′ r

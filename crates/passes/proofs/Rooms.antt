@@ -40,7 +40,7 @@ inside-by ps p xs n report m hp hn e inside =
     (subst (λ k. Inside k (standing xs n)) (length-standing-points ps p hp) (subst (λ t. Inside (length (t .points)) (t .faces)) (sym e) inside))
 
 module _ {ps : List Float} {p : ℕ} {xs : List ℕ} {n : ℕ} {w : List ℕ} (a : SplitAsks ps p xs n w) where
-  -- pass 5
+  -- pass 5 that is off
   pub off5 : RoomGives (optional false pass5) (λ report. more points-added (p - p) (more vertices-split 0 report)) (p + 3 * n) (work-room p n) ps p xs n w ps p xs w
   unfolding optional
   off5 =
@@ -53,6 +53,7 @@ module _ {ps : List Float} {p : ℕ} {xs : List ℕ} {n : ℕ} {w : List ℕ} (a
         only-work = only-none 0 (work-room p n) w;
       }
 
+  -- pass 5 that is on: what stands is what the rule makes
   pub on5 :
       {ps′ : List Float} {xs′ w′ : List ℕ} {r : Split} → SplitGives p ps xs n w ps′ xs′ w′ r
       → RoomGives (optional true pass5) (λ report. more points-added (r .points - p) (more vertices-split (r .splits) report)) (p + 3 * n) (work-room p n) ps p xs n w ps′ (r .points) xs′ w′
@@ -78,7 +79,7 @@ module _ {ps : List Float} {p : ℕ} {xs : List ℕ} {n : ℕ} {w : List ℕ} (a
   used-inside : (report : List ℕ) → Inside (length (stateOf ps p xs n report .points)) (standing xs n)
   used-inside report = rw (length-standing-points ps p (a .points-fit)) (corners-inside xs n (a .fit) p (a .inside))
 
-  -- pass 6
+  -- pass 6 that is off
   pub off6 : RoomGives (optional false pass6) (more isolated (p - p)) p (2 * p) ps p xs n w ps p xs w
   unfolding optional
   off6 =
@@ -92,6 +93,7 @@ module _ {ps : List Float} {p : ℕ} {xs : List ℕ} {n : ℕ} {w : List ℕ} (a
       }
 
   module _ {ps′ : List Float} {xs′ w′ : List ℕ} {r : ℕ} (g : UnusedGives ps p xs n w ps′ xs′ w′ r) where
+    -- pass 6 that is on: what stands is what the rule leaves
     pub on6 : RoomGives (optional true pass6) (more isolated (p - r)) p (2 * p) ps p xs n w ps′ r xs′ w′
     unfolding optional
     on6 =

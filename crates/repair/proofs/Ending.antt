@@ -41,6 +41,7 @@ pub record Sizes (P F p f points-room faces-room report-room work : ℕ) : Type 
 
 module _ (points : List Float) (faces : List ℕ) (s : Float) (o : ℕ) (ps : List Float) (xs rs w : List ℕ) (v : Verdict)
     (e : checkOf v ≡ decided (repair-list points faces s o (length ps) (length xs) (length rs) (length w))) where
+  -- how many points and faces are given
   abbrev P : ℕ
   P = length points / 3
 
@@ -79,6 +80,7 @@ module _ (points : List Float) (faces : List ℕ) (s : Float) (o : ℕ) (ps : Li
     is-accepted : RepairAccepted points faces o (length ps) (length xs) (length rs) (length w)
     is-accepted = repair-accepted points faces s o (length ps) (length xs) (length rs) (length w) (sym e ∙ ap checkOf t)
 
+    -- the passes may start from it
     pub mend-asks : MendAsks points faces ps xs w
     mend-asks =
         let a = is-accepted in
@@ -104,6 +106,7 @@ module _ (points : List Float) (faces : List ℕ) (s : Float) (o : ℕ) (ps : Li
             work-long = omega (arith, a .room-work);
           }
 
+      -- the report room takes the ten counts
       pub report-asks : ReportAsks rs (r .report)
       report-asks = record { room = sizes .report-long; few = g .few }
 
@@ -127,6 +130,7 @@ module _ (points : List Float) (faces : List ℕ) (s : Float) (o : ℕ) (ps : Li
           let f : r .faces ≡ length (m .faces) = sym (length-faces-take xs₁ (r .faces) (omega (arith, z))) ∙ ap (λ t. length (t .faces)) (g .state) in
           ap₂ (λ i j. 3 * i ∷ 3 * j ∷ 10 ∷ []) p f
 
+      -- the answers in their rooms, and the rest cleared: the rules' outcome
       pub is-done :
           {ps₂ : List Float} {xs₂ rs₂ w₂ : List ℕ}
           → OnlyOf nan (3 * r .points) (3 * (P + 3 * F) - 3 * r .points) ps₁ ps₂ → HoldsOf nan (3 * r .points) (3 * (P + 3 * F) - 3 * r .points) (λ i. zero64) ps₂

@@ -1,3 +1,4 @@
+-- `passes::mend` meets its contract: the lists are copied, and the six passes follow each other. Assumes nothing.
 use native.Mathlib.Omega.{arith}
 use Rattle.passes.proofs.Mending.{copies-points, copies-faces, thin-asks, split-asks, unused-asks, mend-done}
 use Rattle.passes.proofs.mend.Statement.{statement}

@@ -1,3 +1,4 @@
+-- `passes::pass1` meets its contract: the pass is on and marked faces leave, or it is off. Assumes nothing.
 use Rattle.passes.proofs.Passes.{on1, off1}
 use borrow.Author.Needs.{needs}
 use Rattle.passes.proofs.pass1.Statement.{statement}

@@ -1,3 +1,4 @@
+-- `passes::pass2` meets its contract: the pass is on and marked faces leave, or it is off. Assumes nothing.
 use Rattle.passes.proofs.Passes.{on2, off2}
 use borrow.Author.Needs.{needs}
 use Rattle.passes.proofs.pass2.Statement.{statement}

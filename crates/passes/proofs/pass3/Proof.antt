@@ -1,3 +1,4 @@
+-- `passes::pass3` meets its contract: the pass is on and marked faces leave, or it is off. Assumes nothing.
 use native.Mathlib.Omega.{arith}
 use Rattle.passes.proofs.Passes.{on3, off3, few-crowded}
 use borrow.Author.Needs.{needs}

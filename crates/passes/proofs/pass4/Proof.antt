@@ -1,3 +1,4 @@
+-- `passes::pass4` meets its contract: the pass is on and both halves follow each other, or it is off. Assumes nothing.
 use native.Mathlib.Omega.{arith}
 use Rattle.passes.proofs.Passes.{turned-asks, on4, off4}
 use borrow.Author.Needs.{needs}

@@ -1,3 +1,4 @@
+-- `passes::pass5` meets its contract: the pass is on and vertices are split, or it is off. Assumes nothing.
 use native.Mathlib.Omega.{arith}
 use Rattle.passes.proofs.Rooms.{on5, off5}
 use borrow.Author.Needs.{needs}

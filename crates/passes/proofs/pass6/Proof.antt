@@ -1,3 +1,4 @@
+-- `passes::pass6` meets its contract: the pass is on and unused points leave, or it is off. Assumes nothing.
 use Rattle.passes.proofs.Rooms.{on6, off6}
 use borrow.Author.Needs.{needs}
 use Rattle.passes.proofs.pass6.Statement.{statement}

@@ -1,3 +1,4 @@
+-- `passes::thin` meets its contract: four passes, each going on from what the one before leaves. Assumes nothing.
 use native.Mathlib.Omega.{arith}
 use Rattle.passes.proofs.Mending.{goes-on, thin-done}
 use borrow.Author.Needs.{needs}

@@ -1,3 +1,4 @@
+-- `repair::repair` meets its contract: the verdict refuses, or the passes run and the rooms are cleared behind the answers. Assumes nothing.
 use native.Mathlib.Omega.{arith}
 use Rattle.repair.proofs.Ending.{is-refused, mend-asks, report-asks, sizes, is-done}
 use borrow.Author.Needs.{needs}

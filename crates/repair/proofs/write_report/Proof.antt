@@ -1,3 +1,4 @@
+-- `repair::write_report` meets its contract: ten stores, one after the other. Assumes nothing.
 use native.Mathlib.Omega.{arith}
 use lib.ListN.{length-set}
 use Rattle.repair.proofs.Reporting.{stored, stored-only, stored-front}

@@ -1,29 +1,30 @@
 -- The demand's words and those of the passes agree: one fan by chains and by pass 5's groups, a shared edge by corners and by the users of an edge, each
 -- directed edge once by steps and by pass 4's walkers. Assumes nothing.
-use mathlib.Core.Path.{_≡_, refl, sym, ap, _∙_, subst, subst₂}
-use mathlib.Core.Logic.{_↔_, _⊎_, inl, inr}
+use mathlib.Core.Path.{_≡_, refl, sym, ap, ap₂, _∙_, subst, subst₂}
+use mathlib.Core.Logic.{_↔_, _⊎_, inl, inr, _≢_}
 use mathlib.Core.Bool.{Bool}
-use mathlib.Core.List.{List, map, List·Memᴰ, List·Memᴰ·head, List·Memᴰ·tail}
+use mathlib.Core.List.{List, map, List·Memᴰ, List·Memᴰ·head, List·Memᴰ·tail, Memᴰ·map, Memᴰ·of-map}
 use Prim.Native.Nat.{ℕ, _≤_, _<_}
 use native.Mathlib.Omega.{arith}
 use native.Mathlib.Decide.{decLe}
 use lib.ListN.{length, getD, length-map}
 use lib.Dec.{T}
-use Rattle.rules.specs.Lists.{below, count, each}
+use Rattle.rules.specs.Lists.{below, filter, count, each}
 use Rattle.rules.specs.Mesh.{Face, face, corners}
-use Rattle.rules.specs.Steps.{Step, steps, same}
+use Rattle.rules.specs.Steps.{Step, step, steps, same, edge, opposite, Entry, entries, users}
 use Rattle.rules.specs.Groups.{group, leads, groups}
 use Rattle.rules.specs.Pass5.{entriesAt, share, fans}
 use Rattle.rules.proofs.Demand.{Chain, stay, link, across-edge, OneFan, Distinct}
 use Rattle.rules.proofs.Rising.{all-at}
-use Rattle.rules.proofs.Members.{mem-below, mem-has, mem-three}
+use Rattle.rules.proofs.Members.{mem-below, mem-each, mem-each-of, mem-filter, mem-has, mem-left, mem-three}
 use Rattle.rules.proofs.Counting.{count-onto, only-one}
 use Rattle.rules.proofs.Groups.{chain-end, chain-flip, chain-group, chain-join, covered, group-chain, group-self}
 use Rattle.rules.proofs.Leaders.{groups-length, one-leader}
-use Rattle.rules.proofs.Once.{Once}
-use Rattle.rules.proofs.InOut.{once-steps, walkers-count}
+use Rattle.rules.proofs.Once.{Once, same-eq}
+use Rattle.rules.proofs.InOut.{once-steps, walkers-count, edge-opposite, either-way}
+use Rattle.rules.proofs.TwoUsers.{eq-same}
 use Rattle.rules.proofs.Splitting.{entry-of, share-sym}
-use Rattle.rules.proofs.Fans.{entries-at-v, share-intro, across-elim, across-intro}
+use Rattle.rules.proofs.Fans.{entries-at-v, share-intro, share-elim, across-elim, across-intro}
 
 -- ---- one fan, by chains of faces and by groups of entries
 
@@ -128,6 +129,110 @@ module _ (fs : List Face) (v : ℕ) where
   -- so the demand's one fan is pass 5's one group
   pub one-fan-is : ((i : ℕ) → i < length fs → Distinct (face fs i)) → OneFan fs v ↔ (length (fans fs v) ≤ 1)
   one-fan-is distinct = ((λ fan. groups-of-fan distinct fan), (λ few. fan-of-groups few))
+
+-- ---- a shared edge, by corners and by the users of an edge
+
+-- a face with two different corners has the edge between them
+has-edge :
+    (f : Face) (v x : ℕ) → x ≢ v → List·Memᴰ v (corners f) → List·Memᴰ x (corners f) → (s : Step) × List·Memᴰ s (steps f) × (edge s ≡ edge (step v x))
+unfolding opposite
+has-edge f v x ne mv mx = go (mem-three mv) (mem-three mx)
+  where
+    Goal : Type 0
+    Goal = (s : Step) × List·Memᴰ s (steps f) × (edge s ≡ edge (step v x))
+
+    ahead : (p q : ℕ) → List·Memᴰ (step p q) (steps f) → v ≡ p → x ≡ q → Goal
+    ahead p q m e d = (step p q, m, ap₂ (λ y z. edge (step y z)) (sym e) (sym d))
+
+    back : (p q : ℕ) → List·Memᴰ (step p q) (steps f) → v ≡ q → x ≡ p → Goal
+    back p q m e d = (step p q, m, ap₂ (λ y z. edge (step y z)) (sym d) (sym e) ∙ edge-opposite (step v x))
+
+    ab : List·Memᴰ (step (f .a) (f .b)) (steps f)
+    ab = List·Memᴰ·head refl
+
+    bc : List·Memᴰ (step (f .b) (f .c)) (steps f)
+    bc = List·Memᴰ·tail (List·Memᴰ·head refl)
+
+    ca : List·Memᴰ (step (f .c) (f .a)) (steps f)
+    ca = List·Memᴰ·tail (List·Memᴰ·tail (List·Memᴰ·head refl))
+
+    go : (v ≡ f .a) ⊎ ((v ≡ f .b) ⊎ (v ≡ f .c)) → (x ≡ f .a) ⊎ ((x ≡ f .b) ⊎ (x ≡ f .c)) → Goal
+    go (inl e) (inl d) = absurd (ne (d ∙ sym e))
+    go (inl e) (inr (inl d)) = ahead (f .a) (f .b) ab e d
+    go (inl e) (inr (inr d)) = back (f .c) (f .a) ca e d
+    go (inr (inl e)) (inl d) = back (f .a) (f .b) ab e d
+    go (inr (inl e)) (inr (inl d)) = absurd (ne (d ∙ sym e))
+    go (inr (inl e)) (inr (inr d)) = ahead (f .b) (f .c) bc e d
+    go (inr (inr e)) (inl d) = ahead (f .c) (f .a) ca e d
+    go (inr (inr e)) (inr (inl d)) = back (f .b) (f .c) bc e d
+    go (inr (inr e)) (inr (inr d)) = absurd (ne (d ∙ sym e))
+
+-- a face that has the edge between two points has both as corners
+edge-corners : (f : Face) (v x : ℕ) (s : Step) → List·Memᴰ s (steps f) → T (same (edge (step v x)) (edge s)) → List·Memᴰ v (corners f) × List·Memᴰ x (corners f)
+unfolding opposite
+edge-corners f v x s m t = way (either-way (step v x) s t)
+  where
+    ends : (s ≡ step (f .a) (f .b)) ⊎ ((s ≡ step (f .b) (f .c)) ⊎ (s ≡ step (f .c) (f .a))) → List·Memᴰ (s .from) (corners f) × List·Memᴰ (s .to) (corners f)
+    ends (inl e) = (List·Memᴰ·head (ap (λ z. z .from) e), List·Memᴰ·tail (List·Memᴰ·head (ap (λ z. z .to) e)))
+    ends (inr (inl e)) = (List·Memᴰ·tail (List·Memᴰ·head (ap (λ z. z .from) e)), List·Memᴰ·tail (List·Memᴰ·tail (List·Memᴰ·head (ap (λ z. z .to) e))))
+    ends (inr (inr e)) = (List·Memᴰ·tail (List·Memᴰ·tail (List·Memᴰ·head (ap (λ z. z .from) e))), List·Memᴰ·head (ap (λ z. z .to) e))
+
+    way : T (same (step v x) s) ⊎ T (same (opposite (step v x)) s) → List·Memᴰ v (corners f) × List·Memᴰ x (corners f)
+    way (inl q) =
+        let e = same-eq (step v x) s q in
+        let w = ends (mem-three m) in
+        (subst (λ y. List·Memᴰ y (corners f)) (sym (e .0)) (w .0), subst (λ y. List·Memᴰ y (corners f)) (sym (e .1)) (w .1))
+    way (inr q) =
+        let e = same-eq (step x v) s q in
+        let w = ends (mem-three m) in
+        (subst (λ y. List·Memᴰ y (corners f)) (sym (e .1)) (w .1), subst (λ y. List·Memᴰ y (corners f)) (sym (e .0)) (w .0))
+
+module _ (fs : List Face) where
+  -- the entries of face i
+  abbrev entries-of : ℕ → List Entry
+  entries-of i = map (λ s. record { by = i; along = s }) (steps (face fs i))
+
+  -- a face that has an edge is among its users
+  user-in : (e : Step) (i : ℕ) → i < length fs → (s : Step) → List·Memᴰ s (steps (face fs i)) → edge s ≡ e → List·Memᴰ i (users fs e)
+  unfolding users entries
+  user-in e i h s m q =
+      Memᴰ·map (λ n. n .by)
+      (mem-filter (λ n. same e (edge (n .along))) (record { by = i; along = s }) (entries fs)
+      (mem-each entries-of i (record { by = i; along = s }) (below (length fs)) (mem-below i (length fs) h) (Memᴰ·map (λ z. record { by = i; along = z }) m))
+      (eq-same e (edge s) (ap (λ z. z .from) (sym q)) (ap (λ z. z .to) (sym q))))
+
+  -- and every user has it
+  user-out : (e : Step) (i : ℕ) → List·Memᴰ i (users fs e) → (s : Step) × List·Memᴰ s (steps (face fs i)) × T (same e (edge s))
+  unfolding users entries
+  user-out e i m =
+      let w = Memᴰ·of-map (λ n. n .by) (filter (λ n. same e (edge (n .along))) (entries fs)) m in
+      let k = mem-left (λ n. same e (edge (n .along))) (w .0) (entries fs) (w .1) in
+      let j = mem-each-of entries-of (w .0) (below (length fs)) (k .0) in
+      let s = Memᴰ·of-map (λ z. record { by = j .0; along = z }) (steps (face fs (j .0))) (j .2) in
+      let by : j .0 ≡ i = ap (λ n. n .by) (s .2) ∙ w .2 in
+      (s .0, subst (λ y. List·Memᴰ (s .0) (steps (face fs y))) by (s .1), subst (λ n. T (same e (edge (n .along)))) (sym (s .2)) (k .1))
+
+  -- two faces share an edge at v exactly where both are users of an edge between v and another point
+  pub across-edge-is :
+      (v i j : ℕ) → i < length fs → j < length fs
+      → T (across-edge fs v i j) ↔ ((x : ℕ) × (x ≢ v) × List·Memᴰ i (users fs (edge (step v x))) × List·Memᴰ j (users fs (edge (step v x))))
+  across-edge-is v i j hi hj = (to, from)
+    where
+      to : T (across-edge fs v i j) → (x : ℕ) × (x ≢ v) × List·Memᴰ i (users fs (edge (step v x))) × List·Memᴰ j (users fs (edge (step v x)))
+      to t =
+          let a = across-elim fs v i j t in
+          let w = share-elim v (face fs i) (face fs j) (a .2) in
+          let p = has-edge (face fs i) v (w .0) (w .1) (a .0) (w .2) in
+          let q = has-edge (face fs j) v (w .0) (w .1) (a .1) (w .3) in
+          (w .0, w .1, user-in (edge (step v (w .0))) i hi (p .0) (p .1) (p .2), user-in (edge (step v (w .0))) j hj (q .0) (q .1) (q .2))
+
+      from : (x : ℕ) × (x ≢ v) × List·Memᴰ i (users fs (edge (step v x))) × List·Memᴰ j (users fs (edge (step v x))) → T (across-edge fs v i j)
+      from (x, ne, mi, mj) =
+          let p = user-out (edge (step v x)) i mi in
+          let q = user-out (edge (step v x)) j mj in
+          let ci = edge-corners (face fs i) v x (p .0) (p .1) (p .2) in
+          let cj = edge-corners (face fs j) v x (q .0) (q .1) (q .2) in
+          across-intro fs v i j (ci .0) (cj .0) (share-intro v (face fs i) (face fs j) x ne (ci .1) (cj .1))
 
 -- ---- each directed edge once, by steps and by walkers
 

@@ -1,6 +1,7 @@
 -- Demand 3, the statement alone: what holds of every mesh that an accepted repair with all six options returns. To read it takes the rules' words
 -- (`specs/`) and the words below, and nothing of any engine. `Demand3.demand3` is its proof, `Called.called3` says it of what the call leaves in its
--- rooms, `Agreeing` compares its words with those of the passes, and `Teeth` tells which line fails without which pass. Definitions only.
+-- rooms, `Agreeing` compares its words with those of the passes, and `Teeth` tells which line fails without which pass. In it `T b` says that the test b
+-- passes, `List·Memᴰ x xs` that x is among xs, and `getD xs k 0` is entry k of xs. Definitions only.
 use mathlib.Core.Path.{_≡_}
 use mathlib.Core.Logic.{_⊎_, _≢_}
 use mathlib.Core.Bool.{Bool, not, _&&_}
@@ -47,12 +48,17 @@ positions ps f = map (point ps) (corners f)
 abbrev pub Lies : List Point → Face → List Point → Face → Type 0
 Lies ps f ps′ g = (positions ps′ g ≡ positions ps f) ⊎ (positions ps′ g ≡ positions ps (exchanged f))
 
--- each face of fs′ has its number among the faces fs; these numbers rise, so no two are the same and the order is kept; and it lies where that face does
+-- each face of fs′ over ps′ is a different face of fs over ps, in their order, and lies where that one does
 pub record Traced (ps : List Point) (fs : List Face) (ps′ : List Point) (fs′ : List Face) : Type 0 where
+  -- which face of fs each face of fs′ is
   pub origins : List ℕ
+  -- one number for each
   pub one-each : length origins ≡ length fs′
+  -- the numbers rise: no two are the same, and the order is kept
   pub rising : (k l : ℕ) → k < l → l < length origins → getD origins k 0 < getD origins l 0
+  -- they are numbers of faces of fs
   pub inputs : (k : ℕ) → k < length origins → getD origins k 0 < length fs
+  -- the corners lie where they lay, at most the last two exchanged
   pub places : (k : ℕ) → k < length fs′ → Lies ps (face fs (getD origins k 0)) ps′ (face fs′ k)
 
 -- ---- counts
@@ -83,11 +89,13 @@ unfoldable pub loop-steps : List ℕ → List Step
 loop-steps [] = []
 loop-steps (x ∷ l) = along x (x ∷ l)
 
--- each boundary edge is in exactly one loop: one loop goes along it and no other does, and that one goes along it once; and a loop has a vertex and goes
--- along boundary edges alone
+-- each boundary edge is in exactly one loop
 pub record Looped (P : ℕ) (fs : List Face) : Type 0 where
+  -- one loop goes along it, and no other
   pub one-has-each : (s : Step) → List·Memᴰ s (boundary fs) → count (λ l. any (same s) (loop-steps l)) (loops P fs) ≡ 1
+  -- all loops together go along it once
   pub each-in-one : (s : Step) → List·Memᴰ s (boundary fs) → count (same s) (each loop-steps (loops P fs)) ≡ 1
+  -- and a loop has a vertex and goes along boundary edges alone
   pub each-closes :
       (l : List ℕ) → List·Memᴰ l (loops P fs) → (0 < length l) × ((s : Step) → List·Memᴰ s (loop-steps l) → List·Memᴰ s (boundary fs))
 

@@ -1,6 +1,6 @@
 -- The demand's words and those of the passes agree: one fan by chains and by pass 5's groups, a shared edge by corners and by the users of an edge, each
 -- directed edge once by steps and by pass 4's walkers. Assumes nothing.
-use mathlib.Core.Path.{_≡_, refl, sym, ap, ap₂, _∙_, subst, subst₂}
+use mathlib.Core.Path.{_≡_, refl, sym, ap, _∙_, subst, subst₂}
 use mathlib.Core.Logic.{_↔_, _⊎_, inl, inr, _≢_}
 use mathlib.Core.Bool.{Bool}
 use mathlib.Core.List.{List, map, List·Memᴰ, List·Memᴰ·head, List·Memᴰ·tail, Memᴰ·map, Memᴰ·of-map}
@@ -23,6 +23,7 @@ use Rattle.rules.proofs.Leaders.{groups-length, one-leader}
 use Rattle.rules.proofs.Once.{Once, same-eq}
 use Rattle.rules.proofs.InOut.{once-steps, walkers-count, edge-opposite, either-way}
 use Rattle.rules.proofs.TwoUsers.{eq-same}
+use Rattle.rules.proofs.Wedges.{step-ends, step-between}
 use Rattle.rules.proofs.Splitting.{entry-of, share-sym}
 use Rattle.rules.proofs.Fans.{entries-at-v, share-intro, share-elim, across-elim, across-intro}
 
@@ -136,56 +137,23 @@ module _ (fs : List Face) (v : ℕ) where
 has-edge :
     (f : Face) (v x : ℕ) → x ≢ v → List·Memᴰ v (corners f) → List·Memᴰ x (corners f) → (s : Step) × List·Memᴰ s (steps f) × (edge s ≡ edge (step v x))
 unfolding opposite
-has-edge f v x ne mv mx = go (mem-three mv) (mem-three mx)
+has-edge f v x ne mv mx = go (step-between f v x ne mv mx)
   where
-    Goal : Type 0
-    Goal = (s : Step) × List·Memᴰ s (steps f) × (edge s ≡ edge (step v x))
-
-    ahead : (p q : ℕ) → List·Memᴰ (step p q) (steps f) → v ≡ p → x ≡ q → Goal
-    ahead p q m e d = (step p q, m, ap₂ (λ y z. edge (step y z)) (sym e) (sym d))
-
-    back : (p q : ℕ) → List·Memᴰ (step p q) (steps f) → v ≡ q → x ≡ p → Goal
-    back p q m e d = (step p q, m, ap₂ (λ y z. edge (step y z)) (sym d) (sym e) ∙ edge-opposite (step v x))
-
-    ab : List·Memᴰ (step (f .a) (f .b)) (steps f)
-    ab = List·Memᴰ·head refl
-
-    bc : List·Memᴰ (step (f .b) (f .c)) (steps f)
-    bc = List·Memᴰ·tail (List·Memᴰ·head refl)
-
-    ca : List·Memᴰ (step (f .c) (f .a)) (steps f)
-    ca = List·Memᴰ·tail (List·Memᴰ·tail (List·Memᴰ·head refl))
-
-    go : (v ≡ f .a) ⊎ ((v ≡ f .b) ⊎ (v ≡ f .c)) → (x ≡ f .a) ⊎ ((x ≡ f .b) ⊎ (x ≡ f .c)) → Goal
-    go (inl e) (inl d) = absurd (ne (d ∙ sym e))
-    go (inl e) (inr (inl d)) = ahead (f .a) (f .b) ab e d
-    go (inl e) (inr (inr d)) = back (f .c) (f .a) ca e d
-    go (inr (inl e)) (inl d) = back (f .a) (f .b) ab e d
-    go (inr (inl e)) (inr (inl d)) = absurd (ne (d ∙ sym e))
-    go (inr (inl e)) (inr (inr d)) = ahead (f .b) (f .c) bc e d
-    go (inr (inr e)) (inl d) = ahead (f .c) (f .a) ca e d
-    go (inr (inr e)) (inr (inl d)) = back (f .b) (f .c) bc e d
-    go (inr (inr e)) (inr (inr d)) = absurd (ne (d ∙ sym e))
+    go : List·Memᴰ (step v x) (steps f) ⊎ List·Memᴰ (step x v) (steps f) → (s : Step) × List·Memᴰ s (steps f) × (edge s ≡ edge (step v x))
+    go (inl m) = (step v x, m, refl)
+    go (inr m) = (step x v, m, edge-opposite (step v x))
 
 -- a face that has the edge between two points has both as corners
 edge-corners : (f : Face) (v x : ℕ) (s : Step) → List·Memᴰ s (steps f) → T (same (edge (step v x)) (edge s)) → List·Memᴰ v (corners f) × List·Memᴰ x (corners f)
 unfolding opposite
-edge-corners f v x s m t = way (either-way (step v x) s t)
+edge-corners f v x s m t = way (step-ends f s m) (either-way (step v x) s t)
   where
-    ends : (s ≡ step (f .a) (f .b)) ⊎ ((s ≡ step (f .b) (f .c)) ⊎ (s ≡ step (f .c) (f .a))) → List·Memᴰ (s .from) (corners f) × List·Memᴰ (s .to) (corners f)
-    ends (inl e) = (List·Memᴰ·head (ap (λ z. z .from) e), List·Memᴰ·tail (List·Memᴰ·head (ap (λ z. z .to) e)))
-    ends (inr (inl e)) = (List·Memᴰ·tail (List·Memᴰ·head (ap (λ z. z .from) e)), List·Memᴰ·tail (List·Memᴰ·tail (List·Memᴰ·head (ap (λ z. z .to) e))))
-    ends (inr (inr e)) = (List·Memᴰ·tail (List·Memᴰ·tail (List·Memᴰ·head (ap (λ z. z .from) e))), List·Memᴰ·head (ap (λ z. z .to) e))
+    In : ℕ → Type 0
+    In y = List·Memᴰ y (corners f)
 
-    way : T (same (step v x) s) ⊎ T (same (opposite (step v x)) s) → List·Memᴰ v (corners f) × List·Memᴰ x (corners f)
-    way (inl q) =
-        let e = same-eq (step v x) s q in
-        let w = ends (mem-three m) in
-        (subst (λ y. List·Memᴰ y (corners f)) (sym (e .0)) (w .0), subst (λ y. List·Memᴰ y (corners f)) (sym (e .1)) (w .1))
-    way (inr q) =
-        let e = same-eq (step x v) s q in
-        let w = ends (mem-three m) in
-        (subst (λ y. List·Memᴰ y (corners f)) (sym (e .1)) (w .1), subst (λ y. List·Memᴰ y (corners f)) (sym (e .0)) (w .0))
+    way : In (s .from) × In (s .to) → T (same (step v x) s) ⊎ T (same (opposite (step v x)) s) → In v × In x
+    way w (inl q) = let e = same-eq (step v x) s q in (subst In (sym (e .0)) (w .0), subst In (sym (e .1)) (w .1))
+    way w (inr q) = let e = same-eq (step x v) s q in (subst In (sym (e .1)) (w .1), subst In (sym (e .0)) (w .0))
 
 module _ (fs : List Face) where
   -- the entries of face i

@@ -1,5 +1,5 @@
 -- Demand 3, the statement alone: what holds of every mesh that an accepted repair with all six options returns. To read it takes the rules' words
--- (`specs/`) and the words below, and nothing of any engine. `Demand3.demand3` is its proof, `Called.called3` says it of what the call leaves in its
+-- (`specs/`) and the words below, and nothing of any engine. `Demand3.demand3` proves it, `Called.called3` says it of what the call leaves in its
 -- rooms, `Agreeing` compares its words with those of the passes, and `Teeth` tells which line fails without which pass. In it `T b` says that the test b
 -- passes, `List·Memᴰ x xs` that x is among xs, and `getD xs k 0` is entry k of xs. Definitions only.
 use mathlib.Core.Path.{_≡_}
@@ -101,10 +101,6 @@ pub record Looped (P : ℕ) (fs : List Face) : Type 0 where
 
 -- ---- the demand
 
--- three different corners
-abbrev pub Distinct : Face → Type 0
-Distinct f = (f .a ≢ f .b) × (f .b ≢ f .c) × (f .c ≢ f .a)
-
 -- what holds of the mesh m that a repair returns of the points ps and the faces fs
 pub record Demand3 (ps : List Point) (fs : List Face) (m : State) : Type 0 where
   -- the triples walk each directed edge at most once
@@ -125,13 +121,28 @@ pub record Demand3 (ps : List Point) (fs : List Face) (m : State) : Type 0 where
   pub edges-accepted : (r : EdgesRooms) → Rooms-enough (length (m .points)) (length (m .faces)) r → edges-check (flatPoints (m .points)) (flatFaces (m .faces)) r ≡ ok
   -- and each boundary edge is in exactly one loop
   pub is-looped : Looped (length (m .points)) (m .faces)
-  -- beside the customer's words: every corner is a point, so that its position is one
-  pub corners-inside : (f : Face) → List·Memᴰ f (m .faces) → (f .a < length (m .points)) × (f .b < length (m .points)) × (f .c < length (m .points))
-  -- and no face repeats a corner
-  pub is-distinct : (f : Face) → List·Memᴰ f (m .faces) → Distinct f
 
 -- the demand of every repair that is accepted with these options; all six are 63
 abbrev pub Claim : ℕ → Type 0
 Claim options =
     (points : List Float) (faces : List ℕ) (s : Float) (r : RepairRooms) → repair-check points faces s options r ≡ ok
     → Demand3 (pointsOf points) (facesOf faces) (repaired s options (pointsOf points) (facesOf faces))
+
+-- ---- beside the customer's words
+
+-- three different corners
+abbrev pub Distinct : Face → Type 0
+Distinct f = (f .a ≢ f .b) × (f .b ≢ f .c) × (f .c ≢ f .a)
+
+-- what else holds of the mesh m
+pub record Beside (m : State) : Type 0 where
+  -- every corner is a point, so that its position is one
+  pub corners-inside : (f : Face) → List·Memᴰ f (m .faces) → (f .a < length (m .points)) × (f .b < length (m .points)) × (f .c < length (m .points))
+  -- no face repeats a corner
+  pub is-distinct : (f : Face) → List·Memᴰ f (m .faces) → Distinct f
+
+-- this of every repair that is accepted with these options
+abbrev pub Claim-beside : ℕ → Type 0
+Claim-beside options =
+    (points : List Float) (faces : List ℕ) (s : Float) (r : RepairRooms) → repair-check points faces s options r ≡ ok
+    → Beside (repaired s options (pointsOf points) (facesOf faces))

@@ -1,5 +1,6 @@
--- What each pass is for: on a smallest mesh, the line of demand 3 that fails without it. No line fails without pass 2 or pass 3: the demand is proved
--- without them, and only the answer is another. The options are 63 without the pass's bit: bits 0 to 5 are passes 1, 2, 3, 5, 4, 6. Assumes nothing.
+-- What each pass is for: on a smallest mesh, the line of demand 3 that fails without it. No line fails without pass 1, 2 or 3: the demand is proved
+-- without them. Without pass 1 a face may repeat a corner, and without pass 2 or 3 only the answer is another. The options are 63 without the pass's
+-- bit: bits 0 to 5 are passes 1, 2, 3, 5, 4, 6. Assumes nothing.
 use mathlib.Core.Path.{_≡_, refl}
 use mathlib.Core.Bool.{true, false, not}
 use mathlib.Core.List.{List, [], _∷_, List·Memᴰ·head}
@@ -9,7 +10,7 @@ use lib.ListN.{length, take, replicate}
 use lib.Dec.{lit<}
 use lib.Ieee.{Float}
 use Rattle.rules.specs.Lists.{all, below, count, each}
-use Rattle.rules.specs.Mesh.{Point, Face, face, zero64, pointsOf, facesOf}
+use Rattle.rules.specs.Mesh.{Point, Face, zero64, pointsOf, facesOf}
 use Rattle.rules.specs.Float.{repeats}
 use Rattle.rules.specs.Steps.{step, steps, same}
 use Rattle.rules.specs.State.{State, dropped-at-edges}
@@ -21,8 +22,8 @@ use Rattle.rules.specs.Edges.{no8}
 use Rattle.rules.specs.Calls.{RepairRooms}
 use Rattle.rules.specs.Bench.{legs, origins}
 use Rattle.rules.specs.Open.{every-rule}
-use Rattle.rules.proofs.Demand.{at, Claim, Demand3}
-use Rattle.rules.proofs.Members.{mem-at}
+use Rattle.rules.proofs.Demand.{at, Claim, Claim-beside, Demand3, Beside, Distinct}
+use Rattle.rules.proofs.Rising.{All, all-at}
 use Rattle.rules.proofs.Agreeing.{groups-of-fan}
 use Rattle.rules.proofs.Demand3.{demand-opted}
 
@@ -105,22 +106,26 @@ pub every-used-by-6 :
 unfolding lonely origins every-rule
 every-used-by-6 = (refl, refl)
 
--- ---- so the demand fails without pass 1, 4, 5 or 6, each at its own line, and holds without pass 2 and without pass 3
+-- ---- so the demand fails without pass 4, 5 or 6, each at its own line, and holds without pass 1, 2 or 3
 
--- without pass 1 a face repeats a corner
-pub without1 : Claim 62 → ⊥
+-- without pass 1 a face may repeat a corner
+pub beside-without1 : Claim-beside 62 → ⊥
 unfolding folded origins every-rule
-without1 claim =
-    let d : Demand3 (pointsOf (origins 2)) (facesOf (0 ∷ 0 ∷ 1 ∷ [])) (folded 62) = claim (origins 2) (0 ∷ 0 ∷ 1 ∷ []) zero64 (rooms 2 1) refl in
+beside-without1 claim =
+    let d : Beside (folded 62) = claim (origins 2) (0 ∷ 0 ∷ 1 ∷ []) zero64 (rooms 2 1) refl in
     d .is-distinct (record { a = 0; b = 0; c = 1 }) (List·Memᴰ·head refl) .0 refl
+
+-- and the demand holds
+pub without1 : Claim 62
+without1 = demand-opted false true true
 
 -- without pass 2 the demand holds
 pub without2 : Claim 61
-without2 = demand-opted false true
+without2 = demand-opted true false true
 
 -- without pass 3 the demand holds
 pub without3 : Claim 59
-without3 = demand-opted true false
+without3 = demand-opted true true false
 
 -- without pass 4 a directed edge is walked twice
 pub without4 : Claim 47 → ⊥
@@ -129,18 +134,18 @@ without4 claim =
     let d = claim (take 12 legs) (0 ∷ 1 ∷ 2 ∷ 0 ∷ 1 ∷ 3 ∷ []) zero64 (rooms 4 2) refl in
     absurd (omega (arith, d .each-once (step 0 1), each-once-by-4 .1))
 
--- a mesh of the demand has no point with two fans
-no-two-fans : (ps : List Point) (fs : List Face) (m : State) (v : ℕ) → v < length (m .points) → Demand3 ps fs m → length (fans (m .faces) v) ≡ 2 → ⊥
-unfolding face
-no-two-fans ps fs m v h d e =
-    let l = groups-of-fan (m .faces) v (λ i k. d .is-distinct (face (m .faces) i) (mem-at (m .faces) i (record { a = 0; b = 0; c = 0 }) k)) (d .one-fan v h) in
-    omega (arith, l, e)
-
 -- without pass 5 a point has two fans
 pub without5 : Claim 55 → ⊥
 unfolding pinched legs every-rule
 without5 claim =
-    no-two-fans (pointsOf legs) (facesOf (0 ∷ 1 ∷ 2 ∷ 0 ∷ 3 ∷ 4 ∷ [])) (pinched 55) 0 (lit< tt) (claim legs (0 ∷ 1 ∷ 2 ∷ 0 ∷ 3 ∷ 4 ∷ []) zero64 (rooms 5 2) refl) (one-fan-by-5 .1)
+    no-two-fans (pointsOf legs) (facesOf (0 ∷ 1 ∷ 2 ∷ 0 ∷ 3 ∷ 4 ∷ [])) (pinched 55) 0 (lit< tt)
+    (((λ e. absurd (omega arith)), (λ e. absurd (omega arith)), (λ e. absurd (omega arith))), (((λ e. absurd (omega arith)), (λ e. absurd (omega arith)), (λ e. absurd (omega arith))), tt))
+    (claim legs (0 ∷ 1 ∷ 2 ∷ 0 ∷ 3 ∷ 4 ∷ []) zero64 (rooms 5 2) refl) (one-fan-by-5 .1)
+  where
+    no-two-fans : (ps : List Point) (fs : List Face) (m : State) (v : ℕ) → v < length (m .points) → All Distinct (m .faces) → Demand3 ps fs m → length (fans (m .faces) v) ≡ 2 → ⊥
+    no-two-fans ps fs m v h distinct d e =
+        let l = groups-of-fan (m .faces) v (λ i k. all-at Distinct (m .faces) (record { a = 0; b = 0; c = 0 }) i distinct k) (d .one-fan v h) in
+        omega (arith, l, e)
 
 -- without pass 6 a point is unused
 pub without6 : Claim 31 → ⊥

@@ -37,17 +37,61 @@ enum {
 #define SHELL_MOST_PATCHES 1048576u
 #define SHELL_NO_PATCH 4294967295u
 
-/* Rooms in entries, for P points and F faces. */
+/* Rooms in entries, for P points, F faces and C patches. */
 #define SHELL_WORK_ROOM(P, F) (16 * (size_t)(P) + 64 * (size_t)(F) + 64)
-#define SHELL_LINE_ROOM ((size_t)512)
+#define SHELL_POINTS_ROOM(P, F) (3 * ((size_t)(P) + 3 * (size_t)(F)))
+#define SHELL_FACES_ROOM(F) (3 * (size_t)(F))
+#define SHELL_REPORT_ROOM ((size_t)10)
 #define SHELL_EDGES_ROOM(F) (6 * (size_t)(F))
 #define SHELL_LENGTHS_ROOM(F) (3 * (size_t)(F))
 #define SHELL_FACE_EDGES_ROOM(F) (3 * (size_t)(F))
 #define SHELL_LOOP_VERTICES_ROOM(F) (3 * (size_t)(F))
 #define SHELL_LOOP_ENDS_ROOM(F) (3 * (size_t)(F))
+#define SHELL_FACE_COUNTS_ROOM(C) ((size_t)(C))
+#define SHELL_NUMBERS_ROOM(C) (7 * (size_t)(C))
+#define SHELL_FLAGS_ROOM(C) ((size_t)(C))
+#define SHELL_PATCHES_WORK_ROOM(C) (4 * (size_t)(C))
+#define SHELL_LINE_ROOM ((size_t)512)
+
+/* The options of a repair, added up. The passes run in this order, except that orient_consistently runs before split_bowtie_vertices. */
+enum {
+    SHELL_DROP_DEGENERATE = 1,           /* faces that repeat a corner, or are thin by the threshold s */
+    SHELL_DROP_DUPLICATE_FACES = 2,      /* of faces with the same three corners the first stays */
+    SHELL_RESOLVE_NONMANIFOLD_EDGES = 4, /* of three and more faces on an edge two stay */
+    SHELL_SPLIT_BOWTIE_VERTICES = 8,     /* a point whose faces form several fans is copied */
+    SHELL_ORIENT_CONSISTENTLY = 16,      /* neighbours walk their common edge in opposite directions, or leave */
+    SHELL_DROP_ISOLATED_VERTICES = 32,   /* points that no face uses */
+    SHELL_ALL_OPTIONS = 63
+};
+
+/* The places of a repair's report. */
+enum {
+    SHELL_DEGENERATE_REMOVED = 0,
+    SHELL_DUPLICATE_FACES_REMOVED = 1,
+    SHELL_NONMANIFOLD_EDGES = 2,
+    SHELL_FACES_DROPPED_AT_NONMANIFOLD = 3,
+    SHELL_FACES_DROPPED_FOR_ORIENTATION = 4,
+    SHELL_BOWTIE_VERTICES_SPLIT = 5,
+    SHELL_POINTS_ADDED_BY_SPLITTING = 6,
+    SHELL_FACES_REORIENTED = 7,
+    SHELL_NONORIENTABLE_COMPONENTS = 8,
+    SHELL_ISOLATED_VERTICES_REMOVED = 9
+};
+
+/* The repair, for a degeneracy threshold 0 <= s <= 1 and options: the mended points, the mended faces, and the ten counts of the report. With all
+ * options the edge check says yes to what comes out, and the edge call accepts it. Rooms, in this order: SHELL_POINTS_ROOM(P, F), SHELL_FACES_ROOM(F),
+ * SHELL_REPORT_ROOM, SHELL_WORK_ROOM(P, F). */
+typedef struct {
+    uint32_t number, place;
+    uint64_t points, faces, counts;
+} ShellRepaired;
+
+ShellRepaired shell_repair(const double *points, size_t points_len, const uint32_t *faces, size_t faces_len, double s, uint32_t options,
+                           double *out_points, size_t out_points_len, uint32_t *out_faces, size_t out_faces_len, uint32_t *report, size_t report_len,
+                           uint32_t *work, size_t work_len);
 
 /* The edge call. Edges: two ends each, the lower first, sorted; lengths: one for each edge; face edges: for each face the positions of its edges (1,2),
- * (2,0), (0,1) among them; loop vertices: each boundary loop against its walk; loop ends: where each loop ends, as running totals. Rooms in this order:
+ * (2,0), (0,1) among them; loop vertices: each boundary loop against its walk; loop ends: where each loop ends, as running totals. Rooms, in this order:
  * SHELL_EDGES_ROOM(F), SHELL_LENGTHS_ROOM(F), SHELL_FACE_EDGES_ROOM(F), SHELL_LOOP_VERTICES_ROOM(F), SHELL_LOOP_ENDS_ROOM(F), SHELL_WORK_ROOM(P, F). A
  * work room of zeros, as every accepted call leaves it, is served fastest. */
 typedef struct {
@@ -59,14 +103,7 @@ ShellEdges shell_edges(const double *points, size_t points_len, const uint32_t *
                        size_t lengths_len, uint32_t *face_edges, size_t face_edges_len, uint32_t *loop_vertices, size_t loop_vertices_len,
                        uint32_t *loop_ends, size_t loop_ends_len, uint32_t *work, size_t work_len);
 
-/* Rooms in entries, for C patches, and the bits that set the filter's limits. */
-#define SHELL_FACE_COUNTS_ROOM(C) ((size_t)(C))
-#define SHELL_NUMBERS_ROOM(C) (7 * (size_t)(C))
-#define SHELL_FLAGS_ROOM(C) ((size_t)(C))
-#define SHELL_PATCHES_WORK_ROOM(C) (4 * (size_t)(C))
-enum { SHELL_MIN_FACES = 1, SHELL_MIN_AREA = 2, SHELL_MIN_AABB_DIAGONAL = 4, SHELL_MIN_AREA_FRACTION = 8, SHELL_KEEP_LARGEST_N = 16 };
-
-/* The edge check: `yes` is 1 exactly when no face repeats a corner and every directed edge is used at most once. Work: SHELL_WORK_ROOM(P, F). */
+/* The edge check: `yes` is 1 exactly when no face repeats a corner and every directed edge is used at most once. Room: SHELL_WORK_ROOM(P, F). */
 typedef struct {
     uint32_t number, place;
     uint64_t yes;
@@ -74,13 +111,8 @@ typedef struct {
 
 ShellCheck shell_check(uint64_t point_count, const uint32_t *faces, size_t faces_len, uint32_t *work, size_t work_len);
 
-/* The report line of ten counts, `bytes` long and not ended by a zero of its own. Line: SHELL_LINE_ROOM. */
-typedef struct {
-    uint32_t number, place;
-    uint64_t bytes;
-} ShellLine;
-
-ShellLine shell_line(const uint32_t *counts, size_t counts_len, uint8_t *line, size_t line_len);
+/* The bits that set the filter's limits. */
+enum { SHELL_MIN_FACES = 1, SHELL_MIN_AREA = 2, SHELL_MIN_AABB_DIAGONAL = 4, SHELL_MIN_AREA_FRACTION = 8, SHELL_KEEP_LARGEST_N = 16 };
 
 /* The patch call, from a label for each face: face counts, seven numbers a patch (area, min x y z, max x y z), and the flag 1 for each patch that the
  * filter keeps. `limits` is the sum of the bits of the limits that count; other bits say nothing, and with 0 every patch is kept. A patch is dropped
@@ -96,6 +128,14 @@ ShellPatches shell_patches(const double *points, size_t points_len, const uint32
                            uint64_t patch_count, uint32_t limits, uint64_t min_faces, double min_area, double min_aabb_diagonal,
                            double min_area_fraction, uint64_t keep_largest_n, uint32_t *face_counts, size_t face_counts_len, double *numbers,
                            size_t numbers_len, uint32_t *flags, size_t flags_len, uint32_t *work, size_t work_len);
+
+/* The report line of ten counts, `bytes` long and not ended by a zero of its own. Room: SHELL_LINE_ROOM. */
+typedef struct {
+    uint32_t number, place;
+    uint64_t bytes;
+} ShellLine;
+
+ShellLine shell_line(const uint32_t *counts, size_t counts_len, uint8_t *line, size_t line_len);
 
 #ifdef __cplusplus
 }

@@ -1,6 +1,6 @@
 /* Replays recorded answers through the library: `replay CASES ANSWERS`. The word form is told in tests/cases/FORMAT.md. Every room is lent filled with
- * 0x5a; accepted, it must hold the answer, then zero up to the stated room, then 0x5a; refused, 0x5a everywhere. Calls that the library does not have
- * yet are counted and left out. */
+ * 0x5a; accepted, it must hold the answer, then zero up to the stated room, then 0x5a; refused, 0x5a everywhere. Repair and edges are called once more
+ * with a work room of zeros. */
 #include "shell.h"
 #include <stdio.h>
 #include <stdlib.h>
@@ -65,6 +65,15 @@ static uint32_t *numbers(Row row) {
     return out;
 }
 
+static double *floats(Row row) {
+    double *out = malloc(8 * row.count + 8);
+    for (uint64_t i = 0; out != NULL && i < row.count; i++) {
+        uint64_t bits = entry(row, i);
+        memcpy(out + i, &bits, 8);
+    }
+    return out;
+}
+
 /* A room of n entries that each hold 0x5a in every byte. */
 static void *lent(uint64_t n, size_t size) {
     void *room = malloc(n * size + 8);
@@ -110,51 +119,74 @@ static Recorded recorded(Words *w) {
     return r;
 }
 
-static double *floats(Row row) {
-    double *out = malloc(8 * row.count + 8);
-    for (uint64_t i = 0; out != NULL && i < row.count; i++) {
-        uint64_t bits = entry(row, i);
-        memcpy(out + i, &bits, 8);
-    }
-    return out;
-}
-
-/* With a work room as it is lent, or all zero: both ways to the verdict on 7 and 8. */
-static int replay_edges_in(Words *w, Recorded want, int zero) {
-    Row points = array(w), faces = array(w), rooms = array(w);
-    uint64_t length[6], F = faces.count / 3, stated[6] = {6 * F, 3 * F, 3 * F, 3 * F, 3 * F, SHELL_WORK_ROOM(points.count / 3, F)};
-    size_t size[6] = {4, 8, 4, 4, 4, 4};
-    void *room[6];
-    for (int k = 0; k < 6; k++) {
+/* Rooms of the recorded lengths, each filled with 0x5a; the last, which is the work room, all zero if asked. */
+static void lend(Row rooms, int count, const size_t *size, uint64_t *length, void **room, int zero) {
+    for (int k = 0; k < count; k++) {
         length[k] = entry(rooms, k);
         room[k] = lent(length[k], size[k]);
     }
     if (zero)
-        memset(room[5], 0, length[5] * 4);
+        memset(room[count - 1], 0, length[count - 1] * 4);
+}
+
+/* Whether the rooms of a call, the work room last, are as recorded, with these counts of entries; they are given back. */
+static int returned(Recorded want, int count, const size_t *size, const uint64_t *length, const uint64_t *stated, const uint64_t *entries, void **room,
+                    int zero) {
+    int ok = 1, last = count - 1, accepted = want.number == 0;
+    for (int k = 0; k < last; k++) {
+        Row answer = accepted ? want.row[k] : NOTHING;
+        ok = ok && entries[k] == answer.count && holds(room[k], size[k], length[k], accepted ? stated[k] : 0, answer);
+    }
+    Row zeros = {length[last], 0, NULL};
+    ok = ok && (zero ? holds(room[last], 4, length[last], length[last], zeros) : holds(room[last], 4, length[last], accepted ? stated[last] : 0, NOTHING));
+    for (int k = 0; k < count; k++)
+        free(room[k]);
+    return ok;
+}
+
+static int replay_repair(Words *w, Recorded want, int zero) {
+    uint32_t options = (uint32_t)one(w);
+    uint64_t bits = one(w);
+    double s;
+    memcpy(&s, &bits, 8);
+    Row points = array(w), faces = array(w);
+    uint64_t length[4], P = points.count / 3, F = faces.count / 3;
+    uint64_t stated[4] = {SHELL_POINTS_ROOM(P, F), SHELL_FACES_ROOM(F), SHELL_REPORT_ROOM, SHELL_WORK_ROOM(P, F)};
+    const size_t size[4] = {8, 4, 4, 4};
+    void *room[4];
+    lend(array(w), 4, size, length, room, zero);
+    double *coordinates = floats(points);
+    uint32_t *corners = numbers(faces);
+    ShellRepaired got = shell_repair(coordinates, points.count, corners, faces.count, s, options, room[0], length[0], room[1], length[1], room[2],
+                                     length[2], room[3], length[3]);
+    uint64_t entries[3] = {got.points, got.faces, got.counts};
+    free(coordinates);
+    free(corners);
+    return returned(want, 4, size, length, stated, entries, room, zero) && got.number == want.number && got.place == want.place;
+}
+
+static int replay_edges(Words *w, Recorded want, int zero) {
+    Row points = array(w), faces = array(w);
+    uint64_t length[6], F = faces.count / 3, stated[6] = {6 * F, 3 * F, 3 * F, 3 * F, 3 * F, SHELL_WORK_ROOM(points.count / 3, F)};
+    const size_t size[6] = {4, 8, 4, 4, 4, 4};
+    void *room[6];
+    lend(array(w), 6, size, length, room, zero);
     double *coordinates = floats(points);
     uint32_t *corners = numbers(faces);
     ShellEdges got = shell_edges(coordinates, points.count, corners, faces.count, room[0], length[0], room[1], length[1], room[2], length[2], room[3],
                                  length[3], room[4], length[4], room[5], length[5]);
     uint64_t entries[5] = {got.edges, got.lengths, got.face_edges, got.loop_vertices, got.loop_ends};
-    int ok = got.number == want.number && got.place == want.place;
-    for (int k = 0; k < 5; k++) {
-        Row answer = want.number == 0 ? want.row[k] : NOTHING;
-        ok = ok && entries[k] == answer.count && holds(room[k], size[k], length[k], want.number == 0 ? stated[k] : 0, answer);
-    }
-    Row zeros = {length[5], 0, NULL};
-    ok = ok && (zero ? holds(room[5], 4, length[5], length[5], zeros) : holds(room[5], 4, length[5], want.number == 0 ? stated[5] : 0, NOTHING));
-    for (int k = 0; k < 6; k++)
-        free(room[k]);
     free(coordinates);
     free(corners);
-    return ok;
+    return returned(want, 6, size, length, stated, entries, room, zero) && got.number == want.number && got.place == want.place;
 }
 
-static int replay_edges(Words *w, Recorded want) {
+/* With a work room as it is lent, and all zero: the calls may go two ways. */
+static int both(int (*replay)(Words *, Recorded, int), Words *w, Recorded want) {
     size_t at = w->at;
-    int ok = replay_edges_in(w, want, 0);
+    int ok = replay(w, want, 0);
     w->at = at;
-    return replay_edges_in(w, want, 1) && ok;
+    return replay(w, want, 1) && ok;
 }
 
 static int replay_check(Words *w, Recorded want) {
@@ -183,15 +215,6 @@ static int replay_line(Words *w, Recorded want) {
     free(ten);
     free(line);
     return ok;
-}
-
-static double *floats(Row row) {
-    double *out = malloc(8 * row.count + 8);
-    for (uint64_t i = 0; out != NULL && i < row.count; i++) {
-        uint64_t bits = entry(row, i);
-        memcpy(out + i, &bits, 8);
-    }
-    return out;
 }
 
 /* The recorded box numbers with the sign of each zero as it was found: the Rust may keep either of two zeros. */
@@ -240,41 +263,48 @@ static int replay_patches(Words *w, Recorded want) {
     return ok;
 }
 
+static int replay_one(uint64_t call, Words *w, Recorded want) {
+    switch (call) {
+    case 1:
+        return both(replay_repair, w, want);
+    case 2:
+        return both(replay_edges, w, want);
+    case 3:
+        return replay_check(w, want);
+    case 4:
+        return replay_patches(w, want);
+    case 5:
+        return replay_line(w, want);
+    default:
+        return 0;
+    }
+}
+
 int main(int count, char **names) {
     if (count != 3) {
         fprintf(stderr, "usage: replay CASES ANSWERS\n");
         return 2;
     }
     Words cases = load(names[1]), answers = load(names[2]);
-    unsigned long same = 0, different = 0, left_out = 0;
+    unsigned long same[6] = {0}, different = 0;
     for (unsigned long k = 0; cases.at < cases.count; k++) {
         uint64_t call = one(&cases), end = one(&cases);
         end += cases.at;
         one(&answers);
         uint64_t after = one(&answers);
         after += answers.at;
-        Recorded want = recorded(&answers);
-        int ok = 1;
-        if (call == 2)
-            ok = replay_edges(&cases, want);
-        else if (call == 3)
-            ok = replay_check(&cases, want);
-        else if (call == 4)
-            ok = replay_patches(&cases, want);
-        else if (call == 5)
-            ok = replay_line(&cases, want);
-        else
-            left_out++;
-        if (!ok) {
+        if (replay_one(call, &cases, recorded(&answers)))
+            same[call]++;
+        else {
             different++;
             printf("case %lu of call %lu differs\n", k, (unsigned long)call);
-        } else if (call >= 2 && call <= 5)
-            same++;
+        }
         cases.at = end;
         answers.at = after;
     }
     free(cases.words);
     free(answers.words);
-    printf("replay: %lu as recorded, %lu different, %lu of calls that are not here yet\n", same, different, left_out);
-    return different != 0 || same == 0;
+    printf("replay: as recorded repair %lu, edges %lu, check %lu, patches %lu, line %lu; different %lu\n", same[1], same[2], same[3], same[4], same[5],
+           different);
+    return different != 0 || !(same[1] && same[2] && same[3] && same[4] && same[5]);
 }

@@ -1,63 +1,79 @@
-/* The panel builder's way to call the library: is this shell sound, which edges does it have, where is its boundary, and what does a report say? */
+/* The panel builder's way to call the library: mend a shell, say what was done, check it, list its edges and its boundary, and sort its patches. */
 #include "shell.h"
 #include <stdio.h>
-#include <stdlib.h>
+
+/* Rooms for shells of up to 5 points and 5 faces. A repair may add 3 points a face, so the calls after it want a work room for that many. */
+enum { P = 5, F = 5, MOST = P + 3 * F };
+static double mended[SHELL_POINTS_ROOM(P, F)], lengths[SHELL_LENGTHS_ROOM(F)];
+static uint32_t triples[SHELL_FACES_ROOM(F)], report[SHELL_REPORT_ROOM], work[SHELL_WORK_ROOM(MOST, F)];
+static uint32_t edges[SHELL_EDGES_ROOM(F)], face_edges[SHELL_FACE_EDGES_ROOM(F)], loop_vertices[SHELL_LOOP_VERTICES_ROOM(F)], loop_ends[SHELL_LOOP_ENDS_ROOM(F)];
+#define ROOM(room) room, sizeof room / sizeof *room
+
+static int refused(const char *call, uint32_t number, uint32_t place) {
+    printf("%s: refused %u at %u\n", call, number, place);
+    return 1;
+}
+
+/* Edges with their lengths, and the boundary loops, each against its walk. */
+static int list_edges(const double *points, size_t points_len, const uint32_t *faces, size_t faces_len) {
+    ShellEdges found = shell_edges(points, points_len, faces, faces_len, ROOM(edges), ROOM(lengths), ROOM(face_edges), ROOM(loop_vertices), ROOM(loop_ends),
+                                   ROOM(work));
+    if (found.number != SHELL_ACCEPTED)
+        return refused("edges", found.number, found.place);
+    printf("  edges");
+    for (size_t i = 0; i < found.lengths; i++)
+        printf("%s %u-%u %.3f", i == 0 ? "" : ",", edges[2 * i], edges[2 * i + 1], lengths[i]);
+    printf("\n");
+    for (size_t i = 0, k = 0; i < found.loop_ends; i++) {
+        printf("  loop");
+        for (; k < loop_ends[i]; k++)
+            printf(" %u", loop_vertices[k]);
+        printf("\n");
+    }
+    return 0;
+}
+
+/* A repair with every pass, its report as a line, and the calls that want a mended shell. */
+static int mend(const char *name, const double *points, size_t points_len, const uint32_t *faces, size_t faces_len) {
+    ShellRepaired repaired = shell_repair(points, points_len, faces, faces_len, 1e-12, SHELL_ALL_OPTIONS, ROOM(mended), ROOM(triples), ROOM(report), ROOM(work));
+    if (repaired.number != SHELL_ACCEPTED)
+        return refused("repair", repaired.number, repaired.place);
+    printf("%s: %u points, %u faces\n  faces", name, (unsigned)repaired.points / 3, (unsigned)repaired.faces / 3);
+    for (size_t i = 0; i < repaired.faces; i++)
+        printf("%s %u", i % 3 == 0 && i > 0 ? "," : "", triples[i]);
+
+    uint8_t line[SHELL_LINE_ROOM];
+    ShellLine written = shell_line(ROOM(report), ROOM(line));
+    if (written.number != SHELL_ACCEPTED)
+        return refused("line", written.number, written.place);
+    printf("\n  %.*s\n", (int)written.bytes, (const char *)line);
+
+    ShellCheck sound = shell_check(repaired.points / 3, triples, repaired.faces, ROOM(work));
+    if (sound.number != SHELL_ACCEPTED)
+        return refused("check", sound.number, sound.place);
+    printf("  sound: %s\n", sound.yes ? "yes" : "no");
+    return sound.yes != 1 || list_edges(mended, repaired.points, triples, repaired.faces);
+}
 
 /* Two patches of two faces, a square of side 1 and one of side 3: which of them is the part, by area? */
 static int patches(void) {
     const double points[] = {0, 0, 0, 1, 0, 0, 1, 1, 0, 0, 1, 0, 5, 0, 0, 8, 0, 0, 8, 3, 0, 5, 3, 0};
     const uint32_t faces[] = {0, 1, 2, 0, 2, 3, 4, 5, 6, 4, 6, 7}, labels[] = {0, 0, 1, 1};
-    uint32_t face_counts[2], flags[2], work[SHELL_PATCHES_WORK_ROOM(2)];
+    uint32_t face_counts[SHELL_FACE_COUNTS_ROOM(2)], flags[SHELL_FLAGS_ROOM(2)], patch_work[SHELL_PATCHES_WORK_ROOM(2)];
     double numbers[SHELL_NUMBERS_ROOM(2)];
-    ShellPatches found = shell_patches(points, 24, faces, 12, labels, 4, 2, SHELL_KEEP_LARGEST_N, 0, 0, 0, 0, 1, face_counts, 2, numbers, 14, flags, 2,
-                                       work, SHELL_PATCHES_WORK_ROOM(2));
+    ShellPatches found = shell_patches(ROOM(points), ROOM(faces), ROOM(labels), 2, SHELL_KEEP_LARGEST_N, 0, 0, 0, 0, 1, ROOM(face_counts), ROOM(numbers),
+                                       ROOM(flags), ROOM(patch_work));
     if (found.number != SHELL_ACCEPTED)
-        return 1;
+        return refused("patches", found.number, found.place);
     for (size_t k = 0; k < found.flags; k++)
         printf("patch %zu: %u faces, area %g, %s\n", k, face_counts[k], numbers[7 * k], flags[k] ? "kept" : "dropped");
     return 0;
 }
 
 int main(void) {
-    /* Two faces of a shell of four points, which walk their common edge in opposite directions. */
-    const uint32_t faces[] = {0, 1, 2, 0, 2, 3};
-    const size_t points = 4, corners = sizeof faces / sizeof *faces;
-    const size_t room = SHELL_WORK_ROOM(points, corners / 3);
-    uint32_t *work = malloc(room * sizeof *work);
-    if (work == NULL)
-        return 1;
-
-    ShellCheck sound = shell_check(points, faces, corners, work, room);
-    if (sound.number != SHELL_ACCEPTED) {
-        printf("refused %u at %u\n", sound.number, sound.place);
-        return 1;
-    }
-    printf("sound: %s\n", sound.yes ? "yes" : "no");
-
-    const double coordinates[] = {0, 0, 0, 1, 0, 0, 1, 1, 0, 0, 1, 0};
-    uint32_t edges[SHELL_EDGES_ROOM(2)], face_edges[SHELL_FACE_EDGES_ROOM(2)], loop_vertices[SHELL_LOOP_VERTICES_ROOM(2)], loop_ends[SHELL_LOOP_ENDS_ROOM(2)];
-    double lengths[SHELL_LENGTHS_ROOM(2)];
-    ShellEdges found = shell_edges(coordinates, 3 * points, faces, corners, edges, SHELL_EDGES_ROOM(2), lengths, SHELL_LENGTHS_ROOM(2), face_edges,
-                                   SHELL_FACE_EDGES_ROOM(2), loop_vertices, SHELL_LOOP_VERTICES_ROOM(2), loop_ends, SHELL_LOOP_ENDS_ROOM(2), work, room);
-    free(work);
-    if (found.number != SHELL_ACCEPTED) {
-        printf("refused %u at %u\n", found.number, found.place);
-        return 1;
-    }
-    for (size_t i = 0; i < found.lengths; i++)
-        printf("edge %u %u, %.3f long\n", edges[2 * i], edges[2 * i + 1], lengths[i]);
-    for (size_t i = 0, k = 0; i < found.loop_ends; i++) {
-        printf("loop");
-        for (; k < loop_ends[i]; k++)
-            printf(" %u", loop_vertices[k]);
-        printf("\n");
-    }
-
-    const uint32_t counts[10] = {0, 0, 1, 1, 0, 0, 0, 1, 0, 1};
-    uint8_t line[SHELL_LINE_ROOM];
-    ShellLine written = shell_line(counts, 10, line, sizeof line);
-    if (written.number != SHELL_ACCEPTED)
-        return 1;
-    printf("%.*s\n", (int)written.bytes, (const char *)line);
-    return patches();
+    const double cross[] = {0, 0, 0, 1, 0, 0, 0, 1, 0, -1, 0, 0, 0, -1, 0}, legs[] = {0, 0, 0, 1, 0, 0, 0, 1, 0, 0, -1, 0, 0, 0, 1},
+                 cube[] = {0, 0, 0, 1, 0, 0, 0, 1, 0, 0, 0, 1, 1, 1, 1};
+    const uint32_t bowtie[] = {0, 1, 2, 0, 3, 4}, crowded[] = {0, 1, 2, 0, 1, 3, 0, 1, 4}, moebius[] = {0, 1, 2, 1, 2, 3, 2, 3, 4, 3, 4, 0, 4, 0, 1};
+    return mend("bowtie", ROOM(cross), ROOM(bowtie)) || mend("three faces on an edge", ROOM(legs), ROOM(crowded)) ||
+           mend("Moebius strip", ROOM(cube), ROOM(moebius)) || patches();
 }

@@ -1,0 +1,343 @@
+/* The chain repair, check, edges on damaged meshes, from a fixed seed: `chain MESHES`. After a repair with all six options each mesh must be what is
+ * proved of it: the check says yes, the edge call accepts, each boundary edge stands in exactly one loop, each directed edge is walked at most once,
+ * every point is used and has one fan, each face is an input face in input order, and the counts add up. The first mesh that differs is printed. */
+#include "shell.h"
+#include <stdio.h>
+#include <stdlib.h>
+#include <string.h>
+
+enum { MOST_POINTS = 64, MOST_FACES = 160 };
+
+typedef struct {
+    double points[3 * MOST_POINTS], s;
+    uint32_t faces[3 * MOST_FACES];
+    size_t P, F;
+} Mesh;
+
+/* The rooms of the three calls, and how many entries stand in them. */
+typedef struct {
+    double *points, *lengths;
+    uint32_t *faces, *report, *work, *edges, *face_edges, *loop_vertices, *loop_ends;
+    ShellRepaired repaired;
+    ShellEdges found;
+} Rooms;
+
+static uint64_t state = 20261115;
+
+/* A number below n, by xorshift. */
+static uint32_t below(uint32_t n) {
+    state ^= state << 13;
+    state ^= state >> 7;
+    state ^= state << 17;
+    return (uint32_t)((state >> 32) % n);
+}
+
+/* A room of exactly n entries, so that a step beyond it is seen; never of size 0. */
+static void *room(size_t n, size_t size) {
+    void *out = malloc(n == 0 ? 1 : n * size);
+    if (out == NULL)
+        exit(2);
+    memset(out, 0x5a, n * size);
+    return out;
+}
+
+static void add(Mesh *m, uint32_t a, uint32_t b, uint32_t c) {
+    if (m->F == MOST_FACES)
+        return;
+    uint32_t *face = m->faces + 3 * m->F++;
+    face[0] = a;
+    face[1] = b;
+    face[2] = c;
+}
+
+/* Faces over few points, with any corners. */
+static void any_faces(Mesh *m) {
+    m->P = 1 + below(9);
+    for (uint32_t n = below(25); n > 0; n--) {
+        uint32_t a = below(m->P), b = below(m->P), c = below(m->P);
+        add(m, a, b, c);
+    }
+}
+
+/* A strip, open or closed to a ring or a Moebius strip. */
+static void strip(Mesh *m) {
+    uint32_t n = 3 + below(20), closed = below(2);
+    m->P = closed ? n : n + 2;
+    for (uint32_t i = 0; i < n; i++)
+        add(m, (i + i % 2) % m->P, (i + 1 - i % 2) % m->P, (i + 2) % m->P);
+}
+
+/* A grid of squares, each of two faces. */
+static void grid(Mesh *m) {
+    uint32_t across = 1 + below(7), down = 1 + below(7), row = across + 1;
+    m->P = row * (down + 1);
+    for (uint32_t i = 0; i < across * down; i++) {
+        uint32_t v = i / across * row + i % across;
+        add(m, v, v + 1, v + row);
+        add(m, v + 1, v + row + 1, v + row);
+    }
+}
+
+/* Fans around one point, each of a few faces, and some of them closed. */
+static void fans(Mesh *m) {
+    m->P = 1;
+    for (uint32_t n = 1 + below(5); n > 0; n--) {
+        uint32_t first = m->P, faces = 1 + below(5);
+        for (uint32_t i = 0; i < faces; i++)
+            add(m, 0, first + i, first + i + 1);
+        m->P += faces + 1;
+        if (below(2))
+            add(m, 0, first + faces, first);
+    }
+}
+
+/* Tetrahedra on random points, so that they meet in points, in edges and in faces. */
+static void bodies(Mesh *m) {
+    m->P = 4 + below(12);
+    for (uint32_t n = 1 + below(6); n > 0; n--) {
+        uint32_t a = below(m->P), b = below(m->P), c = below(m->P), d = below(m->P);
+        add(m, a, b, c);
+        add(m, a, d, b);
+        add(m, b, d, c);
+        add(m, c, d, a);
+    }
+}
+
+/* One point takes the place of another in every face. */
+static void merge(Mesh *m, uint32_t from, uint32_t to) {
+    for (size_t i = 0; i < 3 * m->F; i++)
+        if (m->faces[i] == from)
+            m->faces[i] = to;
+}
+
+/* One kind of damage: corners exchanged, a face twice, a face that repeats a corner, a wrong corner, two points as one, one more face on an edge. */
+static void damage(Mesh *m) {
+    uint32_t *face = m->faces + 3 * below(m->F), kind = below(6), v = below(m->P), u = below(m->P), k = below(3), held = face[1];
+    switch (kind) {
+    case 0:
+        face[1] = face[2];
+        face[2] = held;
+        break;
+    case 1:
+        add(m, face[k], face[(k + 1) % 3], face[(k + 2) % 3]);
+        add(m, face[2], face[1], face[0]);
+        break;
+    case 2:
+        face[k] = face[(k + 1) % 3];
+        break;
+    case 3:
+        face[k] = v;
+        break;
+    case 4:
+        merge(m, v, u);
+        break;
+    default:
+        add(m, face[0], face[1], v);
+    }
+}
+
+/* A damaged mesh; its points are whole numbers or fractions, and some of them are equal. */
+static Mesh damaged(void) {
+    static void (*const kinds[])(Mesh *) = {any_faces, strip, grid, fans, bodies};
+    static const double thresholds[] = {0, 1e-12, 1.0 / 1024, 0.25};
+    Mesh m = {{0}, thresholds[below(4)], {0}, 0, 0};
+    kinds[below(5)](&m);
+    for (uint32_t n = below(8); n > 0 && m.F > 0; n--)
+        damage(&m);
+    uint32_t wide = below(2) ? 7 : 1000;
+    for (size_t i = 0; i < 3 * m.P; i++)
+        m.points[i] = ((double)below(wide) - wide / 2) / (wide == 7 ? 1 : 64);
+    return m;
+}
+
+/* A bowtie, three faces on an edge, and a Moebius strip. */
+static Mesh plain(size_t which) {
+    static const Mesh three[] = {
+        {{0, 0, 0, 1, 0, 0, 0, 1, 0, -1, 0, 0, 0, -1, 0}, 1e-12, {0, 1, 2, 0, 3, 4}, 5, 2},
+        {{0, 0, 0, 1, 0, 0, 0, 1, 0, 0, -1, 0, 0, 0, 1}, 1e-12, {0, 1, 2, 0, 1, 3, 0, 1, 4}, 5, 3},
+        {{0, 0, 0, 1, 0, 0, 0, 1, 0, 0, 0, 1, 1, 1, 1}, 1e-12, {0, 1, 2, 1, 2, 3, 2, 3, 4, 3, 4, 0, 4, 0, 1}, 5, 5}};
+    return three[which];
+}
+
+static void print(const Mesh *m) {
+    printf("threshold %a\n", m->s);
+    for (size_t i = 0; i < m->P; i++)
+        printf("point %a %a %a\n", m->points[3 * i], m->points[3 * i + 1], m->points[3 * i + 2]);
+    for (size_t i = 0; i < m->F; i++)
+        printf("face %u %u %u\n", m->faces[3 * i], m->faces[3 * i + 1], m->faces[3 * i + 2]);
+}
+
+/* The edge call in rooms that are just large enough, with the work room of the repair before it. */
+static void find_edges(Rooms *r, const double *points, size_t P, const uint32_t *faces, size_t F) {
+    r->edges = room(SHELL_EDGES_ROOM(F), 4);
+    r->lengths = room(SHELL_LENGTHS_ROOM(F), 8);
+    r->face_edges = room(SHELL_FACE_EDGES_ROOM(F), 4);
+    r->loop_vertices = room(SHELL_LOOP_VERTICES_ROOM(F), 4);
+    r->loop_ends = room(SHELL_LOOP_ENDS_ROOM(F), 4);
+    r->found = shell_edges(points, 3 * P, faces, 3 * F, r->edges, SHELL_EDGES_ROOM(F), r->lengths, SHELL_LENGTHS_ROOM(F), r->face_edges,
+                           SHELL_FACE_EDGES_ROOM(F), r->loop_vertices, SHELL_LOOP_VERTICES_ROOM(F), r->loop_ends, SHELL_LOOP_ENDS_ROOM(F), r->work,
+                           SHELL_WORK_ROOM(P, F));
+}
+
+static void free_edges(Rooms *r) {
+    free(r->edges);
+    free(r->lengths);
+    free(r->face_edges);
+    free(r->loop_vertices);
+    free(r->loop_ends);
+}
+
+/* Whether the mesh is accepted as it is, by the check and the edge call. */
+static int accepted(const Mesh *m) {
+    Rooms r = {.work = room(SHELL_WORK_ROOM(m->P, m->F), 4)};
+    ShellCheck check = shell_check(m->P, m->faces, 3 * m->F, r.work, SHELL_WORK_ROOM(m->P, m->F));
+    find_edges(&r, m->points, m->P, m->faces, m->F);
+    free_edges(&r);
+    free(r.work);
+    return check.yes && r.found.number == SHELL_ACCEPTED;
+}
+
+/* The two sums of the report: faces and points. */
+static int adds_up(const Mesh *m, const uint32_t *report, size_t P, size_t F) {
+    uint32_t removed = report[SHELL_DEGENERATE_REMOVED] + report[SHELL_DUPLICATE_FACES_REMOVED] + report[SHELL_FACES_DROPPED_AT_NONMANIFOLD] +
+                       report[SHELL_FACES_DROPPED_FOR_ORIENTATION];
+    return m->F == F + removed && m->P + report[SHELL_POINTS_ADDED_BY_SPLITTING] == P + report[SHELL_ISOLATED_VERTICES_REMOVED];
+}
+
+/* Whether a face of the output stands where the input's does, corners 1 and 2 exchanged or not. */
+static int stands(const Mesh *m, const uint32_t *was, const double *points, const uint32_t *is) {
+    int same = 1, exchanged = 1;
+    for (int k = 0; k < 3; k++) {
+        same = same && memcmp(m->points + 3 * was[k], points + 3 * is[k], 24) == 0;
+        exchanged = exchanged && memcmp(m->points + 3 * was[k], points + 3 * is[(3 - k) % 3], 24) == 0;
+    }
+    return same || exchanged;
+}
+
+/* Whether the faces of the output are input faces, in input order. */
+static int in_order(const Mesh *m, const Rooms *r, size_t F) {
+    size_t k = 0;
+    for (size_t i = 0; i < m->F && k < F; i++)
+        if (stands(m, m->faces + 3 * i, r->points, r->faces + 3 * k))
+            k++;
+    return k == F;
+}
+
+static int has(const uint32_t *face, uint32_t v) { return face[0] == v || face[1] == v || face[2] == v; }
+
+/* Whether two faces with the corner v share another one. */
+static int joined(const uint32_t *one, const uint32_t *other, uint32_t v) {
+    return (one[0] != v && has(other, one[0])) || (one[1] != v && has(other, one[1])) || (one[2] != v && has(other, one[2]));
+}
+
+/* Whether v has faces and they are one fan: from the first of them every other is reached over shared edges at v. */
+static int one_fan(const uint32_t *faces, size_t F, uint32_t v) {
+    const uint32_t *at[MOST_FACES];
+    size_t count = 0, reached = 1;
+    for (size_t i = 0; i < F; i++)
+        if (has(faces + 3 * i, v))
+            at[count++] = faces + 3 * i;
+    for (size_t i = 0; i < reached && reached < count; i++)
+        for (size_t j = reached; j < count; j++)
+            if (joined(at[i], at[j], v)) {
+                const uint32_t *face = at[j];
+                at[j] = at[reached];
+                at[reached++] = face;
+            }
+    return count > 0 && reached == count;
+}
+
+/* How often the faces step from a to b, in a table of P rows. */
+static unsigned char *steps(const uint32_t *faces, size_t P, size_t F) {
+    unsigned char *table = calloc(P * P + 1, 1);
+    if (table == NULL)
+        exit(2);
+    for (size_t i = 0; i < 3 * F; i++)
+        table[faces[i] * P + faces[i % 3 == 2 ? i - 2 : i + 1]]++;
+    return table;
+}
+
+/* How often the loops do: each is listed against its walk. */
+static unsigned char *loop_steps(const Rooms *r, size_t P) {
+    unsigned char *table = calloc(P * P + 1, 1);
+    if (table == NULL)
+        exit(2);
+    for (size_t i = 0, k = 0; i < r->found.loop_ends; i++)
+        for (size_t first = k; k < r->loop_ends[i]; k++)
+            table[r->loop_vertices[k] * P + r->loop_vertices[k == first ? r->loop_ends[i] - 1 : k - 1]]++;
+    return table;
+}
+
+/* Whether each directed edge is walked at most once, and stands once in the loops if its opposite is not walked, and else nowhere. */
+static int looped(const Rooms *r, size_t P, size_t F, uint64_t *boundary) {
+    unsigned char *walked = steps(r->faces, P, F), *in_loops = loop_steps(r, P);
+    int ok = 1;
+    for (size_t a = 0; a < P; a++)
+        for (size_t b = 0; b < P; b++) {
+            int is = walked[a * P + b] == 1 && walked[b * P + a] == 0;
+            ok = ok && walked[a * P + b] <= (a != b) && in_loops[a * P + b] == is;
+            *boundary += is;
+        }
+    free(walked);
+    free(in_loops);
+    return ok;
+}
+
+/* What differs from what is proved of the output, or NULL. */
+static const char *fault(const Mesh *m, Rooms *r, uint64_t *boundary) {
+    if (r->repaired.number != SHELL_ACCEPTED || r->repaired.counts != SHELL_REPORT_ROOM)
+        return "the repair refuses";
+    size_t P = r->repaired.points / 3, F = r->repaired.faces / 3;
+    if (!adds_up(m, r->report, P, F))
+        return "the counts do not add up";
+    if (!in_order(m, r, F))
+        return "a face is no input face";
+    for (uint32_t v = 0; v < P; v++)
+        if (!one_fan(r->faces, F, v))
+            return "a point has not one fan";
+    ShellCheck check = shell_check(P, r->faces, 3 * F, r->work, SHELL_WORK_ROOM(P, F));
+    if (check.number != SHELL_ACCEPTED || check.yes != 1)
+        return "the check says no";
+    find_edges(r, r->points, P, r->faces, F);
+    if (r->found.number != SHELL_ACCEPTED)
+        return "the edge call refuses";
+    return looped(r, P, F, boundary) ? NULL : "a boundary edge is not in one loop";
+}
+
+/* Repairs the mesh, and says what differs after it. */
+static const char *chain(const Mesh *m, uint64_t *boundary, uint64_t *loops) {
+    size_t P = m->P, F = m->F, most = SHELL_WORK_ROOM(P + 3 * F, F);
+    Rooms r = {.points = room(SHELL_POINTS_ROOM(P, F), 8), .faces = room(SHELL_FACES_ROOM(F), 4), .report = room(SHELL_REPORT_ROOM, 4), .work = room(most, 4)};
+    r.repaired = shell_repair(m->points, 3 * P, m->faces, 3 * F, m->s, SHELL_ALL_OPTIONS, r.points, SHELL_POINTS_ROOM(P, F), r.faces, SHELL_FACES_ROOM(F),
+                              r.report, SHELL_REPORT_ROOM, r.work, most);
+    const char *found = fault(m, &r, boundary);
+    *loops += r.found.loop_ends;
+    free_edges(&r);
+    free(r.points);
+    free(r.faces);
+    free(r.report);
+    free(r.work);
+    return found;
+}
+
+int main(int count, char **names) {
+    if (count != 2) {
+        fprintf(stderr, "usage: chain MESHES\n");
+        return 2;
+    }
+    unsigned long meshes = strtoul(names[1], NULL, 10), refused = 0;
+    uint64_t boundary = 0, loops = 0;
+    for (unsigned long k = 0; k < meshes; k++) {
+        Mesh m = k < 3 ? plain(k) : damaged();
+        const char *found = chain(&m, &boundary, &loops);
+        if (found != NULL) {
+            printf("chain: mesh %lu: %s\n", k, found);
+            print(&m);
+            return 1;
+        }
+        refused += !accepted(&m);
+    }
+    printf("chain: %lu meshes, %lu of them refused before the repair; after it %lu boundary edges in %lu loops\n", meshes, refused, (unsigned long)boundary,
+           (unsigned long)loops);
+    return 0;
+}

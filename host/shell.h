@@ -79,8 +79,8 @@ enum {
 };
 
 /* The repair, for a degeneracy threshold 0 <= s <= 1 and options: the mended points, the mended faces, and the ten counts of the report. With all
- * options the edge check says yes to what comes out, and the edge call accepts it. Rooms, in this order: SHELL_POINTS_ROOM(P, F), SHELL_FACES_ROOM(F),
- * SHELL_REPORT_ROOM, SHELL_WORK_ROOM(P, F). */
+ * options no face that comes out repeats a corner and no directed edge is walked twice, so the edge check says yes; and the edge call accepts it. What
+ * comes out may have up to P + 3F points. Rooms, in this order: SHELL_POINTS_ROOM(P, F), SHELL_FACES_ROOM(F), SHELL_REPORT_ROOM, SHELL_WORK_ROOM(P, F). */
 typedef struct {
     uint32_t number, place;
     uint64_t points, faces, counts;

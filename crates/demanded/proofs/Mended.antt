@@ -1,0 +1,48 @@
+-- Demand 3 in the words of the repair's own contract: an accepted `repair` with options 63 leaves in its rooms lists for which it holds. Assumes nothing.
+use mathlib.Core.Path.{_≡_, ap, subst, sym}
+use mathlib.Core.List.{List, [], _∷_}
+use Prim.Native.Nat.{ℕ, _/_}
+use lib.ListN.{length, take}
+use lib.Ieee.{Float}
+use Rattle.rules.specs.Mesh.{pointsOf, facesOf}
+use Rattle.rules.specs.State.{State}
+use Rattle.rules.specs.Rooms.{accepted}
+use Rattle.rules.specs.Calls.{EdgesRooms, repair, find-edges}
+use Rattle.rules.proofs.Demand.{Demand3, Beside, Looped, Rooms-enough}
+use Rattle.rules.proofs.Called.{Called3, called3, left}
+use Rattle.repair.specs.declared.Repaired.the-variants.{Done}
+use Rattle.repair.specs.Answers.{roomsOf, outcomeOf}
+
+-- the mesh that stands in the rooms: a numbers of points, b numbers of faces, and the ten counts
+abbrev pub standing : ℕ → ℕ → List Float → List ℕ → List ℕ → State
+standing a b ps xs rs = record { points = pointsOf (take a ps); faces = facesOf (take b xs); report = take 10 rs }
+
+module _ (points : List Float) (faces : List ℕ) (s : Float) (ps : List Float) (xs rs w : List ℕ) {ps′ : List Float} {xs′ rs′ w′ : List ℕ} {a b : ℕ}
+    (e : outcomeOf (Done a b) ps′ xs′ rs′ w′ ≡ repair points faces s 63 (roomsOf ps xs rs w)) where
+  -- the rules' word on the call
+  said : Called3 points faces s (roomsOf ps xs rs w) (a ∷ b ∷ 10 ∷ [])
+  said = called3 points faces s (roomsOf ps xs rs w) (a ∷ b ∷ 10 ∷ []) (ap (λ o. o .answer) (sym e))
+
+  -- what stands in the rooms is what the rules speak of
+  standing-is : standing a b ps′ xs′ rs′ ≡ left points faces s (roomsOf ps xs rs w) (a ∷ b ∷ 10 ∷ [])
+  standing-is = ap (λ o. standing a b (o .rooms .points) (o .rooms .faces) (o .rooms .report)) e
+
+  -- demand 3 holds of it
+  pub demanded : Demand3 (pointsOf points) (facesOf faces) (standing a b ps′ xs′ rs′)
+  demanded = subst (Demand3 (pointsOf points) (facesOf faces)) (sym standing-is) (said .holds)
+
+  -- its corners are points, and no face repeats one
+  pub demanded-beside : Beside (standing a b ps′ xs′ rs′)
+  demanded-beside = subst Beside (sym standing-is) (said .beside)
+
+  -- given enough room, the rules' edge call accepts it
+  pub demanded-edges :
+      (q : EdgesRooms) → Rooms-enough (length (take a ps′) / 3) (length (take b xs′) / 3) q
+      → (k : List ℕ) × (find-edges (take a ps′) (take b xs′) q .answer ≡ accepted k)
+  demanded-edges =
+      subst (λ o. (q : EdgesRooms) → Rooms-enough (length (take a (o .rooms .points)) / 3) (length (take b (o .rooms .faces)) / 3) q
+      → (k : List ℕ) × (find-edges (take a (o .rooms .points)) (take b (o .rooms .faces)) q .answer ≡ accepted k)) (sym e) (said .edge-call)
+
+  -- each boundary edge of it is in exactly one loop
+  pub demanded-loops : Looped (length (take a ps′) / 3) (facesOf (take b xs′))
+  demanded-loops = subst (λ o. Looped (length (take a (o .rooms .points)) / 3) (facesOf (take b (o .rooms .faces)))) (sym e) (said .edge-loops)

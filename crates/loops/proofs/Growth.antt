@@ -20,7 +20,7 @@ use Rattle.rules.proofs.Counting.{count-append, count-some, count-two}
 use Rattle.rules.proofs.Returns.{times-on}
 use Rattle.rules.proofs.Pigeons.{fewer}
 use Rattle.rules.proofs.Along.{loop-steps, down, reverse-down, mem-down}
-use Rattle.rules.proofs.Next.{Simple, On, end-on, next-on, next-back, turn-within, turn-back, turn-apart}
+use Rattle.rules.proofs.Next.{Simple, On, next-on, next-back, turn-within, turn-back, turn-apart}
 use Rattle.rules.proofs.Growing.{vertices, Closes, all-good}
 use Rattle.rules.proofs.Loops.{edges-of, to-loops}
 use Rattle.loops.specs.Loops.{onward, left, loopsTo, endsOf}
@@ -123,18 +123,6 @@ module _ (b : List Step) (simple : Simple b) where
       (all-map (λ x. List·Memᴰ x (map (λ s. s .to) b)) (λ s. s .to) (each loop-steps ls)
       (all-imp (λ t. List·Memᴰ t b) (λ t. List·Memᴰ (t .to) (map (λ s. s .to) b)) (λ t k. Memᴰ·map (λ s. s .to) k) (each loop-steps ls) (edges-of b ls (all-good b simple v .closes)))))
       m
-
-  -- so one begins there
-  pub vertex-on : (v u : ℕ) → List·Memᴰ u (vertices (loopsTo b v)) → On b u
-  vertex-on v u m =
-      all-in (On b) u (vertices ls)
-      (subst (All (On b)) (to-loops ls)
-      (all-map (On b) (λ s. s .to) (each loop-steps ls)
-      (all-imp (λ t. List·Memᴰ t b) (λ t. On b (t .to)) (end-on b simple) (each loop-steps ls) (edges-of b ls (all-good b simple v .closes)))))
-      m
-    where
-      ls : List (List ℕ)
-      ls = loopsTo b v
 
   -- no more than edges
   pub vertices-fit : (v : ℕ) → length (vertices (loopsTo b v)) ≤ length b

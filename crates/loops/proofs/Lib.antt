@@ -10,5 +10,3 @@ pub mod Adding
 pub mod Tracing
 -- `Rooms` has the two rooms once their rest is cleared.
 pub mod Rooms
--- `Vertices` has that the loops' vertices are those of the boundary.
-pub mod Vertices

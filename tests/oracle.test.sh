@@ -1,5 +1,6 @@
 #!/usr/bin/env bash
-# The library against the Rust's own files: faults that the harness must see, recorded answers that it must expect, and two fixed seeds on two cores.
+# The library against the Rust's own files: faults that the harness must see, recorded answers that it must expect, one mesh of a million faces, and two fixed
+# seeds on two cores.
 # Where the Rust's files or rustc are absent it says so; the recorded answers of tests/cases are replayed by tests/host.test.sh in any case.
 set -u
 here=$(cd "$(dirname "${BASH_SOURCE[0]}")/.." && pwd)
@@ -25,6 +26,8 @@ tail -n 1 "$room/faults"
 for cases in "$here/tests/cases" "$here/../shared/cases/open"; do
     [ ! -d "$cases" ] || "$oracle" --recorded "$cases/lib.cases.bin" "$cases/lib.answers.bin" || exit 1
 done
+
+"$oracle" --large 1000000 || exit 1
 
 "$oracle" --seed 1 >"$room/one" 2>&1 &
 one=$!

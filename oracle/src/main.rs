@@ -1,5 +1,5 @@
 //! Compares the library's calls with the Rust: `oracle [--seed N] [--cases N] [--call NAME] [--show N]`, `oracle --self-test`,
-//! `oracle --time CALL FACES`, `oracle --recorded CASES ANSWERS`.
+//! `oracle --time CALL FACES`, `oracle --large FACES`, `oracle --recorded CASES ANSWERS`.
 
 mod case;
 mod compare;
@@ -9,6 +9,7 @@ mod fallen;
 mod fault;
 mod generate;
 mod here;
+mod large;
 mod lent;
 mod meshes;
 mod places;
@@ -49,12 +50,13 @@ fn main() -> ExitCode {
     match words[..] {
         ["--self-test"] => self_test::run(),
         ["--time", call, faces] => time::run(call, faces.parse().expect("a number of faces")),
+        ["--large", faces] => large::run(faces.parse().expect("a number of faces")),
         ["--recorded", cases, answers] => recorded::run(cases, answers),
         _ => match settings(&words) {
             Some(settings) => compare_all(&settings),
             None => {
                 eprintln!(
-                    "usage: oracle [--seed N] [--cases N] [--call NAME] [--show N] | --self-test | --time CALL FACES | --recorded CASES ANSWERS"
+                    "usage: oracle [--seed N] [--cases N] [--call NAME] [--show N] | --self-test | --time CALL FACES | --large FACES | --recorded CASES ANSWERS"
                 );
                 ExitCode::from(2)
             }

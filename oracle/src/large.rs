@@ -1,0 +1,79 @@
+//! One large mesh with the defects of a scan, through repair, edges, check and patches: every room compared once.
+
+use crate::case::{Call, Case, Filter, Room};
+use crate::meshes::{self, Mesh};
+use crate::random::Random;
+use crate::{compare, generate, here, there};
+use std::process::ExitCode;
+
+/// A grid of about so many faces, of which one in a hundred has a defect: turned, written twice, on a crowded edge, left out, flattened,
+/// or meeting another part of the grid in a point.
+fn scanned(faces: usize, random: &mut Random) -> Mesh {
+    let side = ((faces as f64 / 2.0).sqrt() as usize).max(1);
+    let mut mesh = meshes::grid(faces.div_ceil(2 * side), side);
+    let count = mesh.points.len();
+    let mut list = Vec::with_capacity(faces);
+    for mut face in mesh.faces {
+        let other = random.below(count) as u32;
+        match random.below(700) {
+            0 => face.swap(1, 2),
+            1 => list.push([face[1], face[2], face[0]]),
+            2 => list.push([face[0], face[1], other]),
+            3 => continue,
+            4 => face[2] = face[1],
+            5 => face[0] = other,
+            6 => mesh.points[face[0] as usize] = mesh.points[face[1] as usize],
+            _ => {}
+        }
+        list.push(face);
+    }
+    list.truncate(faces);
+    mesh.faces = list;
+    mesh
+}
+
+/// The mesh as a call takes it, with dirty rooms; where the options are odd the work room is clean.
+fn asked(call: Call, points: &[f64], faces: &[u32], options: u32) -> Case {
+    let mut case = Case::new(call);
+    case.point_count = points.len() as u64 / 3;
+    case.points = if call == Call::Check { vec![] } else { points.to_vec() };
+    case.faces = faces.to_vec();
+    case.threshold = generate::degenerate_sin();
+    case.options = options;
+    if call == Call::Patches {
+        let f = faces.len() / 3;
+        case.patch_count = 1000;
+        case.labels = (0..f).map(|i| (i * 1000 / f) as u32).collect();
+        case.filter = Filter { set: 31, min_faces: 2, reals: [0.0, 0.0, 0.01], keep_largest_n: 500 };
+    }
+    let last = case.rooms.len() - 1;
+    for (k, room) in case.rooms.iter_mut().enumerate() {
+        let dirt = if k == last && options % 2 == 1 { 0 } else { 7 + k as u64 };
+        *room = Room { extra: 5, most: 1 << 28, dirt };
+    }
+    case
+}
+
+/// Whether a case is the same in the library and in the Rust; says how large it was.
+fn same(case: &Case) -> bool {
+    let what = compare::difference(case, &there::outcome(case), None);
+    println!("{} with options {}, P = {}, F = {}: {}", case.call.name(), case.options, case.p(), case.f(), what.as_deref().unwrap_or("the same"));
+    what.is_none()
+}
+
+/// The large mesh through each call that the library has; edges of the mended one, with a zero and with a dirty work room.
+pub fn run(faces: usize) -> ExitCode {
+    let mesh = scanned(faces, &mut Random::new(1));
+    let points: Vec<f64> = mesh.points.into_iter().flatten().collect();
+    let triples: Vec<u32> = mesh.faces.into_iter().flatten().collect();
+    let mut all = true;
+    for options in [63, 55, 0] {
+        all &= same(&asked(Call::Repair, &points, &triples, options));
+    }
+    let (points, triples, counts) = there::mended(&asked(Call::Repair, &points, &triples, 63));
+    println!("report {counts:?}");
+    for (call, options) in [(Call::Edges, 1), (Call::Edges, 0), (Call::Check, 0), (Call::Patches, 0)] {
+        all &= !here::has(call) || same(&asked(call, &points, &triples, options));
+    }
+    if all { ExitCode::SUCCESS } else { ExitCode::from(1) }
+}

@@ -50,7 +50,7 @@ fn put_digit(line: &mut [u8], at: usize, n: u32) -> usize
 }
 
 // Puts a number in decimal, with no leading zeros. Returns where the line goes on.
-fn put_number(line: &mut [u8], at: usize, n: u32) -> usize
+pub fn put_number(line: &mut [u8], at: usize, n: u32) -> usize
     requires { ⌜ by.NumberAsks (now line) at n ⌝ }
     ensures { λ r. ⌜ by.Puts (now (line .entry)) at (rule.decimal n) (now (line .exit)) r ⌝ }
 {

@@ -7,3 +7,4 @@ pub mod Cuts
 pub mod Storing
 pub mod Growing
 pub mod Lines
+pub mod Sizes

@@ -1,0 +1,63 @@
+// Reads a text as `meshfix` does, and writes what it asks for: options, how many entries stand in the rooms, and one of each
+// room; or the refusal's line. The file stdout says what it must be.
+use text_in::Told;
+
+// A u32 as a u64.
+fn wide(x: u32) -> u64 {
+    x as u64
+}
+
+// Writes a number and a space.
+fn show_number(n: u64) {
+    io::print_decimal(1, n);
+    io::write_all(1, b" ");
+}
+
+// Writes the line of refusal 11.
+fn refuse() {
+    let mut out = [0; 16];
+    let end = text_out::put_refusal(&mut out, 11);
+    if end <= 16 {
+        io::write_all(1, &out[..end]);
+    }
+}
+
+// Reads a text into the rooms, and writes what it asks for.
+fn show(text: &[u8]) {
+    let mut points = [0.0; 192];
+    let mut faces = [0; 192];
+    match text_in::read(text, &mut points, &mut faces) {
+        Told::Bad => {
+            refuse();
+        }
+        Told::Job(options, threshold, p, f) => {
+            show_number(wide(options));
+            if threshold < 1.0 {
+                io::write_all(1, b"small ");
+            }
+            show_number(p as u64);
+            show_number(f as u64);
+            show_number(wide(faces[2]));
+            if points[1] != points[1] {
+                io::write_all(1, b"no number");
+            }
+            io::write_all(1, b"\n");
+        }
+    }
+}
+
+fn main() {
+    show(b"");
+    show(b"o\t63\t3f50000000000000\n");
+    show(
+        b"o\t63\t3f50000000000000\nf\t0\t1\t4294967295\np\t0000000000000000\t7ff8000000000001\tbff0000000000000\n",
+    );
+    show(b"o\t63\t3f50000000000000\nf\t0\t1\t4294967296\n");
+    show(b"o\t063\t3f50000000000000\n");
+    show(b"o\t63\t3F50000000000000\n");
+    show(b"o\t63\t3f50000000000000\nf\t0\t1\n");
+    show(b"o\t63\t3f50000000000000\nf\t0\t1\t2\t3\n");
+    show(b"o\t63\t3f50000000000000\nf\t0\t1\t2");
+    show(b"o\t63\t3f50000000000000\n\n");
+    show(b"f\t0\t1\t2\no\t63\t3f50000000000000\n");
+}

@@ -181,6 +181,11 @@ abbrev pub toldOf : Told → List Float → List ℕ → Option Job
 toldOf (told.Job o s p f) ps fs = some (jobOf o s ps p fs f)
 toldOf told.Bad ps fs = none
 
+-- a job's entries are no more than 64 points and 64 faces have
+abbrev pub ToldWithin : Told → Type 0
+ToldWithin (told.Job o s p f) = (p ≤ 192) × (f ≤ 192)
+ToldWithin told.Bad = Unit {0}
+
 -- rooms for 64 points and 64 faces
 pub record ReadAsks (ps : List Float) (fs : List ℕ) : Type 0 where
   pub points : 192 ≤ length ps

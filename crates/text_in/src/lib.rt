@@ -355,6 +355,7 @@ fn read_lines(
 ) -> Told
     requires { ⌜ by.LinesAsks (now text) from (now points) (now faces) ⌝ }
     ensures { λ r. ⌜ by.toldOf r (now (points .exit)) (now (faces .exit)) ≡ by.rest (by.empty options threshold) (rule.parted 10 (drop from (now (text .entry)))) ⌝ }
+    ensures { λ r. ⌜ by.ToldWithin r ⌝ }
 {
     let mut at = from;
     let mut p = 0;
@@ -382,6 +383,7 @@ fn read_lines(
 pub fn read(text: &[u8], points: &mut [f64], faces: &mut [u32]) -> Told
     requires { ⌜ by.ReadAsks (now points) (now faces) ⌝ }
     ensures { λ r. ⌜ by.toldOf r (now (points .exit)) (now (faces .exit)) ≡ rule.read (now (text .entry)) ⌝ }
+    ensures { λ r. ⌜ by.ToldWithin r ⌝ }
 {
     if text.len() > 8_192 {
         return Told::Bad;

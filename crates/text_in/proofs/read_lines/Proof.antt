@@ -27,7 +27,7 @@ same-length-2 : tie.Need-same-length-2 Inv-loop μ-loop
 same-length-2 c = (c .before .before .before .loop .inv) .long-faces
 
 returns : tie.Need-returns Inv-loop μ-loop
-returns c = unended (c .before .before .before .loop .inv) (c .before .before .loop-test .taken) (c .before .find .ensures) (c .if1 .taken)
+returns c = (unended (c .before .before .before .loop .inv) (c .before .before .loop-test .taken) (c .before .find .ensures) (c .if1 .taken), tt)
 
 sub-add-line : tie.Need-sub-add-line Inv-loop μ-loop
 sub-add-line c = omega (arith, (c .before .find .ensures) .begins)
@@ -51,7 +51,7 @@ same-length-4 : tie.Need-same-length-4 Inv-loop μ-loop
 same-length-4 c = (c .before .before .before .before .before .before .add-line .ensures) .long-faces ∙ (c .before .before .before .before .before .before .before .before .before .before .before .before .before .loop .inv) .long-faces
 
 returns-2 : tie.Need-returns-2 Inv-loop μ-loop
-returns-2 c = bad (c .before .before .before .before .before .before .before .before .before .before .before .before .before .loop .inv) (c .before .before .before .before .before .before .before .before .before .before .before .before .loop-test .taken) (c .before .before .before .before .before .before .before .before .before .before .before .find .ensures) (c .before .before .before .before .before .before .before .before .before .before .if1 .left) (c .before .before .before .before .before .before .add-line .ensures) (c .enum-told .given .1)
+returns-2 c = (bad (c .before .before .before .before .before .before .before .before .before .before .before .before .before .loop .inv) (c .before .before .before .before .before .before .before .before .before .before .before .before .loop-test .taken) (c .before .before .before .before .before .before .before .before .before .before .before .find .ensures) (c .before .before .before .before .before .before .before .before .before .before .if1 .left) (c .before .before .before .before .before .before .add-line .ensures) (c .enum-told .given .1), tt)
 
 enum-known-q : tie.Need-enum-known-q Inv-loop μ-loop
 enum-known-q c = search needs
@@ -72,7 +72,7 @@ same-length-6 : tie.Need-same-length-6 Inv-loop μ-loop
 same-length-6 c = (c .before .loop .inv) .long-faces
 
 returns-3 : tie.Need-returns-3 Inv-loop μ-loop
-returns-3 c = done (c .before .loop .inv) (c .loop-test .left)
+returns-3 c = (done (c .before .loop .inv) (c .loop-test .left), ((c .before .loop .inv) .rooms .few-points, (c .before .loop .inv) .rooms .few-faces))
 
 pub read-lines-spec : {M : Type 1} → statement M
 read-lines-spec =

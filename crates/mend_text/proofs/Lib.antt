@@ -1,0 +1,4 @@
+pub mod Known
+pub mod Deciding
+pub mod Ending
+pub mod Reading

@@ -1,0 +1,77 @@
+#!/usr/bin/env bash
+# The program meshfix: recorded texts and their answers, texts at the limits, and the README's example, byte for byte.
+set -u
+here=$(cd "$(dirname "${BASH_SOURCE[0]}")/.." && pwd)
+room=$(mktemp -d) || exit 1
+trap 'rm -rf "$room"' EXIT
+cd "$here" || exit 1
+rt check meshfix >"$room/log" 2>&1 || {
+    tail -n 3 "$room/log"
+    exit 1
+}
+program=$here/target/bin/meshfix
+faults=0
+count=0
+
+# The answer to text $1 must be file $2.
+answers() {
+    count=$((count + 1))
+    "$program" <"$1" >"$room/found" || echo "meshfix: $1: status $?" >>"$room/found"
+    cmp -s "$room/found" "$2" && return
+    faults=$((faults + 1))
+    echo "meshfix: $1: another answer than $2"
+}
+
+# Every text of folder $1 that has an answer.
+replay() {
+    local text
+    for text in "$1"/*.txt; do
+        [ -f "${text%.txt}.out" ] && answers "$text" "${text%.txt}.out"
+    done
+}
+
+# A text of $1 points and $2 faces, with the options that run no pass.
+mesh() {
+    local i
+    printf 'o\t0\t3f50000000000000\n'
+    for ((i = 0; i < $1; i++)); do printf 'p\t%016x\t0000000000000000\t0000000000000000\n' "$i"; done
+    for ((i = 0; i < $2; i++)); do printf 'f\t%d\t1\t2\n' $((i % $1)); done
+}
+
+# With no pass the mesh comes back, and ten zeros.
+back() {
+    tail -n +2 "$1"
+    printf 'r\t0\t0\t0\t0\t0\t0\t0\t0\t0\t0\n'
+}
+
+replay "$here/tests/cases/text"
+answers crates/meshfix/stdin crates/meshfix/stdout
+answers examples/shell.txt examples/shell.out
+
+printf 'x\t11\n' >"$room/eleven"
+mesh 64 64 >"$room/most"
+back "$room/most" >"$room/most.back"
+answers "$room/most" "$room/most.back"
+mesh 65 64 >"$room/points"
+answers "$room/points" "$room/eleven"
+mesh 64 65 >"$room/faces"
+answers "$room/faces" "$room/eleven"
+: >"$room/empty"
+answers "$room/empty" "$room/eleven"
+# 64 `p` lines and the `o` line have at most 3,422 bytes, 64 `f` lines of the largest numbers 2,240: no text of the form reaches 8,192 bytes, so
+# both sides of that limit are refused 11, and also a text far beyond it.
+head -c 8192 /dev/zero | tr '\0' 'p' >"$room/limit"
+answers "$room/limit" "$room/eleven"
+head -c 8193 /dev/zero | tr '\0' 'p' >"$room/beyond"
+answers "$room/beyond" "$room/eleven"
+yes "$(head -n 2 "$room/most" | tail -n 1)" | head -c 1000000 >"$room/far"
+answers "$room/far" "$room/eleven"
+
+shared=${CASES:-$here/../shared/cases/open}
+if [ -d "$shared" ]; then
+    replay "$shared"
+else
+    echo "meshfix: no recorded texts at $shared, so only our own are run"
+fi
+echo "meshfix: $count texts, $faults with another answer"
+[ "$faults" -eq 0 ]

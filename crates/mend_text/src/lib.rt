@@ -40,12 +40,6 @@ pub fn mend_text(text: &[u8], out: &mut [u8]) -> usize
     let mut faces = [0; 192];
     match text_in::read(text, &mut points, &mut faces) {
         Told::Bad => text_out::put_refusal(out, 11),
-        Told::Job(options, threshold, p, f) => mend(
-            &points[..p],
-            &faces[..f],
-            threshold,
-            options,
-            out,
-        ),
+        Told::Job(options, s, p, f) => mend(&points[..p], &faces[..f], s, options, out),
     }
 }

@@ -43,7 +43,7 @@ unfolding outcome number is-refused job-lines
 refused-lines j ok r k after n p e = absurd (subst is-refused e tt)
 refused-lines j (no m q) r k after n p e = ap refusal-line (sym (ap number e))
 
-module _ {points : List Float} {faces : List ℕ} {s : Float} {o : ℕ} {out : List ℕ} (asks : MendAsks o s points faces out) {r : RepairRooms} (roomy : Roomy r) where
+module _ (s : Float) (o : ℕ) {points : List Float} {faces : List ℕ} {out : List ℕ} (asks : MendAsks points faces out) {r : RepairRooms} (roomy : Roomy r) where
   -- the job is small
   few : Few points faces
   few = record { whole-points = asks .whole-points; whole-faces = asks .whole-faces; few-points = asks .few-points; few-faces = asks .few-faces }
@@ -154,7 +154,7 @@ pub record Lent (ps : List Float) (xs rs w : List ℕ) : Type 0 where
   pub report : length rs ≡ 10
   pub work : length w ≡ 5184
 
-module _ {points : List Float} {faces : List ℕ} {s : Float} {o : ℕ} {out : List ℕ} (asks : MendAsks o s points faces out) {ps₀ : List Float} {xs₀ rs₀ w₀ : List ℕ} (lent : Lent ps₀ xs₀ rs₀ w₀) (res : Repaired)
+module _ (s : Float) (o : ℕ) {points : List Float} {faces : List ℕ} {out : List ℕ} (asks : MendAsks points faces out) {ps₀ : List Float} {xs₀ rs₀ w₀ : List ℕ} (lent : Lent ps₀ xs₀ rs₀ w₀) (res : Repaired)
     {ps : List Float} {xs rs w : List ℕ} (e : outcomeOf res ps xs rs w ≡ repair points faces s o (roomsOf ps₀ xs₀ rs₀ w₀)) where
   -- they are long enough
   roomy : Roomy (roomsOf ps₀ xs₀ rs₀ w₀)
@@ -163,7 +163,7 @@ module _ {points : List Float} {faces : List ℕ} {s : Float} {o : ℕ} {out : L
   -- the line of a refusal is the job's answer
   pub puts-refusal : {n p : ℕ} → res ≡ Refused n p → {w₁ w₂ : List ℕ} {end : ℕ} → Puts w₁ 0 (refusal-line n) w₂ end → Puts w₁ 0 (lines o s points faces) w₂ end
   puts-refusal {n} {p} t {w₁} {w₂} {end} g =
-      subst (λ l. Puts w₁ 0 l w₂ end) (sym (is-refusal asks roomy (subst (λ z. outcomeOf z ps xs rs w ≡ repair points faces s o (roomsOf ps₀ xs₀ rs₀ w₀)) t e))) g
+      subst (λ l. Puts w₁ 0 l w₂ end) (sym (is-refusal s o asks roomy (subst (λ z. outcomeOf z ps xs rs w ≡ repair points faces s o (roomsOf ps₀ xs₀ rs₀ w₀)) t e))) g
 
   module _ {a b : ℕ} (t : res ≡ Done a b) where
     -- the repair is done
@@ -172,17 +172,17 @@ module _ {points : List Float} {faces : List ℕ} {s : Float} {o : ℕ} {out : L
 
     -- the mesh is in the rooms
     pub points-in : length ps ≡ length ps₀ → a ≤ length ps
-    points-in l = omega (arith, points-end asks roomy done, lent .points)
+    points-in l = omega (arith, points-end s o asks roomy done, lent .points)
 
     pub faces-in : length xs ≡ length xs₀ → b ≤ length xs
-    faces-in l = omega (arith, faces-end asks roomy done, lent .faces)
+    faces-in l = omega (arith, faces-end s o asks roomy done, lent .faces)
 
     -- what writing it asks
     pub writes : length rs ≡ length rs₀ → MeshAsks out (take a ps) (take b xs) rs
-    writes l = mesh-asks asks roomy done (l ∙ lent .report)
+    writes l = mesh-asks s o asks roomy done (l ∙ lent .report)
 
     -- its lines are the job's answer
     pub puts-mesh :
         length rs ≡ length rs₀ → {w₁ w₂ : List ℕ} {end : ℕ} → Puts w₁ 0 (mesh-lines (stateOf (take a ps) (take b xs) rs)) w₂ end
         → Puts w₁ 0 (lines o s points faces) w₂ end
-    puts-mesh l {w₁} {w₂} {end} g = subst (λ k. Puts w₁ 0 k w₂ end) (sym (is-mended asks roomy done (l ∙ lent .report))) g
+    puts-mesh l {w₁} {w₂} {end} g = subst (λ k. Puts w₁ 0 k w₂ end) (sym (is-mended s o asks roomy done (l ∙ lent .report))) g

@@ -35,7 +35,7 @@ module _ (text : List ℕ) (res : Told) (ps : List Float) (fs : List ℕ) (e : t
     faces-in h l = let q = subst ToldWithin t h in omega (arith, q .1)
 
     -- it is small
-    pub mend-asks : {out : List ℕ} → 16384 ≤ length out → MendAsks o s (take p ps) (take f fs) out
+    pub mend-asks : {out : List ℕ} → 16384 ≤ length out → MendAsks (take p ps) (take f fs) out
     mend-asks r =
         let z = read-sized text (jobOf o s (take p ps) (take f fs)) (sym is-job) in
         record { whole-points = z .points; whole-faces = z .faces; few-points = z .few-points; few-faces = z .few-faces; room = r }

@@ -15,7 +15,7 @@ abbrev pub lines : ℕ → Float → List Float → List ℕ → List ℕ
 lines options threshold points faces = job-lines (jobOf options threshold points faces) (job-check (jobOf options threshold points faces))
 
 -- whole points and faces, at most 64 of each, and room for the longest answer
-pub record MendAsks (options : ℕ) (threshold : Float) (points : List Float) (faces : List ℕ) (out : List ℕ) : Type 0 where
+pub record MendAsks (points : List Float) (faces : List ℕ) (out : List ℕ) : Type 0 where
   pub whole-points : length points % 3 ≡ 0
   pub whole-faces : length faces % 3 ≡ 0
   pub few-points : length points ≤ 192

@@ -9,7 +9,7 @@ ghost use Rattle.mend_text.specs.Job as by;
 
 // Mends the mesh of a job: its lines, or the line of the refusal. Returns where the text ends.
 fn mend(points: &[f64], faces: &[u32], threshold: f64, options: u32, out: &mut [u8]) -> usize
-    requires { ⌜ by.MendAsks options threshold (now points) (now faces) (now out) ⌝ }
+    requires { ⌜ by.MendAsks (now points) (now faces) (now out) ⌝ }
     ensures { λ r. ⌜ Puts (now (out .entry)) 0 (by.lines options threshold (now (points .entry)) (now (faces .entry))) (now (out .exit)) r ⌝ }
 {
     let mut mended = [0.0; 768];

@@ -8,8 +8,9 @@ use lib.ListN.{length, getD}
 use lib.Seq.{ext-getD}
 use lib.Dec.{eqb}
 use Rattle.rows.specs.Region.{part, Holds}
-use Rattle.rows.specs.Groups as rows-groups
-use Rattle.rows.specs.Groups.{keep, having, sortedBy, keyIn}
+use Rattle.rows.specs.Filter as rows-filter
+use Rattle.rows.specs.Filter.{keep}
+use Rattle.sorting.specs.Groups.{having, sortedBy, keyIn}
 use Rattle.rows.proofs.Regions.{length-part, getD-part}
 use Rattle.rules.specs.Lists.{below, filter, each}
 use Rattle.rules.specs.Mesh.{facesOf}
@@ -21,12 +22,12 @@ use Rattle.splitting.proofs.AllAtOnce.{each-last}
 use Rattle.corner_groups.proofs.Joining.{corner-flat}
 
 -- the two filters are one
-same-filter : (p : ℕ → Bool) (xs : List ℕ) → rows-groups.filter p xs ≡ filter p xs
+same-filter : (p : ℕ → Bool) (xs : List ℕ) → rows-filter.filter p xs ≡ filter p xs
 unfolding filter
 same-filter p [] = refl
 same-filter p (x ∷ xs) = go (p x) (same-filter p xs)
   where
-    go : (b : Bool) → rows-groups.filter p xs ≡ filter p xs → keep b x (rows-groups.filter p xs) ≡ cond b (x ∷ filter p xs) (filter p xs)
+    go : (b : Bool) → rows-filter.filter p xs ≡ filter p xs → keep b x (rows-filter.filter p xs) ≡ cond b (x ∷ filter p xs) (filter p xs)
     go true e = ap (λ l. x ∷ l) e
     go false e = e
 

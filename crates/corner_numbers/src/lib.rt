@@ -37,7 +37,7 @@ pub fn sort_corners(work: &mut [u32], faces: &[u32], points: usize)
     rows::copy_row(faces, work, n);
     corner_groups::lead_corners(work, faces, points, n);
     number(work, ids, n);
-    rows::sort(work, ids, n, 0, 6 * n + 1, points, ids + n);
+    sorting::sort(work, ids, n, 0, 6 * n + 1, points, ids + n);
 }
 
 // The place behind the run of corners at v that begins at the place `begin` of the n sorted ones.

@@ -10,9 +10,10 @@ use native.Mathlib.Decide.{decLt}
 use borrow.Author.Tests.{eq-eqb}
 use lib.Dec.{T, eqb, leb, eqb→eq, leb→le, le→leb}
 use lib.ListN.{length, getD, length-map, length-append}
-use Rattle.rows.specs.Groups.{sortedBy}
+use Rattle.sorting.specs.Groups.{sortedBy}
 use Rattle.rows.specs.Retain.{upTo}
-use Rattle.rows.proofs.GroupLaws as rows-laws
+use Rattle.rows.proofs.FilterLaws as rows-laws
+use Rattle.sorting.proofs.GroupLaws as sorting-laws
 use Rattle.rules.specs.Lists.{below, filter, count, all, each}
 use Rattle.rules.specs.Mesh.{Face}
 use Rattle.rules.specs.Float.{repeats}
@@ -118,9 +119,9 @@ module _ (P : ℕ) (fs : List Face) (inside : Inside P fs) where
   -- the sort of the entries by both keys has every entry
   order-long : length (each (idsOf true fs) (keysOf true P fs)) ≡ 3 * length fs
   order-long =
-      ap length (sym (order-is true P fs f g (λ id h. refl) (λ id h. refl)) ∙ sym (rows-laws.sorted-twice f g P ids))
-      ∙ rows-laws.length-sortedBy f P (sortedBy g P ids) (λ i l. rows-laws.all-at Q (sortedBy g P ids) (rows-laws.all-sorted Q g P ids keys-inside) i l .0)
-      ∙ rows-laws.length-sortedBy g P ids (λ i l. rows-laws.all-at Q ids keys-inside i l .1)
+      ap length (sym (order-is true P fs f g (λ id h. refl) (λ id h. refl)) ∙ sym (sorting-laws.sorted-twice f g P ids))
+      ∙ sorting-laws.length-sortedBy f P (sortedBy g P ids) (λ i l. rows-laws.all-at Q (sortedBy g P ids) (sorting-laws.all-sorted Q g P ids keys-inside) i l .0)
+      ∙ sorting-laws.length-sortedBy g P ids (λ i l. rows-laws.all-at Q ids keys-inside i l .1)
       ∙ length-ids
     where
       f : ℕ → ℕ

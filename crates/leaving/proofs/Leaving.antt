@@ -11,10 +11,10 @@ use lib.ListN.{length, getD, take, length-map}
 use lib.Seq.{drop-cons, getD-take, length-take-le}
 use lib.Ieee.{Float, nan}
 use Rattle.rows.specs.Region.{part, Holds}
-use Rattle.rows.specs.Groups.{keep}
+use Rattle.rows.specs.Filter.{keep}
 use Rattle.rows.specs.Retain.{upTo, rowsOf, keptOf, RetainGives}
-use Rattle.rows.proofs.GroupLaws as rows-laws
-use Rattle.rows.proofs.GroupLaws.{All, all-filter, all-append}
+use Rattle.rows.proofs.FilterLaws as rows-laws
+use Rattle.rows.proofs.FilterLaws.{All, all-filter, all-append}
 use Rattle.rules.specs.Lists.{below, filter, count, each, leave}
 use Rattle.rules.specs.Mesh.{pointsOf, facesOf, flatPoints, flatFaces, coordinates, corners, point, face, zero64}
 use Rattle.rules.proofs.Lists.{filter-append, stay-at, leave-places, leave-length, length-below}

@@ -1,7 +1,7 @@
 // Writes what each function of `rows` makes of small rows. The file stdout says what it must be.
 ghost use mathlib.Core.Path.{_≡_};
 ghost use lib.ListN.{length};
-ghost use Rattle.rows.specs.Sort.{TriplesAsks};
+ghost use Rattle.sorting.specs.Sort.{TriplesAsks};
 
 // A u32 as a u64.
 fn wide(x: u32) -> u64 {
@@ -99,21 +99,21 @@ fn keyed() -> [u32; 39]
 // The ids by the third key.
 fn by_one() {
     let mut work = keyed();
-    rows::sort(&mut work, 0, 6, 18, 24, 3, 33);
+    sorting::sort(&mut work, 0, 6, 18, 24, 3, 33);
     show(&work);
 }
 
 // The ids by the second key and the third.
 fn by_two() {
     let mut work = keyed();
-    rows::sort_pairs(&mut work, 0, 6, 12, 18, 24, 3, 33, 27);
+    sorting::sort_pairs(&mut work, 0, 6, 12, 18, 24, 3, 33, 27);
     show(&work);
 }
 
 // The ids by all three keys.
 fn by_three() {
     let mut work = keyed();
-    rows::sort_triples(&mut work, 0, 6, 6, 12, 18, 24, 3, 27, 33);
+    sorting::sort_triples(&mut work, 0, 6, 6, 12, 18, 24, 3, 27, 33);
     show(&work);
 }
 

@@ -10,8 +10,9 @@ use native.Mathlib.Decide.{ℕ-discrete}
 use borrow.Author.Tests.{eq-eqb, ne-eqb}
 use lib.Dec.{eqb}
 use lib.ListN.{length, getD}
-use Rattle.rows.specs.Groups.{keep, having, sortedBy, groupsBy, sortedBy2}
-use Rattle.rows.specs.Groups as rows-groups
+use Rattle.rows.specs.Filter.{keep}
+use Rattle.sorting.specs.Groups.{having, sortedBy, groupsBy, sortedBy2}
+use Rattle.rows.specs.Filter as rows-filter
 use Rattle.rows.specs.Retain.{upTo}
 use Rattle.rules.specs.Lists.{below, filter, any, each}
 use Rattle.rules.specs.Mesh.{Face, facesOf}
@@ -159,12 +160,12 @@ three-faces xs w = omega (arith, length-faces xs)
 -- ---- the sorted entries
 
 -- two filters of the rows, one after the other, are one of the rules
-filter-both : (p q : ℕ → Bool) (xs : List ℕ) → rows-groups.filter q (rows-groups.filter p xs) ≡ filter (λ x. p x && q x) xs
+filter-both : (p q : ℕ → Bool) (xs : List ℕ) → rows-filter.filter q (rows-filter.filter p xs) ≡ filter (λ x. p x && q x) xs
 unfolding filter
 filter-both p q [] = refl
 filter-both p q (x ∷ xs) = go (p x) (q x) refl (filter-both p q xs)
   where
-    go : (a b : Bool) → q x ≡ b → rows-groups.filter q (rows-groups.filter p xs) ≡ filter (λ y. p y && q y) xs → rows-groups.filter q (keep a x (rows-groups.filter p xs)) ≡ cond (a && q x) (x ∷ filter (λ y. p y && q y) xs) (filter (λ y. p y && q y) xs)
+    go : (a b : Bool) → q x ≡ b → rows-filter.filter q (rows-filter.filter p xs) ≡ filter (λ y. p y && q y) xs → rows-filter.filter q (keep a x (rows-filter.filter p xs)) ≡ cond (a && q x) (x ∷ filter (λ y. p y && q y) xs) (filter (λ y. p y && q y) xs)
     go true true e r = rw e (ap (λ l. x ∷ l) r)
     go true false e r = rw e r
     go false b e r = r

@@ -87,7 +87,7 @@ fn order(work: &mut [u32], faces: &[u32], points: usize, directed: bool, at: usi
     keys(work, faces, directed, at, at + n);
     number(work, at + 2 * n, n);
     rows::clear(work, at + 5 * n + 1, points);
-    rows::sort_pairs(
+    sorting::sort_pairs(
         work,
         at + 2 * n,
         n,

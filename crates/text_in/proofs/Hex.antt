@@ -10,7 +10,7 @@ use lib.Dec.{leb}
 use lib.Ieee.{binary64, ofBits}
 use lib.ListN.{length, getD, take, length-append}
 use lib.Seq.{take-suc, take-all}
-use Rattle.rows.proofs.GroupLaws.{All, all-at, all-append}
+use Rattle.rows.proofs.FilterLaws.{All, all-at, all-append}
 use Rattle.rules.specs.Lists.{through}
 use Rattle.rules.proofs.Lists.{through-append}
 use Rattle.rules.specs.Text.{equal, hex, of-hex, real}

@@ -10,7 +10,7 @@ use lib.Dec.{eqb, ltb, leb}
 use borrow.Author.Tests.{lt-ltb, le-ltb, ltb-true, ltb-false, eqb-true, eq-eqb, leb-true, le-leb}
 use lib.ListN.{length, getD, take, length-append}
 use lib.Seq.{take-suc, take-all}
-use Rattle.rows.proofs.GroupLaws.{All, all-at, all-append}
+use Rattle.rows.proofs.FilterLaws.{All, all-at, all-append}
 use Rattle.rules.specs.Lists.{through}
 use Rattle.rules.proofs.Lists.{through-append}
 use Rattle.rules.specs.Line.{digits, decimal}

@@ -6,8 +6,8 @@ use native.Mathlib.Omega.{arith}
 use lib.ListN.{length, getD}
 use lib.Seq.{take-all}
 use Rattle.rows.specs.Region.{part, Apart.before, Apart.after, Only, Holds, RowAsks, RowGives}
-use Rattle.rows.specs.Groups.{sortedBy, keyIn}
-use Rattle.rows.specs.Sort as rows-sort
+use Rattle.sorting.specs.Groups.{sortedBy, keyIn}
+use Rattle.sorting.specs.Sort as sorting-specs
 use Rattle.rows.proofs.Regions.{only-both, only-more, kept-at, kept, holds-kept, getD-part}
 use Rattle.corner_groups.specs.Sides.{CornersAsks, CornersGives}
 use Rattle.corner_numbers.specs.Numbers.{SortAsks, SortGives}
@@ -50,7 +50,7 @@ module _ {w xs : List ℕ} {P : ℕ} (p : SortAsks w xs P) where
         column₃ : (i : ℕ) → i < length xs → getD w₃ (0 + i) 0 ≡ getD xs i 0
         column₃ i b = sym (getD-part w₃ 0 (length xs) i b) ∙ ap (λ l. getD l i 0) front₃
 
-        sort-ok : rows-sort.SortAsks w₃ ids (length xs) 0 (6 * length xs + 1) P (ids + length xs)
+        sort-ok : sorting-specs.SortAsks w₃ ids (length xs) 0 (6 * length xs + 1) P (ids + length xs)
         sort-ok =
             let f = fit₃ in
             record {
@@ -74,7 +74,7 @@ module _ {w xs : List ℕ} {P : ℕ} (p : SortAsks w xs P) where
             }
 
         -- and they are sorted
-        module _ {w₄ : List ℕ} (s : rows-sort.SortGives w₃ ids (length xs) 0 (6 * length xs + 1) P (ids + length xs) w₄) where
+        module _ {w₄ : List ℕ} (s : sorting-specs.SortGives w₃ ids (length xs) 0 (6 * length xs + 1) P (ids + length xs) w₄) where
           done : SortGives w xs P w₄
           done =
               let f = fit₃ in

@@ -6,7 +6,7 @@ use Prim.Native.Nat.{ℕ}
 use native.Mathlib.Omega.{arith}
 use lib.ListN.{length}
 use Rattle.rows.specs.Region.{Apart.before, Apart.after}
-use Rattle.rows.specs.Sort.{TriplesAsks}
+use Rattle.sorting.specs.Sort.{TriplesAsks}
 use Rattle.rows_try.proofs.Bounded.{within, bounded, zeros}
 use Rattle.rows_try.proofs.keyed.Statement.{statement}
 use Rattle.rows_try.proofs.keyed.Tie as tie

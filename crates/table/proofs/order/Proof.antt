@@ -7,7 +7,7 @@ use Prim.Native.Nat.{ℕ, zero, suc, _+_, _*_, _≤_, _<_}
 use native.Mathlib.Omega.{arith}
 use lib.ListN.{length}
 use Rattle.rows.specs.Region.{part, Apart.before, Apart.after, Only, Holds, Filled}
-use Rattle.rows.specs.Sort.{keyBy, PairsAsks, PairsGives}
+use Rattle.sorting.specs.Sort.{keyBy, PairsAsks, PairsGives}
 use Rattle.rows.specs.Retain.{upTo}
 use Rattle.rows.proofs.Regions.{only-both, only-more, holds-kept, part-suc, getD-part, holds-kept2}
 use Rattle.rules.specs.Mesh.{facesOf}

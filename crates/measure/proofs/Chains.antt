@@ -1,4 +1,4 @@
--- The steps of `quality` and of `shape`, over plain values. Assumes nothing.
+-- The steps of `quality`, `area`, `distance`, `flat` and `shape`, over plain values. Assumes nothing.
 use mathlib.Core.Path.{_≡_, refl}
 use mathlib.Core.Bool.{Bool, true, false}
 use mathlib.Core.List.{List}
@@ -7,7 +7,7 @@ use borrow.Author.Tests.{eq-eqb, ne-eqb}
 use lib.Ieee.{Float, binary64, ofBits, mul, le}
 use Rattle.root.specs.Root.{rootOf}
 use Rattle.rules.specs.Mesh.{Point, zero64, point}
-use Rattle.rules.specs.Float.{_⊕_, _⊗_, _⊘_, half64, three64, four64, difference, cross, norm², norm, flat, repeats, shape, good, repeated, thin, quality}
+use Rattle.rules.specs.Float.{_⊕_, _⊗_, _⊘_, half64, three64, four64, difference, cross, norm², norm, flat, repeats, shape, good, repeated, thin, quality, area}
 use Rattle.measure.specs.Measure.{faceOf}
 
 -- the code's constant is what antt computes for 4·root(3)
@@ -31,6 +31,32 @@ module _
       → ofBits binary64 4619486481798941866 ⊗ (n ⊗ half64) ⊘ (s0 ⊕ s1 ⊕ s2) ≡ quality ps (faceOf a b c)
   unfolding quality
   sized e f t = rw (← h0, ← h1, ← h2, ← d0, ← d1, ← d2, ← g0, ← g1, ← g2, t, four-root-three, ← e, ← f)
+
+-- ---- area: the points p0, p1, p2, the differences e1, e2, their cross product and its norm are the rule's
+pub sided :
+    (ps : List Point) (a b c : ℕ) {p0 p1 p2 : Point} → p0 ≡ point ps a → p1 ≡ point ps b → p2 ≡ point ps c
+    → {e1 e2 : Point} → e1 ≡ difference p1 p0 → e2 ≡ difference p2 p0 → {x : Point} {n : Float} → x ≡ cross e1 e2 → n ≡ norm x
+    → half64 ⊗ n ≡ area ps (faceOf a b c)
+unfolding area
+sided ps a b c h0 h1 h2 d1 d2 e f = rw (← h0, ← h1, ← h2, ← d1, ← d2, ← e, ← f)
+
+-- ---- distance: the norm of a difference of the points p and q
+pub spanned : {p p′ q q′ : Point} → p ≡ p′ → q ≡ q′ → {d : Point} {n : Float} → d ≡ difference p q → n ≡ norm d → n ≡ norm (difference p′ q′)
+spanned h g d f = rw (← h, ← g, ← d, f)
+
+-- ---- flat: the differences e1, e2, their cross product x and the three squared norms are the rule's
+module _
+    (s : Float) (p0 p1 p2 : Point) {e1 e2 x : Point} (d1 : e1 ≡ difference p1 p0) (d2 : e2 ≡ difference p2 p0) (d : x ≡ cross e1 e2)
+    {a b c : Float} (ga : a ≡ norm² e1) (gb : b ≡ norm² e2) (gc : c ≡ norm² x) where
+  -- where the test does not hold, whatever shows it
+  pub not-flat : le (rootOf c) (s ⊗ rootOf a ⊗ rootOf b) ≡ false → false ≡ flat s p0 p1 p2
+  unfolding flat norm
+  not-flat t = rw (← d1, ← d2, ← d, ← ga, ← gb, ← gc, t)
+
+  -- by the roots
+  pub by-roots : {l m n : Float} → l ≡ rootOf a → m ≡ rootOf b → n ≡ rootOf c → le n (s ⊗ l ⊗ m) ≡ flat s p0 p1 p2
+  unfolding flat norm
+  by-roots ra rb rc = rw (← d1, ← d2, ← d, ← ga, ← gb, ← gc, ra, rb, rc)
 
 -- ---- shape: the comparisons of corners in the rule's order, then the sine
 module _ (s : Float) (ps : List Point) (a b c : ℕ) where

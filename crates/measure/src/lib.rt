@@ -74,15 +74,20 @@ pub fn norm(v: Vector) -> f64
     root::root(square(v))
 }
 
-// With e1 = p1-p0 and e2 = p2-p0, whether norm(e1×e2) <= (s·norm(e1))·norm(e2).
+// With e1 = p1-p0 and e2 = p2-p0, whether norm(e1×e2) <= (s·norm(e1))·norm(e2). Where the exponents of the squared norms decide, no root is taken.
 fn flat(s: f64, p0: Vector, p1: Vector, p2: Vector) -> bool
     ensures { λ r. ⌜ r ≡ rule.flat s (pointOf p0) (pointOf p1) (pointOf p2) ⌝ }
 {
     let e1 = difference(p1, p0);
     let e2 = difference(p2, p0);
-    let n = norm(cross(e1, e2));
-    let m = s * norm(e1);
-    n <= m * norm(e2)
+    let a = square(e1);
+    let b = square(e2);
+    let c = square(cross(e1, e2));
+    if exponents::above(s, a, b, c) {
+        return false;
+    }
+    let m = s * root::root(a);
+    root::root(c) <= m * root::root(b)
 }
 
 // What the degeneracy test finds of the face with corners a, b, c at the threshold s. A repeated corner wins if both hold.

@@ -1,6 +1,6 @@
--- `measure::area` meets its contract. Assumes nothing.
+-- `measure::area` meets its contract, by the steps of `proofs/Chains.antt`. Assumes nothing.
 use lib.Ieee.{ofBits}
-use Rattle.rules.specs.Float.{area}
+use Rattle.measure.proofs.Chains.{sided}
 use borrow.Author.Needs.{needs}
 use Rattle.measure.proofs.area.Statement.{statement}
 use Rattle.measure.proofs.area.Tie as tie
@@ -27,8 +27,12 @@ norm-requires : tie.Need-norm-requires
 norm-requires c κs = search needs
 
 returns : tie.Need-returns
-unfolding area ofBits
-returns c = cc
+unfolding ofBits
+returns c =
+    let d = c .before .before in
+    let p = d .before .before in
+    sided _ _ _ _ (p .before .before .at .ensures) (p .before .at2 .ensures) (p .at3 .ensures) (d .before .difference .ensures) (d .difference2 .ensures)
+    (c .before .cross .ensures) (c .norm .ensures)
 
 pub area-spec : {M : Type 1} → statement M
 area-spec =

@@ -1,4 +1,5 @@
--- `measure::distance` meets its contract. Assumes nothing.
+-- `measure::distance` meets its contract, by the steps of `proofs/Chains.antt`. Assumes nothing.
+use Rattle.measure.proofs.Chains.{spanned}
 use borrow.Author.Needs.{needs}
 use Rattle.measure.proofs.distance.Statement.{statement}
 use Rattle.measure.proofs.distance.Tie as tie
@@ -16,7 +17,7 @@ norm-requires : tie.Need-norm-requires
 norm-requires c κs = search needs
 
 returns : tie.Need-returns
-returns c = cc
+returns c = spanned (c .before .before .before .at .ensures) (c .before .before .at2 .ensures) (c .before .difference .ensures) (c .norm .ensures)
 
 pub distance-spec : {M : Type 1} → statement M
 distance-spec =

@@ -1,5 +1,6 @@
 // Times the leaves in one run on one machine, and prints ratios: the table against std::stable_sort of the same pairs, the root against the C
-// library's, the labels against a plain union-find. Every answer is compared with the other side's; a difference is said and fails the run.
+// library's, the degeneracy test against the same steps with that root, the labels against a plain union-find. Every answer is compared with the
+// other side's; a difference is said and fails the run.
 #include <algorithm>
 #include <chrono>
 #include <cmath>
@@ -12,6 +13,7 @@
 
 extern "C" {
 double bench_root(double x);
+bool bench_degenerate(const double *points, size_t points_len, double s, uint32_t a, uint32_t b, uint32_t c);
 size_t bench_table(uint32_t *work, size_t work_len, const uint32_t *faces, size_t faces_len, size_t points, bool directed, size_t at);
 size_t bench_flood(uint32_t *work, size_t work_len, size_t things, size_t runs, size_t starts, size_t order, size_t labels);
 }
@@ -100,6 +102,33 @@ static void root(const char *name, const std::vector<double> &values) {
            other / values.size() * 1e9, own / other);
 }
 
+// The degeneracy test by the C library's root.
+static bool thin(const double *p, double s, uint32_t a, uint32_t b, uint32_t c) {
+    if (a == b || b == c || c == a)
+        return true;
+    double e[3], f[3];
+    for (int k = 0; k < 3; k++) {
+        e[k] = p[3 * b + k] - p[3 * a + k];
+        f[k] = p[3 * c + k] - p[3 * a + k];
+    }
+    double x[3] = {e[1] * f[2] - e[2] * f[1], e[2] * f[0] - e[0] * f[2], e[0] * f[1] - e[1] * f[0]};
+    auto norm = [](const double *v) { return std::sqrt(v[0] * v[0] + v[1] * v[1] + v[2] * v[2]); };
+    return norm(x) <= s * norm(e) * norm(f);
+}
+
+// Each face's degeneracy at the threshold s.
+static void degenerate(const char *name, double s, const std::vector<double> &points, const Row &faces) {
+    size_t n = faces.size() / 3;
+    std::vector<char> mine(n), theirs(n);
+    const double *p = points.data();
+    const uint32_t *f = faces.data();
+    double own = best_of_five([&] { for (size_t i = 0; i < n; i++) mine[i] = bench_degenerate(p, points.size(), s, f[3 * i], f[3 * i + 1], f[3 * i + 2]); });
+    double other = best_of_five([&] { for (size_t i = 0; i < n; i++) theirs[i] = thin(p, s, f[3 * i], f[3 * i + 1], f[3 * i + 2]); });
+    expect(mine == theirs, name);
+    printf("thin   %-28s %9zu faces              %7.1f ns, with the C library's root %5.1f ns, ratio %.1f\n", name, n, own / n * 1e9, other / n * 1e9,
+           own / other);
+}
+
 // Labels of things joined through runs against a union-find of the same shape in C++. runs[r] lists the things of run r.
 static void flood(const char *name, size_t things, const std::vector<Row> &members) {
     size_t runs = members.size(), entries = 0;
@@ -163,6 +192,12 @@ int main() {
     }
     root("between 0 and 1", unit);
     root("any finite", spread);
+
+    std::vector<double> rough(3 * points);
+    for (size_t i = 0; i < rough.size(); i++)
+        rough[i] = (i % 3 == 0 ? i / 3 % side : i % 3 == 1 ? i / 3 / side : 0) + unit[i % million];
+    degenerate("grid, rough, s 1e-12", 1e-12, rough, plain);
+    degenerate("grid, rough, s 0.3", 0.3, rough, plain);
 
     std::vector<Row> one(1, Row(million)), chain(million), mixed(million);
     std::iota(one[0].begin(), one[0].end(), 0);

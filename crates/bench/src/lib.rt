@@ -1,6 +1,9 @@
 // The leaves for C, as bench/ times them.
 ghost use mathlib.Core.Path.{_≡_};
 ghost use Rattle.root.specs.Root.{rootOf};
+ghost use Rattle.rules.specs.Mesh.{pointsOf};
+ghost use Rattle.rules.specs.Float as rule;
+ghost use Rattle.measure.specs.Measure.{faceOf, Corners};
 ghost use Rattle.flood.specs.Plan.{plan, FloodAsks};
 ghost use Rattle.flood.specs.Answers.{LabelGives};
 ghost use Rattle.table.specs.Table.{TableAsks, TableGives};
@@ -11,6 +14,15 @@ pub extern "C" fn bench_root(x: f64) -> f64
     ensures { λ r. ⌜ r ≡ rootOf x ⌝ }
 {
     root::root(x)
+}
+
+// The degeneracy test of a face.
+#[no_mangle]
+pub extern "C" fn bench_degenerate(points: &[f64], s: f64, a: u32, b: u32, c: u32) -> bool
+    requires { ⌜ Corners (now points) a b c ⌝ }
+    ensures { λ r. ⌜ r ≡ rule.degenerate s (pointsOf (now (points .entry))) (faceOf a b c) ⌝ }
+{
+    measure::degenerate(points, s, a, b, c)
 }
 
 // The table of a face list.

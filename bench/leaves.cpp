@@ -2,11 +2,11 @@
 // library's, the degeneracy test against the same steps with that root, the labels against a plain union-find. Every answer is compared with the
 // other side's; a difference is said and fails the run.
 #include <algorithm>
-#include <chrono>
 #include <cmath>
 #include <cstdint>
 #include <cstdio>
 #include <cstring>
+#include <ctime>
 #include <numeric>
 #include <random>
 #include <vector>
@@ -21,7 +21,12 @@ size_t bench_flood(uint32_t *work, size_t work_len, size_t things, size_t runs, 
 typedef std::vector<uint32_t> Row;
 static int differences = 0;
 
-static double now() { return std::chrono::duration<double>(std::chrono::steady_clock::now().time_since_epoch()).count(); }
+// Processor time, so that other work on the machine counts little.
+static double now() {
+    timespec t;
+    clock_gettime(CLOCK_PROCESS_CPUTIME_ID, &t);
+    return t.tv_sec + t.tv_nsec * 1e-9;
+}
 
 // The best of five runs of f, in seconds; what prepares a run is not timed.
 template <class F, class G> static double best_of_five(F f, G prepare) {

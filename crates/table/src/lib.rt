@@ -4,14 +4,12 @@
 //
 //     at            n       the first key of each entry: the lower end of its edge, or where its step begins
 //     at + n        n       the second key: the higher end, or where the step ends
-//     at + 2n       n       the run of each entry; while sorting, the numbers 0 .. n - 1
+//     at + 2n       n       the run of each entry
 //     at + 3n       n       the order: the entries, run after run
 //     at + 4n       n + 1   where each run begins in the order, and n behind the last; while sorting, scratch
 //     at + 5n + 1   P       bins, 0 at exit
 ghost use mathlib.Core.Path.{_≡_};
-ghost use Prim.Native.Nat.{ℕ, _+_, _^_, _≤_, _<_};
-ghost use lib.ListN.{length};
-ghost use Rattle.rows.specs.Region.{Only, Holds};
+ghost use Prim.Native.Nat.{_^_, _<_};
 ghost use Rattle.rules.specs.Steps.{step};
 ghost use Rattle.table.specs.Entries.{next, under};
 ghost use Rattle.table.specs.Table.{KeysAsks, KeysGives, TableAsks, OrderGives, TableGives};
@@ -64,20 +62,6 @@ fn keys(work: &mut [u32], faces: &[u32], directed: bool, first: usize, second: u
     }
 }
 
-// Writes 0, 1, .., n - 1 to the n entries from `from` on.
-fn number(work: &mut [u32], from: usize, n: usize)
-    requires { ⌜ from + n ≤ length (now work) ⌝ }
-    requires { ⌜ n < 2 ^ 32 ⌝ }
-    ensures { λ _. ⌜ Only from n (now (work .entry)) (now (work .exit)) ⌝ }
-    ensures { λ _. ⌜ Holds from n (λ (i : ℕ). i) (now (work .exit)) ⌝ }
-{
-    let mut i = 0;
-    while i < n {
-        work[from + i] = i as u32;
-        i += 1;
-    }
-}
-
 // Sorts the entries by their two keys, those of one edge in face order.
 fn order(work: &mut [u32], faces: &[u32], points: usize, directed: bool, at: usize)
     requires { ⌜ TableAsks (now work) (now faces) points at ⌝ }
@@ -85,11 +69,9 @@ fn order(work: &mut [u32], faces: &[u32], points: usize, directed: bool, at: usi
 {
     let n = faces.len();
     keys(work, faces, directed, at, at + n);
-    number(work, at + 2 * n, n);
     rows::clear(work, at + 5 * n + 1, points);
-    sorting::sort_pairs(
+    sorting::order_pairs(
         work,
-        at + 2 * n,
         n,
         at,
         at + n,

@@ -1,0 +1,128 @@
+-- The five calls: of two answers whose statement names one outcome of the rules, the answers are one, and every room is the same list. Assumes nothing.
+use mathlib.Core.Path.{_≡_, refl, sym, ap, _∙_}
+use mathlib.Core.Bool.{Bool, true, false}
+use mathlib.Core.List.{List, [], _∷_}
+use Prim.Native.Nat.{ℕ}
+use lib.ListN.{getD}
+use lib.Dec.{eqb}
+use lib.Ieee.{Float}
+use Rattle.rules.specs.Rooms.{Answer, accepted, refused, Outcome}
+use Rattle.rules.specs.Calls.{RepairRooms, EdgesRooms, PatchesRooms}
+use Rattle.repair.specs.declared.Repaired.{Repaired}
+use Rattle.repair.specs.declared.Repaired.the-variants as repaired
+use Rattle.repair.specs.Answers as repair
+use Rattle.edges.specs.declared.Found.{Found}
+use Rattle.edges.specs.declared.Found.the-variants as found
+use Rattle.edges.specs.Answers as edges
+use Rattle.edge_check.specs.declared.Checked.{Checked}
+use Rattle.edge_check.specs.declared.Checked.the-variants as checked
+use Rattle.edge_check.specs.Answers as check
+use Rattle.patches.specs.declared.Patched.{Patched}
+use Rattle.patches.specs.declared.Patched.the-variants as patched
+use Rattle.patches.specs.Answers as patches
+use Rattle.line.specs.declared.Lined.{Lined}
+use Rattle.line.specs.declared.Lined.the-variants as lined
+use Rattle.line.specs.Put as line
+
+-- ---- repair
+
+-- what a repair gave back, from the rules' answer
+abbrev repaired-of : Answer → Repaired
+repaired-of (accepted ns) = repaired.Done (getD ns 0 0) (getD ns 1 0)
+repaired-of (refused n p) = repaired.Refused n p
+
+-- nothing of it is lost
+repaired-is : (r : Repaired) → repaired-of (repair.answerOf r) ≡ r
+repaired-is (repaired.Done a b) = refl
+repaired-is (repaired.Refused n p) = refl
+
+-- a repair has one answer, and leaves one list in each room
+pub one-repair :
+    {o : Outcome RepairRooms} {r r′ : Repaired} {points points′ : List Float} {faces faces′ report report′ work work′ : List ℕ}
+    → repair.outcomeOf r points faces report work ≡ o → repair.outcomeOf r′ points′ faces′ report′ work′ ≡ o
+    → (r ≡ r′) × (points ≡ points′) × (faces ≡ faces′) × (report ≡ report′) × (work ≡ work′)
+one-repair {o} {r} {r′} p q =
+    let e = p ∙ sym q in (
+      sym (repaired-is r) ∙ ap (λ t. repaired-of (t .answer)) e ∙ repaired-is r′,
+      ap (λ t. t .rooms .points) e,
+      ap (λ t. t .rooms .faces) e,
+      ap (λ t. t .rooms .report) e,
+      ap (λ t. t .rooms .work) e,
+    )
+
+-- ---- edges
+
+-- what the edge call gave back, from the rules' answer
+abbrev found-of : Answer → Found
+found-of (accepted ns) = found.Done (getD ns 0 0) (getD ns 1 0) (getD ns 2 0) (getD ns 3 0) (getD ns 4 0)
+found-of (refused n p) = found.Refused n p
+
+-- nothing of it is lost
+found-is : (r : Found) → found-of (edges.answerOf r) ≡ r
+found-is (found.Done a b c d e) = refl
+found-is (found.Refused n p) = refl
+
+-- the edge call has one answer, and leaves one list in each room
+pub one-edges : {o : Outcome EdgesRooms} {r r′ : Found} {rooms rooms′ : EdgesRooms} → edges.outcomeOf r rooms ≡ o → edges.outcomeOf r′ rooms′ ≡ o → (r ≡ r′) × (rooms ≡ rooms′)
+one-edges {o} {r} {r′} p q =
+    let e = p ∙ sym q in (sym (found-is r) ∙ ap (λ t. found-of (t .answer)) e ∙ found-is r′, ap (λ t. t .rooms) e)
+
+-- ---- edge check
+
+-- what the edge check gave back, from the rules' answer
+abbrev checked-of : Answer → Checked
+checked-of (accepted ns) = checked.Done (eqb (getD ns 0 0) 1)
+checked-of (refused n p) = checked.Refused n p
+
+-- nothing of it is lost
+checked-is : (r : Checked) → checked-of (check.answerOf r) ≡ r
+checked-is (checked.Done true) = refl
+checked-is (checked.Done false) = refl
+checked-is (checked.Refused n p) = refl
+
+-- the edge check has one answer, and leaves one list in its room
+pub one-check : {o : Outcome (List ℕ)} {r r′ : Checked} {work work′ : List ℕ} → check.outcomeOf r work ≡ o → check.outcomeOf r′ work′ ≡ o → (r ≡ r′) × (work ≡ work′)
+one-check {o} {r} {r′} p q =
+    let e = p ∙ sym q in (sym (checked-is r) ∙ ap (λ t. checked-of (t .answer)) e ∙ checked-is r′, ap (λ t. t .rooms) e)
+
+-- ---- patches
+
+-- what the patch call gave back, from the rules' answer
+abbrev patched-of : Answer → Patched
+patched-of (accepted ns) = patched.Done (getD ns 0 0) (getD ns 1 0) (getD ns 2 0)
+patched-of (refused n p) = patched.Refused n p
+
+-- nothing of it is lost
+patched-is : (r : Patched) → patched-of (patches.answerOf r) ≡ r
+patched-is (patched.Done a b c) = refl
+patched-is (patched.Refused n p) = refl
+
+-- the patch call has one answer, and leaves one list in each room
+pub one-patches : {o : Outcome PatchesRooms} {r r′ : Patched} {rooms rooms′ : PatchesRooms} → patches.outcomeOf r rooms ≡ o → patches.outcomeOf r′ rooms′ ≡ o → (r ≡ r′) × (rooms ≡ rooms′)
+one-patches {o} {r} {r′} p q =
+    let e = p ∙ sym q in (sym (patched-is r) ∙ ap (λ t. patched-of (t .answer)) e ∙ patched-is r′, ap (λ t. t .rooms) e)
+
+-- ---- report line
+
+-- what the report line gave back, from the rules' answer
+abbrev lined-of : Answer → Lined
+lined-of (accepted ns) = lined.Done (getD ns 0 0)
+lined-of (refused n p) = lined.Refused n p
+
+-- nothing of it is lost
+lined-is : (r : Lined) (room : List ℕ) → lined-of (line.outcomeOf r room .answer) ≡ r
+lined-is (lined.Done n) room = refl
+lined-is (lined.Refused n p) room = refl
+
+-- the room stands beside it
+lined-room : (r : Lined) (room : List ℕ) → line.outcomeOf r room .rooms ≡ room
+lined-room (lined.Done n) room = refl
+lined-room (lined.Refused n p) room = refl
+
+-- the report line has one answer, and leaves one list in its room
+pub one-line : {o : Outcome (List ℕ)} {r r′ : Lined} {room room′ : List ℕ} → line.outcomeOf r room ≡ o → line.outcomeOf r′ room′ ≡ o → (r ≡ r′) × (room ≡ room′)
+one-line {o} {r} {r′} {room} {room′} p q =
+    let e = p ∙ sym q in (
+      sym (lined-is r room) ∙ ap (λ t. lined-of (t .answer)) e ∙ lined-is r′ room′,
+      sym (lined-room r room) ∙ ap (λ t. t .rooms) e ∙ lined-room r′ room′,
+    )

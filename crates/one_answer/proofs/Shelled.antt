@@ -1,0 +1,57 @@
+-- The C functions: of two structs whose statement names one outcome of the rules, all fields are the same, and so is every room. Assumes nothing.
+use mathlib.Core.Path.{_≡_, refl, sym, ap, _∙_}
+use mathlib.Core.List.{List, [], _∷_}
+use Prim.Native.Nat.{ℕ}
+use lib.ListN.{length, getD}
+use Rattle.rules.specs.Rooms.{Outcome}
+use Rattle.shell.specs.Told.{Given, told}
+use Rattle.shell.specs.declared.ShellRepaired.{ShellRepaired}
+use Rattle.shell.specs.declared.ShellEdges.{ShellEdges}
+use Rattle.shell.specs.declared.ShellCheck.{ShellCheck}
+use Rattle.shell.specs.declared.ShellPatches.{ShellPatches}
+use Rattle.shell.specs.declared.ShellLine.{ShellLine}
+
+-- a number, a place and as many entries, told of one outcome, are the same, and so are the rooms
+pub one-given :
+    {R : Type 0} {o : Outcome R} {n n′ p p′ : ℕ} {es es′ : List ℕ} {rooms rooms′ : R} → length es ≡ length es′ → Given n p es rooms o
+    → Given n′ p′ es′ rooms′ o → (n ∷ p ∷ es ≡ n′ ∷ p′ ∷ es′) × (rooms ≡ rooms′)
+one-given {R} {o} l g h = (g .answer ∙ ap (λ k. told k (o .answer)) l ∙ sym (h .answer), g .after ∙ sym (h .after))
+
+module _ {R : Type 0} {o : Outcome R} {rooms rooms′ : R} where
+  -- shell_repair
+  pub one-shell-repair :
+      {r r′ : ShellRepaired} → Given (r .number) (r .place) (r .points ∷ r .faces ∷ r .counts ∷ []) rooms o
+      → Given (r′ .number) (r′ .place) (r′ .points ∷ r′ .faces ∷ r′ .counts ∷ []) rooms′ o → (r ≡ r′) × (rooms ≡ rooms′)
+  one-shell-repair g h =
+      let b = one-given refl g h in
+      (ap (λ xs. record { number = getD xs 0 0; place = getD xs 1 0; points = getD xs 2 0; faces = getD xs 3 0; counts = getD xs 4 0 }) (b .0), b .1)
+
+  -- shell_edges
+  pub one-shell-edges :
+      {r r′ : ShellEdges} → Given (r .number) (r .place) (r .edges ∷ r .lengths ∷ r .sides ∷ r .vertices ∷ r .ends ∷ []) rooms o
+      → Given (r′ .number) (r′ .place) (r′ .edges ∷ r′ .lengths ∷ r′ .sides ∷ r′ .vertices ∷ r′ .ends ∷ []) rooms′ o → (r ≡ r′) × (rooms ≡ rooms′)
+  one-shell-edges g h =
+      let b = one-given refl g h in
+      (ap (λ xs. record { number = getD xs 0 0; place = getD xs 1 0; edges = getD xs 2 0; lengths = getD xs 3 0; sides = getD xs 4 0; vertices = getD xs 5 0; ends = getD xs 6 0 }) (b .0), b .1)
+
+  -- shell_check
+  pub one-shell-check :
+      {r r′ : ShellCheck} → Given (r .number) (r .place) (r .yes ∷ []) rooms o → Given (r′ .number) (r′ .place) (r′ .yes ∷ []) rooms′ o
+      → (r ≡ r′) × (rooms ≡ rooms′)
+  one-shell-check g h =
+      let b = one-given refl g h in (ap (λ xs. record { number = getD xs 0 0; place = getD xs 1 0; yes = getD xs 2 0 }) (b .0), b .1)
+
+  -- shell_patches
+  pub one-shell-patches :
+      {r r′ : ShellPatches} → Given (r .number) (r .place) (r .«face_counts» ∷ r .numbers ∷ r .flags ∷ []) rooms o
+      → Given (r′ .number) (r′ .place) (r′ .«face_counts» ∷ r′ .numbers ∷ r′ .flags ∷ []) rooms′ o → (r ≡ r′) × (rooms ≡ rooms′)
+  one-shell-patches g h =
+      let b = one-given refl g h in
+      (ap (λ xs. record { number = getD xs 0 0; place = getD xs 1 0; «face_counts» = getD xs 2 0; numbers = getD xs 3 0; flags = getD xs 4 0 }) (b .0), b .1)
+
+  -- shell_line
+  pub one-shell-line :
+      {r r′ : ShellLine} → Given (r .number) (r .place) (r .bytes ∷ []) rooms o → Given (r′ .number) (r′ .place) (r′ .bytes ∷ []) rooms′ o
+      → (r ≡ r′) × (rooms ≡ rooms′)
+  one-shell-line g h =
+      let b = one-given refl g h in (ap (λ xs. record { number = getD xs 0 0; place = getD xs 1 0; bytes = getD xs 2 0 }) (b .0), b .1)

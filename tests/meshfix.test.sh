@@ -58,6 +58,30 @@ mesh 64 65 >"$room/faces"
 answers "$room/faces" "$room/eleven"
 : >"$room/empty"
 answers "$room/empty" "$room/eleven"
+# The longest text in the form, 5,662 bytes, is read to its end: options above 63 are refused 3. One byte less is a bad line.
+{
+    printf 'o\t4294967295\t3f50000000000000\n'
+    mesh 64 0 | tail -n +2
+    for ((i = 0; i < 64; i++)); do printf 'f\t4294967295\t4294967295\t4294967295\n'; done
+} >"$room/longest"
+printf 'x\t3\n' >"$room/three"
+answers "$room/longest" "$room/three"
+head -c 5661 "$room/longest" >"$room/cut"
+answers "$room/cut" "$room/eleven"
+# A long answer is written to its end: each of 64 faces 0 0 0 is split, which makes 191 copies of point 0.
+{
+    printf 'o\t8\t3f50000000000000\n'
+    mesh 64 0 | tail -n +2
+    for ((i = 0; i < 64; i++)); do printf 'f\t0\t0\t0\n'; done
+} >"$room/split"
+{
+    mesh 64 0 | tail -n +2
+    for ((i = 0; i < 191; i++)); do mesh 1 0 | tail -n 1; done
+    printf 'f\t64\t64\t64\n'
+    for ((i = 1; i < 64; i++)); do printf 'f\t%d\t%d\t%d\n' $((63 + 3 * i)) $((63 + 3 * i)) $((63 + 3 * i)); done
+    printf 'r\t0\t0\t0\t0\t0\t1\t191\t0\t0\t0\n'
+} >"$room/split.back"
+answers "$room/split" "$room/split.back"
 # 64 `p` lines and the `o` line have at most 3,422 bytes, 64 `f` lines of the largest numbers 2,240: no text of the form reaches 8,192 bytes, so
 # both sides of that limit are refused 11, and also a text far beyond it.
 head -c 8192 /dev/zero | tr '\0' 'p' >"$room/limit"

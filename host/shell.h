@@ -7,7 +7,10 @@
  *
  * What the caller gets: `number` 0 and `place` 0 if the call is accepted, and then how many entries stand in each answer room. Each answer stands at
  * the front of its room, the rest of the stated room is zero, the work room is all zero up to what is stated, and entries beyond are unchanged.
- * Refused: `number` and `place`, the rest 0, and no room is changed. Rooms may be longer than stated. */
+ * Refused: `number` and `place`, the rest 0, and no room is changed. Rooms may be longer than stated.
+ *
+ * What a call takes: no memory but its rooms and the stack, of which it takes less than SHELL_STACK_FEW_FACES bytes for up to SHELL_FEW_FACES faces and
+ * less than SHELL_STACK for any mesh (measured, host/stack.c). It keeps nothing, so that calls may run at once in several threads on rooms of their own. */
 #ifndef JOGASMUN_SHELL_H
 #define JOGASMUN_SHELL_H
 
@@ -38,6 +41,11 @@ enum {
 #define SHELL_MOST_FACES 1048576u
 #define SHELL_MOST_PATCHES 1048576u
 #define SHELL_NO_PATCH 4294967295u
+
+/* The stack that a call takes, in bytes: below the first number up to so many faces, below the second for any mesh. */
+#define SHELL_FEW_FACES 4096u
+#define SHELL_STACK_FEW_FACES 65536u
+#define SHELL_STACK 2097152u
 
 /* Rooms in entries, for P points, F faces and C patches. */
 #define SHELL_WORK_ROOM(P, F) (16 * (size_t)(P) + 64 * (size_t)(F) + 64)

@@ -1,0 +1,275 @@
+/* A fuzz target: bytes become an input of one of the five calls and rooms for it. Number, place, counts and every entry of every room must be document
+ * 01's (document.c); of a repair, refusal and rooms, the same answer from clean rooms, and with all six options demand 3, the check and the edges of
+ * what came out. */
+#define _DEFAULT_SOURCE
+#include "blocks.h"
+#include "document.h"
+#include "lend.h"
+#include <math.h>
+#include <stdio.h>
+#include <stdlib.h>
+#include <string.h>
+#include <sys/mman.h>
+
+enum { MANY = 6000, MOST = 40000, POINTS = 6, FACES, LABELS, COUNTS };
+
+typedef struct {
+    const uint8_t *at, *end;
+} Bytes;
+
+static uint8_t take(Bytes *b) { return b->at < b->end ? *b->at++ : 0; }
+
+/* How the rooms are lent: what they hold, where they lie, which one is longer or shorter than stated and by how much, whether an empty one is NULL. */
+typedef struct {
+    int dirt, front, odd, by, null;
+    unsigned seed;
+} Look;
+
+static void wrong(const Asked *a, const char *what) {
+    static const char *const names[] = {"repair", "edges", "check", "patches", "line"};
+    fprintf(stderr, "%s: %s; P = %lu, %zu corners, options %u, threshold %a\n", names[a->call], what, (unsigned long)a->P, a->faces_len, a->options, a->s);
+    abort();
+}
+
+static double coordinate(uint8_t b) {
+    static const double far[] = {0x1p100, -0x1p100, 0x1.0000000000001p100, INFINITY, -INFINITY, NAN, -0.0, 0x1p-1074, 0x1p-1022, 1e-160, -1e-150, 1e-300, 1e15, 0x1p53, 1e30, 0.1};
+    return b < 240 ? ((double)b - 120) / 8 : far[b - 240];
+}
+
+static double threshold(uint8_t b) {
+    static const double some[] = {0, 1e-12, 0x1p-10, 0.25, 1, -0.0, 0x1.0000000000001p0, 0x1.fffffffffffffp-1, NAN, -1, INFINITY, 0x1p-1074};
+    return b < 12 ? some[b] : b / 255.0;
+}
+
+static double limit(uint8_t b) {
+    static const double some[] = {NAN, INFINITY, -INFINITY, -0.0, -1, 0x1p-1074};
+    return b < 6 ? some[b] : (b - 6) / 16.0;
+}
+
+static uint64_t number(uint8_t b) {
+    static const uint64_t some[] = {1048576, 1048577, 4194304, 4194305, 0xffffffff, 0x100000000, 0x8000000000000000, 0xffffffffffffffff};
+    return b < 248 ? b : some[b - 248];
+}
+
+/* The rest of the bytes as corners; with copies, the mesh stands so many times over. */
+static void read_mesh(Asked *a, Bytes *b, int whole) {
+    size_t P = take(b), copies = take(b);
+    int labelled = a->call == PATCHES, per = labelled ? 4 : 3;
+    const uint8_t *places = b->at;
+    for (size_t i = 0; i < 3 * P; i++)
+        take(b);
+    size_t left = b->end - b->at, F = left / per, rest = whole ? 0 : left % per;
+    size_t most = (copies < 254 ? MANY : MOST) / (F + P + 1) + 1;
+    copies = copies < 200 ? 1 : copies < 250 ? copies - 198 : most;
+    copies = copies < most ? copies : most;
+    double *points = lend(POINTS, 3 * P * copies, 8, 0);
+    uint32_t *faces = lend(FACES, 3 * F * copies + rest, 4, 0), *labels = lend(LABELS, labelled ? F * copies : 0, 4, 0);
+    for (size_t i = 0; i < 3 * P * copies; i++)
+        points[i] = coordinate(places + i % (3 * P) < b->end ? places[i % (3 * P)] : 0);
+    for (size_t i = 0; i < 3 * F * copies + rest; i++) {
+        size_t face = i / 3 % (F > 0 ? F : 1), copy = F > 0 ? i / 3 / F : 0;
+        uint8_t v = i < 3 * F * copies ? b->at[face * per + i % 3] : b->at[F * per + i - 3 * F * copies];
+        faces[i] = v >= 240 ? (v == 255 ? 0xffffffff : P * copies + v - 240) : P == 0 ? v : v % P + copy % copies * P;
+    }
+    for (size_t i = 0; labelled && i < F * copies; i++) {
+        uint8_t v = b->at[i % F * per + 3];
+        labels[i] = v == 255 ? SHELL_NO_PATCH : v == 254 ? 0xfffffffe : v;
+    }
+    a->points = points;
+    a->faces = faces;
+    a->labels = labels;
+    a->P = P * copies;
+    a->points_len = 3 * a->P + (whole ? 0 : rest % 2);
+    if (a->points_len != 3 * a->P)
+        a->points = lend(POINTS, a->points_len, 8, 0), soil(POINTS, 0, 0);
+    a->faces_len = 3 * F * copies + rest;
+    a->labels_len = labelled ? F * copies : 0;
+}
+
+/* Lists of zeros beyond the largest sizes. */
+static void make_huge(Asked *a, uint8_t which) {
+    static void *zeros;
+    size_t points = 3 * ((size_t)SHELL_MOST_POINTS + 1), faces = 3 * ((size_t)SHELL_MOST_FACES + 1);
+    if (zeros == NULL)
+        zeros = mmap(NULL, 8 * points, PROT_READ, MAP_PRIVATE | MAP_ANONYMOUS | MAP_NORESERVE, -1, 0);
+    if (zeros == MAP_FAILED)
+        abort();
+    if (which & 1) {
+        a->points = zeros;
+        a->points_len = points;
+        a->P = points / 3;
+    } else {
+        a->faces = zeros;
+        a->faces_len = faces;
+    }
+}
+
+static void read_asked(Asked *a, Bytes *b, Look *look) {
+    uint8_t how = take(b), special = take(b);
+    a->call %= CALLS;
+    *look = (Look){how % DIRTS, how >> 3 & 1, take(b), (int8_t)take(b), how >> 4 & 1, special};
+    if (a->call == LINE) {
+        a->counts_len = take(b) % 14;
+        uint32_t *counts = lend(COUNTS, a->counts_len, 4, 0);
+        for (size_t i = 0; i < a->counts_len; i++) {
+            uint32_t base = take(b);
+            counts[i] = base == 255 ? 0xffffffff : base << (take(b) % 32);
+        }
+        a->counts = counts;
+        return;
+    }
+    if (a->call == REPAIR) {
+        a->options = take(b);
+        a->s = threshold(take(b));
+    }
+    if (a->call == PATCHES) {
+        a->patches = number(take(b));
+        a->limits = take(b);
+        a->min_faces = number(take(b));
+        for (int k = 0; k < 3; k++)
+            a->least[k] = limit(take(b));
+        a->keep_largest_n = number(take(b));
+    }
+    read_mesh(a, b, how >> 5 & 1 ? 0 : 1);
+    if (special >= 250 && a->call == CHECK)
+        a->P = number(special);
+    else if (special >= 253)
+        make_huge(a, special);
+    if (a->call == CHECK)
+        a->points_len = 0;
+}
+
+typedef struct {
+    uint32_t number, place;
+    uint64_t entries[6];
+} Given;
+
+/* The call itself, in rooms 0 to 5. */
+static Given call(const Asked *a, void **r) {
+    Given g = {0, 0, {0}};
+    if (a->call == REPAIR) {
+        ShellRepaired x = shell_repair(a->points, a->points_len, a->faces, a->faces_len, a->s, a->options, r[0], a->room[0], r[1], a->room[1], r[2], a->room[2],
+                                       r[3], a->room[3]);
+        g = (Given){x.number, x.place, {x.points, x.faces, x.counts}};
+    } else if (a->call == EDGES) {
+        ShellEdges x = shell_edges(a->points, a->points_len, a->faces, a->faces_len, r[0], a->room[0], r[1], a->room[1], r[2], a->room[2], r[3], a->room[3], r[4],
+                                   a->room[4], r[5], a->room[5]);
+        g = (Given){x.number, x.place, {x.edges, x.lengths, x.face_edges, x.loop_vertices, x.loop_ends}};
+    } else if (a->call == CHECK) {
+        ShellCheck x = shell_check(a->P, a->faces, a->faces_len, r[0], a->room[0]);
+        g = (Given){x.number, x.place, {x.yes}};
+    } else if (a->call == PATCHES) {
+        ShellPatches x = shell_patches(a->points, a->points_len, a->faces, a->faces_len, a->labels, a->labels_len, a->patches, a->limits, a->min_faces,
+                                       a->least[0], a->least[1], a->least[2], a->keep_largest_n, r[0], a->room[0], r[1], a->room[1], r[2], a->room[2], r[3],
+                                       a->room[3]);
+        g = (Given){x.number, x.place, {x.face_counts, x.numbers, x.flags}};
+    } else {
+        ShellLine x = shell_line(a->counts, a->counts_len, r[0], a->room[0]);
+        g = (Given){x.number, x.place, {x.bytes}};
+    }
+    return g;
+}
+
+/* Lends the rooms as they are to look. None is longer than its pages; a shorter one is refused. */
+static int lend_rooms(Asked *a, const Look *look, void **r) {
+    size_t size[6];
+    uint64_t stated[6];
+    int rooms = document_rooms(a, size, stated);
+    for (int k = 0; k < rooms; k++) {
+        uint64_t n = stated[k] > LONGEST / size[k] ? 1000 : stated[k];
+        if (look->odd % rooms == k)
+            n = look->by < 0 && n < (uint64_t)-look->by ? 0 : n + look->by;
+        a->room[k] = n;
+        r[k] = lend(k, n, size[k], look->front);
+        soil(k, look->dirt, look->seed + k);
+        keep(k);
+        if (n == 0 && look->null)
+            r[k] = NULL;
+    }
+    return rooms;
+}
+
+/* The call with what must come out of it. What a repair or a check leaves is its caller's to judge. */
+static Given try(Asked *a, const Look *look, void **r) {
+    size_t size[6];
+    uint64_t stated[6];
+    int rooms = lend_rooms(a, look, r);
+    document_rooms(a, size, stated);
+    Wanted w = document_answer(a);
+    Given g = call(a, r);
+    if (g.number != w.number || g.place != w.place)
+        wrong(a, "another number or place");
+    for (int k = 0; k < rooms; k++) {
+        int untold = g.number == 0 && a->call == REPAIR && k < 3, work = k == rooms - 1 && a->call != LINE;
+        const void *row = untold ? r[k] : w.row[k];
+        uint64_t count = work ? 0 : untold ? g.entries[k] : w.entries[k];
+        if (!work && g.entries[k] != count)
+            wrong(a, "another count");
+        if (!holds(k, row, g.number == 0 ? count : 0, g.number == 0 ? stated[k] : 0))
+            wrong(a, "a room does not hold what it must");
+    }
+    if (a->call == CHECK && g.entries[0] != w.entries[0])
+        wrong(a, "another answer");
+    blocks_seen(a->call, g.number, g.place, g.entries, rooms);
+    document_free(&w);
+    return g;
+}
+
+static void *copy(const void *from, size_t bytes) {
+    void *to = malloc(bytes + 1);
+    if (to == NULL)
+        abort();
+    return bytes == 0 ? to : memcpy(to, from, bytes);
+}
+
+/* What came out of a repair: the same once more from rooms of zeros; and with all six options what is promised of it. */
+static void after_repair(Asked *a, const Look *look, const Given *g, void **r) {
+    size_t bytes[3] = {8 * g->entries[0], 4 * g->entries[1], 4 * g->entries[2]};
+    void *out[3];
+    for (int k = 0; k < 3; k++)
+        out[k] = copy(r[k], bytes[k]);
+    if (look->dirt != 0 || look->by != 0) {
+        Look clean = {0, !look->front, 0, 0, 0, 0};
+        Given again = try(a, &clean, r);
+        if (memcmp(&again, g, sizeof again) != 0 || memcmp(out[0], r[0], bytes[0]) != 0 || memcmp(out[1], r[1], bytes[1]) != 0 ||
+            memcmp(out[2], r[2], bytes[2]) != 0)
+            wrong(a, "another answer from clean rooms");
+    }
+    if (a->options == 63) {
+        const char *what = document_demand(a, out[0], g->entries[0] / 3, out[1], g->entries[1] / 3, out[2]);
+        if (what != NULL)
+            wrong(a, what);
+        Asked check = {.call = CHECK, .P = g->entries[0] / 3, .faces = out[1], .faces_len = g->entries[1]}, edges = check;
+        edges.call = EDGES;
+        edges.points = out[0];
+        edges.points_len = g->entries[0];
+        Look exact = {look->dirt, look->front, 0, 0, 0, look->seed};
+        if (try(&check, &exact, r).entries[0] != 1)
+            wrong(a, "the check says no to what came out");
+        if (try(&edges, &exact, r).number != 0)
+            wrong(a, "the edge call refuses what came out");
+    }
+    for (int k = 0; k < 3; k++)
+        free(out[k]);
+}
+
+int LLVMFuzzerTestOneInput(const uint8_t *data, size_t size) {
+    Bytes bytes = {data, data + size};
+    Asked a = {.call = take(&bytes)};
+    Look look;
+    void *r[6];
+    lend(POINTS, 0, 8, 0);
+    lend(FACES, 0, 4, 0);
+    lend(LABELS, 0, 4, 0);
+    lend(COUNTS, 0, 4, 0);
+    read_asked(&a, &bytes, &look);
+    for (int k = POINTS; k <= COUNTS; k++)
+        keep(k);
+    Given g = try(&a, &look, r);
+    if (a.call == REPAIR && g.number == 0)
+        after_repair(&a, &look, &g, r);
+    for (int k = POINTS; k <= COUNTS; k++)
+        if (!holds(k, NULL, 0, 0))
+            wrong(&a, "the input is changed");
+    return 0;
+}

@@ -1,14 +1,16 @@
 #!/usr/bin/env bash
 # The library in a C program: the example prints what it must, the header is good for C++, recorded answers come out through the calls with every
-# room as it must be, and damaged meshes are after a repair what is proved of them; a sample under valgrind too, so that nothing outside a room is touched.
+# room as it must be, damaged meshes are after a repair what is proved of them, what fuzzing found worth keeping comes out as document 01 says, and no call
+# takes more stack than is promised; a sample under valgrind too, so that nothing outside a room is touched.
 set -u
 here=$(cd "$(dirname "${BASH_SOURCE[0]}")/.." && pwd)
 room=$(mktemp -d) || exit 1
 trap 'rm -rf "$room"' EXIT
 bash "$here/host/build.sh" "$room" || exit 1
 cd "$room" || exit 1
-for program in example replay chain; do
-    gcc -std=c11 -Wall -Wextra -Wpedantic -Werror -O2 -g -I. -o "$program" "$here/host/$program.c" libshell.a || exit 1
+flags=(-std=c11 -Wall -Wextra -Wpedantic -Werror -O2 -g -ffp-contract=off -I.)
+for program in example replay chain stack; do
+    gcc "${flags[@]}" -o "$program" "$here/host/$program.c" libshell.a || exit 1
 done
 g++ -std=c++17 -Wall -Werror -fsyntax-only -x c++ shell.h || exit 1
 ./example >found || exit 1
@@ -19,9 +21,27 @@ if [ -d "$shared" ]; then
     ./replay "$shared/lib.cases.bin" "$shared/lib.answers.bin" || exit 1
 fi
 ./chain 20000 || exit 1
+# Every shape for small meshes and on both sides of the limits; at the largest size the shape with most points.
+./stack 0 1 64 682 683 4096 4097 30000 || exit 1
+./stack --shapes 1 1048576 || exit 1
+
+# The fuzz targets without a fuzzer, on the inputs kept from it. meshfix is asked in this process: its main, read and write have other names here.
+(cd "$here" && rt check meshfix) >log 2>&1 || { tail -n 3 log; exit 1; }
+objcopy --redefine-sym main=meshfix_main --redefine-sym read=text_read --redefine-sym write=text_write "$here/target/obj/meshfix.o" meshfix.o || exit 1
+fuzz=$here/fuzz
+gcc "${flags[@]}" "-I$fuzz" -DBLOCKS_ANCHOR=shell_line -o calls "$fuzz"/{replay,calls,document,lend,blocks}.c libshell.a -lm || exit 1
+gcc "${flags[@]}" "-I$fuzz" -DBLOCKS_ANCHOR=meshfix_main -o text "$fuzz"/{replay,text,blocks}.c meshfix.o libshell.a || exit 1
+./calls "$here"/tests/cases/fuzz/calls/* || exit 1
+./text "$here"/tests/cases/fuzz/text/* "$here"/tests/cases/text/*.txt || exit 1
+
 if command -v valgrind >/dev/null; then
-    valgrind -q --error-exitcode=9 ./replay "$here/tests/cases/lib.cases.bin" "$here/tests/cases/lib.answers.bin" || exit 1
-    valgrind -q --error-exitcode=9 ./chain 300 || exit 1
+    watched=(valgrind -q --error-exitcode=9)
+    "${watched[@]}" ./example >found || exit 1
+    diff found "$here/host/example.out" || exit 1
+    "${watched[@]}" ./replay "$here/tests/cases/lib.cases.bin" "$here/tests/cases/lib.answers.bin" || exit 1
+    "${watched[@]}" ./chain 300 || exit 1
+    "${watched[@]}" "$here/target/bin/meshfix" <"$here/examples/shell.txt" >found || exit 1
+    diff found "$here/examples/shell.out" || exit 1
 else
     echo "host: no valgrind here, so the rooms' neighbours are not watched"
 fi

@@ -2,6 +2,7 @@
 
 use crate::case::{Call, Case};
 use crate::lent::Lent;
+use crate::meshes::Mesh;
 
 /// What a call gives back: number, place, and how many entries stand in each answer room (for the edge check 1 or 0).
 #[derive(Clone, PartialEq, Debug)]
@@ -85,6 +86,15 @@ pub fn run(case: &Case, input: &mut Inputs, rooms: &mut [Lent]) -> Option<Reply>
         #[allow(unreachable_patterns)]
         _ => None,
     }
+}
+
+/// A mesh as the library's repair mends it.
+pub fn mended(case: &Case) -> Mesh {
+    let (mut input, mut rooms) = (Inputs::new(case), case.stated().into_iter().map(|(size, n)| Lent::bare(size, n as usize)).collect::<Vec<_>>());
+    let reply = run(case, &mut input, &mut rooms).expect("the library has the call");
+    let points = rooms[0].entries::<f64>(reply.counts[0] as usize).chunks_exact(3).map(|p| [p[0], p[1], p[2]]).collect();
+    let faces = rooms[1].entries::<u32>(reply.counts[1] as usize).chunks_exact(3).map(|f| [f[0], f[1], f[2]]).collect();
+    Mesh { points, faces }
 }
 
 /// A reply of any call.

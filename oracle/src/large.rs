@@ -8,7 +8,7 @@ use std::process::ExitCode;
 
 /// A grid of about so many faces, of which one in a hundred has a defect: turned, written twice, on a crowded edge, left out, flattened,
 /// or meeting another part of the grid in a point.
-fn scanned(faces: usize, random: &mut Random) -> Mesh {
+pub fn scanned(faces: usize, random: &mut Random) -> Mesh {
     let side = ((faces as f64 / 2.0).sqrt() as usize).max(1);
     let mut mesh = meshes::grid(faces.div_ceil(2 * side), side);
     let count = mesh.points.len();

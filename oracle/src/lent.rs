@@ -36,6 +36,11 @@ impl Lent {
         Lent { before: words.clone(), words, size, length, null: dirt & 1 == 1 }
     }
 
+    /// A room of zeros that is not watched: for times, and with no memory beside the room.
+    pub fn bare(size: usize, length: usize) -> Self {
+        Lent { before: vec![], words: vec![0; 2 * MARGIN + (size * length).div_ceil(8)], size, length, null: false }
+    }
+
     /// Input, which no call may change.
     pub fn input(size: usize, content: &[u8], dirt: u64) -> Self {
         let mut lent = Self::room(size, content.len() / size, 0, dirt);
@@ -55,6 +60,12 @@ impl Lent {
             return std::ptr::null_mut();
         }
         self.words[MARGIN..].as_mut_ptr().cast()
+    }
+
+    /// The first n entries.
+    pub fn entries<T: Copy>(&mut self, n: usize) -> &[T] {
+        assert!(n <= self.length && std::mem::size_of::<T>() == self.size);
+        unsafe { std::slice::from_raw_parts(self.words[MARGIN..].as_ptr().cast(), n) }
     }
 
     /// The bytes of the room as they stand now, and the margins with them.

@@ -1,5 +1,6 @@
 //! Compares the library's calls with the Rust: `oracle [--seed N] [--cases N] [--call NAME] [--show N]`, `oracle --self-test`,
-//! `oracle --time CALL FACES`, `oracle --large FACES`, `oracle --recorded CASES ANSWERS`.
+//! `oracle --time CALL FACES [SHAPE [WAY]]`, `oracle --shapes`, `oracle --write SHAPE FACES FILE`, `oracle --large FACES`,
+//! `oracle --recorded CASES ANSWERS`.
 
 mod case;
 mod compare;
@@ -18,10 +19,12 @@ mod random;
 mod recorded;
 mod refuse;
 mod self_test;
+mod shapes;
 mod shrink;
 mod tally;
 mod there;
 mod time;
+mod write;
 
 use case::{CALLS, Call, Case};
 use fault::Fault;
@@ -49,14 +52,18 @@ fn main() -> ExitCode {
     let words: Vec<&str> = words.iter().map(String::as_str).collect();
     match words[..] {
         ["--self-test"] => self_test::run(),
-        ["--time", call, faces] => time::run(call, faces.parse().expect("a number of faces")),
+        ["--time", call, faces] => time::run(call, faces.parse().expect("a number of faces"), "grid"),
+        ["--time", call, faces, shape] => time::run(call, faces.parse().expect("a number of faces"), shape),
+        ["--time", call, faces, shape, way] => time::one(call, faces.parse().expect("a number of faces"), shape, way),
+        ["--shapes"] => time::shapes(),
+        ["--write", shape, faces, file] => write::run(shape, faces.parse().expect("a number of faces"), file),
         ["--large", faces] => large::run(faces.parse().expect("a number of faces")),
         ["--recorded", cases, answers] => recorded::run(cases, answers),
         _ => match settings(&words) {
             Some(settings) => compare_all(&settings),
             None => {
                 eprintln!(
-                    "usage: oracle [--seed N] [--cases N] [--call NAME] [--show N] | --self-test | --time CALL FACES | --large FACES | --recorded CASES ANSWERS"
+                    "usage: oracle [--seed N] [--cases N] [--call NAME] [--show N] | --self-test | --time CALL FACES [SHAPE [WAY]] | --shapes | --write SHAPE FACES FILE | --large FACES | --recorded CASES ANSWERS"
                 );
                 ExitCode::from(2)
             }

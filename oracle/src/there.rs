@@ -2,6 +2,7 @@
 
 use crate::case::{Call, Case};
 use crate::refuse;
+use crate::time::LINES;
 use engeom::edges::MeshEdges;
 use engeom::patches::{PatchFilter, PatchLabels, PatchStats};
 use engeom::repair::{RepairOpts, RepairReport, repair_buffers};
@@ -207,7 +208,7 @@ pub fn measures(case: &Case) -> Vec<f64> {
 }
 
 /// Times the Rust alone, its input made beforehand.
-pub fn time(case: &Case, median: impl FnOnce(&mut dyn FnMut()) -> f64) -> f64 {
+pub fn time<T>(case: &Case, median: impl FnOnce(&mut dyn FnMut()) -> T) -> T {
     na::set_threshold(case.threshold);
     let (mesh, options, filter) = (mesh(case), options(case.options), filter(case));
     let patches = || labels(case).unwrap().compute_stats(&mesh).map(|stats| filter.keep_flags(&stats));
@@ -215,14 +216,18 @@ pub fn time(case: &Case, median: impl FnOnce(&mut dyn FnMut()) -> f64) -> f64 {
         Call::Repair => median(&mut || drop(repair_buffers(mesh.points(), mesh.faces(), &options))),
         Call::Edges => median(&mut || drop(MeshEdges::new(&mesh))),
         Call::Patches => median(&mut || drop(patches())),
-        Call::Check | Call::Line => f64::NAN,
+        Call::Line => {
+            let report = report(case);
+            median(&mut || (0..LINES).for_each(|_| drop(std::hint::black_box(report.to_string()))))
+        }
+        Call::Check => unreachable!("the Rust has no edge check"),
     }
 }
 
-/// `RepairReport`'s `Display`: count and row.
-fn line(case: &Case) -> (Vec<u64>, Vec<Vec<u8>>) {
+/// The report of ten counts.
+fn report(case: &Case) -> RepairReport {
     let n = |k: usize| case.counts[k] as usize;
-    let report = RepairReport {
+    RepairReport {
         degenerate_removed: n(0),
         duplicate_faces_removed: n(1),
         nonmanifold_edges: n(2),
@@ -234,7 +239,11 @@ fn line(case: &Case) -> (Vec<u64>, Vec<Vec<u8>>) {
         nonorientable_components: n(8),
         isolated_vertices_removed: n(9),
         faces_rejected_by_ingest: 0,
-    };
-    let text = report.to_string().into_bytes();
+    }
+}
+
+/// `RepairReport`'s `Display`: count and row.
+fn line(case: &Case) -> (Vec<u64>, Vec<Vec<u8>>) {
+    let text = report(case).to_string().into_bytes();
     (vec![text.len() as u64], vec![text])
 }

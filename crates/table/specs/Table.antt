@@ -3,12 +3,21 @@ use mathlib.Core.Path.{_≡_}
 use mathlib.Core.Bool.{Bool}
 use mathlib.Core.List.{List}
 use Prim.Native.Nat.{ℕ, _+_, _*_, _^_, _%_, _≤_, _<_}
-use lib.ListN.{length, getD}
+use lib.ListN.{length, getD, set}
 use Rattle.rows.specs.Region.{part, Apart, Only, Only2, Holds, Filled}
 use Rattle.rules.specs.Lists.{each, first}
 use Rattle.rules.specs.Mesh.{facesOf}
-use Rattle.rules.specs.Steps.{same}
+use Rattle.rules.specs.Steps.{Step, same}
 use Rattle.table.specs.Entries.{stepAt, under, idsOf, keysOf, startOf}
+
+-- places for both keys of entry i
+pub record PutAsks (w : List ℕ) (first second i : ℕ) : Type 0 where
+  pub first-fit : first + i < length w
+  pub second-fit : second + i < length w
+
+-- both keys of entry i written, of what step s is under
+abbrev pub put : List ℕ → Bool → ℕ → ℕ → ℕ → Step → List ℕ
+put w d first second i s = set (set w (first + i) (under d s .from)) (second + i) (under d s .to)
 
 -- rows for both keys of each entry
 pub record KeysAsks (w xs : List ℕ) (first second : ℕ) : Type 0 where

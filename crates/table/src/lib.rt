@@ -9,19 +9,10 @@
 //     at + 4n       n + 1   where each run begins in the order, and n behind the last; while sorting, scratch
 //     at + 5n + 1   P       bins, 0 at exit
 ghost use mathlib.Core.Path.{_≡_};
-ghost use Prim.Native.Nat.{_^_, _<_};
 ghost use Rattle.rules.specs.Steps.{step};
-ghost use Rattle.table.specs.Entries.{next, under};
-ghost use Rattle.table.specs.Table.{KeysAsks, KeysGives, TableAsks, OrderGives, TableGives};
+ghost use Rattle.table.specs.Entries.{under};
+ghost use Rattle.table.specs.Table.{put, PutAsks, KeysAsks, KeysGives, TableAsks, OrderGives, TableGives};
 ghost use Rattle.table.specs.Runs.{begins, BeginsAsks, NoteAsks, NoteGives, RunsAsks, RunsGives};
-
-// The place of the corner that follows the one at place i of the flat list, in its face.
-fn after(i: usize) -> usize
-    requires { ⌜ i < 2 ^ 32 ⌝ }
-    ensures { λ r. ⌜ r ≡ next i ⌝ }
-{
-    if i % 3 == 2 { i - 2 } else { i + 1 }
-}
 
 // The first key of an entry whose step goes from x to y.
 fn first_key(directed: bool, x: u32, y: u32) -> u32
@@ -43,7 +34,26 @@ fn second_key(directed: bool, x: u32, y: u32) -> u32
     if x <= y { y } else { x }
 }
 
-// Writes the two keys of each entry: the ends of its step, as it goes, or the lower one first.
+// Writes the two keys of entry i, whose step goes from x to y.
+fn put(
+    work: &mut [u32],
+    directed: bool,
+    first: usize,
+    second: usize,
+    i: usize,
+    x: u32,
+    y: u32,
+)
+    requires { ⌜ PutAsks (now work) first second i ⌝ }
+    ensures { λ _. ⌜ now (work .exit) ≡ put (now (work .entry)) directed first second i (step x y) ⌝ }
+{
+    let a = first_key(directed, x, y);
+    let b = second_key(directed, x, y);
+    work[first + i] = a;
+    work[second + i] = b;
+}
+
+// Writes the two keys of each entry, face after face: the ends of its step, as it goes, or the lower one first.
 fn keys(work: &mut [u32], faces: &[u32], directed: bool, first: usize, second: usize)
     requires { ⌜ KeysAsks (now work) (now faces) first second ⌝ }
     ensures { λ _. ⌜ KeysGives (now (work .entry)) (now (faces .entry)) directed first second (now (work .exit)) ⌝ }
@@ -52,13 +62,12 @@ fn keys(work: &mut [u32], faces: &[u32], directed: bool, first: usize, second: u
     let mut i = 0;
     while i < n {
         let x = faces[i];
-        let j = after(i);
-        let y = faces[j];
-        let a = first_key(directed, x, y);
-        let b = second_key(directed, x, y);
-        work[first + i] = a;
-        work[second + i] = b;
-        i += 1;
+        let y = faces[i + 1];
+        let z = faces[i + 2];
+        put(work, directed, first, second, i, x, y);
+        put(work, directed, first, second, i + 1, y, z);
+        put(work, directed, first, second, i + 2, z, x);
+        i += 3;
     }
 }
 

@@ -35,15 +35,7 @@ fn second_key(directed: bool, x: u32, y: u32) -> u32
 }
 
 // Writes the two keys of entry i, whose step goes from x to y.
-fn put(
-    work: &mut [u32],
-    directed: bool,
-    first: usize,
-    second: usize,
-    i: usize,
-    x: u32,
-    y: u32,
-)
+fn put(work: &mut [u32], directed: bool, first: usize, second: usize, i: usize, x: u32, y: u32)
     requires { ⌜ PutAsks (now work) first second i ⌝ }
     ensures { λ _. ⌜ now (work .exit) ≡ put (now (work .entry)) directed first second i (step x y) ⌝ }
 {

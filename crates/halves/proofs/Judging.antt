@@ -1,8 +1,6 @@
 -- The verdict when all keys are passed. Assumes nothing.
 use mathlib.Core.Path.{_≡_}
 use mathlib.Core.Bool.{true, false}
-use mathlib.Core.List.{List, _∷_}
-use lib.ListN.{length}
 use Prim.Native.Nat.{ℕ, _*_, _≤_, _<_}
 use native.Mathlib.Omega.{arith}
 use Rattle.halves.specs.declared.State.{State}
@@ -27,7 +25,3 @@ module _ {P : ℕ} {t : State} where
     -- none is
     pub fine-right : P ≤ o .bad → JudgeGives P t Fine
     fine-right h = record { right = λ c w. let u = last c w in let a = q .at in fine (u .calm) (λ x l. u .fair x (omega arith) (omega arith)) }
-
--- a buffer that is long enough
-pub five : (a b c d e : ℕ) (r : List ℕ) → 4 < length (a ∷ b ∷ c ∷ d ∷ e ∷ r)
-five a b c d e r = omega arith

@@ -1,7 +1,7 @@
 -- The loop over ranges of keys: its beginning, a buffer that one key fills, a walk, and its end. Assumes nothing.
 use mathlib.Core.Path.{_≡_, refl, sym, ap, subst, _∙_}
 use mathlib.Core.Bool.{true, false}
-use mathlib.Core.List.{List}
+use mathlib.Core.List.{List, _∷_}
 use Prim.Native.Nat.{ℕ, zero, suc, _+_, _*_, _/_, _%_, _≤_, _<_}
 use native.Mathlib.Nat.{div-add-mod', mod-lt, div-lt-iff-lt-mul, mul-add-div-right, div-eq-of-lt, mul-add-mod-self-right, mod-eq-of-lt, mul-le-mul-right}
 use native.Mathlib.Omega.{arith}
@@ -11,13 +11,14 @@ use lib.ListN.{length, getD}
 use Rattle.refuse.specs.Accepted.{Faces}
 use Rattle.halves.specs.declared.State.{State}
 use Rattle.halves.specs.Split.{hit, tally}
-use Rattle.halves.specs.Scan.{usersOf, usersAt, edgesTo, beginsTo, endsTo, Calm, Upto, Told, Small}
+use Rattle.halves.specs.Scan.{usersOf, usersAt, edgesTo, beginsTo, endsTo, Calm, Upto, Told, Small, StartGives}
 use Rattle.halves.specs.Walk.{WalkAsks, WalkGives}
-use Rattle.halves.specs.Gather.{halves, GatherAsks, GatherGives, RoundsAsks}
+use Rattle.halves.specs.Gather.{halves, GatherAsks, GatherGives, RoundsAsks, RoundsGives}
 use Rattle.halves.proofs.Tallies.{hit-same, hit-other, tally-zero, tally-suc}
 use Rattle.halves.proofs.Weights.{users-same, users-other}
 use Rattle.halves.proofs.Scanning.{users-at}
 use Rattle.halves.proofs.Halves.{halves-sym}
+use Rattle.halves.proofs.Walking.{small-more, crowd-told}
 
 -- where all have one key, its two values are all there is
 tally-two : (a : List ℕ) (s n k : ℕ) → ((i : ℕ) → i < n → getD a (s + i) 0 / 2 ≡ k) → tally a s n (2 * k) + tally a s n (2 * k + 1) ≡ n
@@ -125,36 +126,56 @@ upto-none c P =
       unfair = λ h. absurd (omega arith);
     }
 
+-- the start
+pub started : (P : ℕ) → StartGives P (record { unique = 0; crowd = false; at = 0; begins = 0; ends = 0; bad = P })
+started P =
+    record {
+      going = refl;
+      small = record { unique = omega arith; begins = omega arith; ends = omega arith };
+      told = λ c. record { going = λ z. upto-none c P; met = λ z. absurd (subst T (sym z) tt) };
+    }
+
 -- the keys before `from` are passed, and none was crowded
-pub record Going (f : List ℕ) (P : ℕ) (a₀ : List ℕ) (size : ℕ) (a : List ℕ) (from : ℕ) (t : State) : Type 0 where
+pub record Going (f : List ℕ) (P top : ℕ) (a₀ : List ℕ) (size : ℕ) (a : List ℕ) (from : ℕ) (t : State) : Type 0 where
   pub size-is : size ≡ length a₀
   pub long : length a ≡ length a₀
-  pub within : from ≤ P * P
+  pub within : from ≤ top
   pub going : t .crowd ≡ false
   pub small : Small from t
   pub upto : Upto (halves f P (length f)) P from (t .unique) (t .at) (t .begins) (t .ends) (t .bad)
 
--- before the first
-pub begin : {f : List ℕ} {P : ℕ} {a : List ℕ} → RoundsAsks f P a → Going f P a (length a) a 0 (record { unique = 0; crowd = false; at = 0; begins = 0; ends = 0; bad = P })
-begin {f} {P} p =
-    record { size-is = refl; long = refl; within = omega arith; going = refl; small = record { unique = omega arith; begins = omega arith; ends = omega arith }; upto = upto-none (halves f P (length f)) P }
+-- a buffer that is long enough
+pub five : (a b c d e : ℕ) (r : List ℕ) → 4 < length (a ∷ b ∷ c ∷ d ∷ e ∷ r)
+five a b c d e r = omega arith
 
-module _ {f : List ℕ} {P : ℕ} {a₀ : List ℕ} {size : ℕ} {a : List ℕ} {from : ℕ} {t : State} (p : RoundsAsks f P a₀) (w : Going f P a₀ size a from t) where
+-- all keys are taken in
+pub all-asks : {f : List ℕ} {P : ℕ} {t : State} {a : List ℕ} → Faces P f → StartGives P t → 4 < length a → RoundsAsks f P 0 (P * P) t a
+all-asks q s r = record { faces = q; order = omega arith; within = omega arith; going = s .going; small = s .small; told = s .told _; room = r }
+
+-- before the first
+pub begin : {f : List ℕ} {P from top : ℕ} {t : State} {a : List ℕ} → RoundsAsks f P from top t a → Going f P top a (length a) a from t
+begin p = record { size-is = refl; long = refl; within = p .order; going = p .going; small = p .small; upto = p .told .going (p .going) }
+
+module _ {f : List ℕ} {P low top : ℕ} {t₀ : State} {a₀ : List ℕ} {size : ℕ} {a : List ℕ} {from : ℕ} {t : State} (p : RoundsAsks f P low top t₀ a₀) (w : Going f P top a₀ size a from t) where
   -- after the last
-  pub done : P * P ≤ from → Told (halves f P (length f)) P (P * P) t
+  pub done : top ≤ from → RoundsGives f P top t
   done h =
       let l = w .within in
-      let e : from ≡ P * P = omega arith in
-      record { going = λ z. rw e at (w .upto); met = λ z. absurd (subst T (sym z ∙ w .going) tt) }
+      let e : from ≡ top = omega arith in
+      record { small = rw e at (w .small); told = record { going = λ z. rw e at (w .upto); met = λ z. absurd (subst T (sym z ∙ w .going) tt) } }
 
-  module _ (h : from < P * P) where
+  module _ (h : from < top) where
     -- the half entries of the next keys are gathered
-    pub gather-asks : GatherAsks f P from (P * P) a
+    pub gather-asks : GatherAsks f P from top a
     gather-asks = let l = w .long in let r = p .room in record { faces = p .faces; above = h; room = omega arith }
 
-    module _ {a₁ : List ℕ} {n to : ℕ} (g : GatherGives f P from (P * P) a a₁ n to) where
+    -- each is a key
+    key-in : from < P * P
+    key-in = let q = p .within in omega arith
+
+    module _ {a₁ : List ℕ} {n to : ℕ} (g : GatherGives f P from top a a₁ n to) where
       -- one key fills the buffer: its edge is crowded
-      pub full : n ≡ size → Told (halves f P (length f)) P (P * P) (record { unique = t .unique; crowd = true; at = 0; begins = 0; ends = 0; bad = P })
+      pub full : n ≡ size → RoundsGives f P top (record { unique = t .unique; crowd = true; at = 0; begins = 0; ends = 0; bad = P })
       full e =
           let l = w .long in
           let s = w .size-is in
@@ -164,10 +185,13 @@ module _ {f : List ℕ} {P : ℕ} {a₀ : List ℕ} {size : ℕ} {a : List ℕ} 
           let two = tally-two a₁ 0 n from (λ j q. let x = i .low j q in let y = i .high j q in omega arith) in
           let m = g .most in
           let many : 4 < halves f P (length f) (2 * from) + halves f P (length f) (2 * from + 1) = omega (arith, m .each (2 * from) (omega arith) (omega arith), m .each (2 * from + 1) (omega arith) (omega arith)) in
-          let lower = is-lower (p .faces) h (w .upto .calm) many in
+          let lower = is-lower (p .faces) key-in (w .upto .calm) many in
           record {
-            going = λ z. absurd (subst T z tt);
-            met = λ z. record { key = from; within = h; calm = w .upto .calm; lower = lower; many = lower-many (p .faces) h (w .upto .calm) many lower; counted = w .upto .counted };
+            small = record { unique = omega (arith, w .small .unique); begins = omega arith; ends = omega arith };
+            told = record {
+              going = λ z. absurd (subst T z tt);
+              met = λ z. record { key = from; within = key-in; calm = w .upto .calm; lower = lower; many = lower-many (p .faces) key-in (w .upto .calm) many lower; counted = w .upto .counted };
+            };
           }
 
       module _ (ne : n ≡ size → ⊥) where
@@ -180,8 +204,10 @@ module _ {f : List ℕ} {P : ℕ} {a₀ : List ℕ} {size : ℕ} {a : List ℕ} 
         walk-asks =
             let l = g .holding .long in
             let b = g .holding .above in
+            let i = g .holding .within in
+            let k = p .within in
             let m = less in
-            record { fit = omega arith; points = points P from h; top = g .holding .within; order = omega arith; inside = g .holding .inside; small = w .small }
+            record { fit = omega arith; points = points P from key-in; top = omega arith; order = omega arith; inside = g .holding .inside; small = w .small }
 
         module _ {a₂ : List ℕ} {r : State} (k : WalkGives a₁ 0 n from to P t a₂ r) where
           -- the keys before `to` are passed
@@ -189,11 +215,11 @@ module _ {f : List ℕ} {P : ℕ} {a₀ : List ℕ} {size : ℕ} {a : List ℕ} 
           told = k .told (halves f P (length f)) (g .counts less) (record { going = λ z. w .upto; met = λ z. absurd (subst T (sym z ∙ w .going) tt) })
 
           -- a crowded edge ends the loop
-          pub crowd : r .crowd ≡ true → Told (halves f P (length f)) P (P * P) r
-          crowd e = record { going = λ z. absurd (subst T (sym e ∙ z) tt); met = told .met }
+          pub crowd : r .crowd ≡ true → RoundsGives f P top r
+          crowd e = record { small = small-more (g .holding .within) (k .small); told = crowd-told e told }
 
           -- else it goes on
-          pub again : r .crowd ≡ false → Going f P a₀ size a₂ to r
+          pub again : r .crowd ≡ false → Going f P top a₀ size a₂ to r
           again e =
               record {
                 size-is = w .size-is;

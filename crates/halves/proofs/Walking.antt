@@ -24,11 +24,15 @@ blank from to l h t =
     rw e at (pass-many (to - from) t (λ j p q. h j p (omega arith)))
 
 -- whether or not a crowded edge was met
-blank-told : {c : ℕ → ℕ} {P : ℕ} {t : State} (from to : ℕ) → from ≤ to → ((j : ℕ) → from ≤ j → j < to → (c (2 * j) ≡ 0) × (c (2 * j + 1) ≡ 0)) → Told c P from t → Told c P to t
+pub blank-told : {c : ℕ → ℕ} {P : ℕ} {t : State} (from to : ℕ) → from ≤ to → ((j : ℕ) → from ≤ j → j < to → (c (2 * j) ≡ 0) × (c (2 * j + 1) ≡ 0)) → Told c P from t → Told c P to t
 blank-told from to l h w = record { going = λ z. blank from to l h (w .going z); met = w .met }
 
+-- a crowded edge is met once for all
+pub crowd-told : {c : ℕ → ℕ} {P from to : ℕ} {t : State} → t .crowd ≡ true → Told c P from t → Told c P to t
+crowd-told e w = record { going = λ z. absurd (subst T (sym e ∙ z) tt); met = w .met }
+
 -- a bound may be larger
-small-more : {t : State} {k l : ℕ} → k ≤ l → Small k t → Small l t
+pub small-more : {t : State} {k l : ℕ} → k ≤ l → Small k t → Small l t
 small-more h s = record { unique = omega (arith, s .unique); begins = omega (arith, s .begins); ends = omega (arith, s .ends) }
 
 -- what is inside stays so where no value is gained
@@ -73,7 +77,7 @@ module _ {a : List ℕ} {s n from to P : ℕ} {t : State} (p : WalkAsks a s n fr
       record {
         only = only-none _ _ _;
         small = small-more (p .order) (p .small);
-        told = λ c q w. record { going = λ z. absurd (subst T (sym e ∙ z) tt); met = w .met };
+        told = λ c q w. crowd-told e w;
       }
 
   -- there is no half entry

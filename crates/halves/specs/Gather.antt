@@ -1,12 +1,14 @@
 -- The half entries of a mesh's steps, and what the functions that gather those of a range of keys ask and give.
 use mathlib.Core.Path.{_≡_}
-use mathlib.Core.Bool.{cond}
+use mathlib.Core.Bool.{cond, false}
 use mathlib.Core.List.{List}
 use Prim.Native.Nat.{ℕ, zero, suc, _+_, _-_, _*_, _/_, _%_, _≤_, _<_, _^_}
 use lib.Dec.{eqb}
 use lib.ListN.{length, getD}
 use Rattle.refuse.specs.Accepted.{Faces}
+use Rattle.halves.specs.declared.State.{State}
 use Rattle.halves.specs.Split.{hit, tally}
+use Rattle.halves.specs.Scan.{Told, Small}
 use Rattle.halves.specs.Walk.{Counts, Inside}
 
 -- the corner after corner i of the same face
@@ -80,7 +82,17 @@ pub record GatherGives (f : List ℕ) (P from top : ℕ) (a a′ : List ℕ) (n 
   pub counts : n < length a → Counts (halves f P (length f)) a′ 0 n from to
   pub most : AtMost (halves f P (length f)) a′ n from to
 
--- faces and such a buffer
-pub record RoundsAsks (f : List ℕ) (P : ℕ) (a : List ℕ) : Type 0 where
+-- keys from `from` up to `top`, those before them passed and none crowded, and such a buffer
+pub record RoundsAsks (f : List ℕ) (P from top : ℕ) (t : State) (a : List ℕ) : Type 0 where
   pub faces : Faces P f
+  pub order : from ≤ top
+  pub within : top ≤ P * P
+  pub going : t .crowd ≡ false
+  pub small : Small from t
+  pub told : Told (halves f P (length f)) P from t
   pub room : 4 < length a
+
+-- the keys before `top` are passed
+pub record RoundsGives (f : List ℕ) (P top : ℕ) (r : State) : Type 0 where
+  pub small : Small top r
+  pub told : Told (halves f P (length f)) P top r

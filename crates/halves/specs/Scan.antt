@@ -88,6 +88,12 @@ pub record Small (k : ℕ) (t : State) : Type 0 where
   pub begins : t .begins ≤ k
   pub ends : t .ends ≤ k
 
+-- no key is passed
+pub record StartGives (P : ℕ) (t : State) : Type 0 where
+  pub going : t .crowd ≡ false
+  pub small : Small 0 t
+  pub told : (c : ℕ → ℕ) → Told c P 0 t
+
 -- the vertex v is the next: the one before it is judged
 pub record CloseGives (P v : ℕ) (t r : State) : Type 0 where
   pub crowd : r .crowd ≡ t .crowd

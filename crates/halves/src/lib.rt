@@ -11,11 +11,10 @@ ghost use mathlib.Core.Bool.{true, false, _&&_};
 ghost use lib.Dec.{leb, ltb};
 ghost use lib.ListN.{length};
 ghost use Rattle.halves.specs.Split.{SplitGives, SpanGives, EvensGives};
-ghost use Rattle.halves.specs.Scan.{one, usersOf, outOf, intoOf, CloseGives, VisitAsks, VisitGives};
+ghost use Rattle.halves.specs.Scan.{one, usersOf, outOf, intoOf, StartGives, CloseGives, VisitAsks, VisitGives};
 ghost use Rattle.halves.specs.Walk.{WalkAsks, WalkGives};
-ghost use Rattle.halves.specs.Gather.{nextOf, halves, ShrinkAsks, ShrinkGives, PutAsks, PutGives, BothAsks, BothGives, GatherAsks, GatherGives, RoundsAsks};
+ghost use Rattle.halves.specs.Gather.{nextOf, halves, ShrinkAsks, ShrinkGives, PutAsks, PutGives, BothAsks, BothGives, GatherAsks, GatherGives, RoundsAsks, RoundsGives};
 ghost use Rattle.refuse.specs.Accepted.{Faces};
-ghost use Rattle.halves.specs.Scan.{Told};
 ghost use Rattle.halves.specs.Right.{Right, JudgeGives};
 
 // Of the n entries from `s` on puts those whose key is below `mid` first, and returns how many they are.
@@ -203,7 +202,7 @@ fn crowds(v: u64, u: u64, users: u64) -> bool
 }
 
 // Takes in the key k, of which there are n half entries, b of them even.
-fn visit(points: u64, k: u64, n: u64, b: u64, t: State) -> State
+pub fn visit(points: u64, k: u64, n: u64, b: u64, t: State) -> State
     requires { ⌜ VisitAsks points k n b t ⌝ }
     ensures { λ r. ⌜ VisitGives points k n b t r ⌝ }
 {
@@ -235,7 +234,15 @@ fn visit(points: u64, k: u64, n: u64, b: u64, t: State) -> State
 }
 
 // Takes in all keys from `from` up to `to`, whose half entries are the n from `s` on: the range is halved until it has one key.
-fn walk(buffer: &mut [u64], s: usize, n: usize, from: u64, to: u64, points: u64, t: State) -> State
+pub fn walk(
+    buffer: &mut [u64],
+    s: usize,
+    n: usize,
+    from: u64,
+    to: u64,
+    points: u64,
+    t: State,
+) -> State
     requires { ⌜ WalkAsks (now buffer) s n from to points t ⌝ }
     ensures { λ r. ⌜ WalkGives (now (buffer .entry)) s n from to points t (now (buffer .exit)) r ⌝ }
 {
@@ -360,7 +367,7 @@ fn put_both(buffer: &mut [u64], n: usize, from: u64, to: u64, points: u64, v: u6
 }
 
 // The place of the corner that follows the one at place i of the flat list, in its face.
-fn next(i: usize) -> usize
+pub fn next(i: usize) -> usize
     requires { ⌜ i + 1 < 2 ^ 64 ⌝ }
     ensures { λ r. ⌜ r ≡ nextOf i ⌝ }
 {
@@ -394,29 +401,42 @@ fn gather(points: u64, faces: &[u32], from: u64, top: u64, buffer: &mut [u64]) -
     Got { to: to, n: n }
 }
 
-// Takes in all keys, as many at a time as the buffer holds.
-fn rounds(points: u64, faces: &[u32], buffer: &mut [u64]) -> State
-    requires { ⌜ RoundsAsks (now faces) points (now buffer) ⌝ }
-    ensures { λ r. ⌜ Told (halves (now (faces .entry)) points (length (now (faces .entry)))) points (points * points) r ⌝ }
+// What is known before the first key.
+pub fn start(points: u64) -> State
+    ensures { λ r. ⌜ StartGives points r ⌝ }
 {
-    let size = buffer.len();
-    let top = points * points;
-    let mut from: u64 = 0;
-    let mut t = State {
+    State {
         unique: 0,
         crowd: false,
         at: 0,
         begins: 0,
         ends: 0,
         bad: points,
-    };
-    while from < top {
-        let g = gather(points, faces, from, top, buffer);
+    }
+}
+
+// Takes in the keys from `from` up to `top`, as many at a time as the buffer holds.
+pub fn rounds(
+    points: u64,
+    faces: &[u32],
+    from: u64,
+    top: u64,
+    t: State,
+    buffer: &mut [u64],
+) -> State
+    requires { ⌜ RoundsAsks (now faces) points from top t (now buffer) ⌝ }
+    ensures { λ r. ⌜ RoundsGives (now (faces .entry)) points top r ⌝ }
+{
+    let size = buffer.len();
+    let mut low = from;
+    let mut s = t;
+    while low < top {
+        let g = gather(points, faces, low, top, buffer);
         let n = g.n;
         let to = g.to;
         if n == size {
             return State {
-                unique: t.unique,
+                unique: s.unique,
                 crowd: true,
                 at: 0,
                 begins: 0,
@@ -424,17 +444,17 @@ fn rounds(points: u64, faces: &[u32], buffer: &mut [u64]) -> State
                 bad: points,
             };
         }
-        t = walk(buffer, 0, n, from, to, points, t);
-        if t.crowd {
-            return t;
+        s = walk(buffer, 0, n, low, to, points, s);
+        if s.crowd {
+            return s;
         }
-        from = to;
+        low = to;
     }
-    t
+    s
 }
 
 // The verdict when all keys are passed.
-fn judge(points: u64, t: State) -> Verdict
+pub fn judge(points: u64, t: State) -> Verdict
     ensures { λ r. ⌜ JudgeGives points t r ⌝ }
 {
     if t.crowd {
@@ -447,41 +467,13 @@ fn judge(points: u64, t: State) -> Verdict
     Verdict::Fine
 }
 
-// The verdict, with a buffer of 32 KB.
-fn small(points: u64, faces: &[u32]) -> Verdict
-    requires { ⌜ Faces points (now faces) ⌝ }
-    ensures { λ r. ⌜ Right (halves (now (faces .entry)) points (length (now (faces .entry)))) points r ⌝ }
-{
-    let mut buffer = [0u64; 4096];
-    let t = rounds(points, faces, &mut buffer);
-    judge(points, t)
-}
-
-// The verdict, with a buffer of 1 MB.
-fn large(points: u64, faces: &[u32]) -> Verdict
-    requires { ⌜ Faces points (now faces) ⌝ }
-    ensures { λ r. ⌜ Right (halves (now (faces .entry)) points (length (now (faces .entry)))) points r ⌝ }
-{
-    let mut buffer = [0u64; 131072];
-    let t = rounds(points, faces, &mut buffer);
-    if t.crowd {
-        return judge(points, t);
-    }
-    // This is never so. A function that calls itself is not made a part of its caller, so that the large buffer is on the stack only where it is
-    // used.
-    if points < t.bad {
-        return large(points, faces);
-    }
-    judge(points, t)
-}
-
-// The verdict of the edge call on 7 and 8: up to 4096 faces with the small buffer.
+// The verdict of the edge call on 7 and 8, with a buffer of 32 KB.
 pub fn decide(points: u64, faces: &[u32]) -> Verdict
     requires { ⌜ Faces points (now faces) ⌝ }
     ensures { λ r. ⌜ Right (halves (now (faces .entry)) points (length (now (faces .entry)))) points r ⌝ }
 {
-    if faces.len() <= 12288 {
-        return small(points, faces);
-    }
-    large(points, faces)
+    let mut buffer = [0u64; 4096];
+    let s = start(points);
+    let t = rounds(points, faces, 0, points * points, s, &mut buffer);
+    judge(points, t)
 }

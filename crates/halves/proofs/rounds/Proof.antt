@@ -1,20 +1,16 @@
--- `halves::rounds` meets its contract. The invariant: the keys below `from` are passed, and no edge there is crowded. Assumes nothing.
+-- `halves::rounds` meets its contract. The invariant: the keys below `low` are passed, and no edge there is crowded. Assumes nothing.
 use mathlib.Core.Path.{_∙_}
 use Prim.Native.Nat.{_-_}
 use native.Mathlib.Omega.{arith}
-use Rattle.halves.proofs.Halves.{bound}
 use Rattle.halves.proofs.Ranges.{Going, begin, done, gather-asks, full, walk-asks, crowd, again}
 use Rattle.halves.proofs.rounds.Statement.{statement}
 use Rattle.halves.proofs.rounds.Tie as tie
 
 abbrev Inv-loop : tie.InvT-loop
-Inv-loop p faces a₀ size top from₀ t₀ a from t = Going faces p a₀ size a from t
+Inv-loop p faces from top a₀ size low₀ s₀ a low s = Going faces p top a₀ size a low s
 
 abbrev μ-loop : tie.MeasureT-loop
-μ-loop p faces a₀ size top from₀ t₀ a from t = top - from
-
-mul-top : tie.Need-mul-top Inv-loop μ-loop
-mul-top c = let h = c .before .before .pre .faces .points in omega (arith, bound 4194304 4194304 h h)
+μ-loop p faces from top a₀ size low₀ s₀ a low s = top - low
 
 loop-holds : tie.Need-loop-holds Inv-loop μ-loop
 loop-holds c = begin (c .before .before .pre)
@@ -55,7 +51,6 @@ rounds-spec =
     (tie.spec
     Inv-loop
     μ-loop
-    mul-top
     loop-holds
     gather-requires
     same-length

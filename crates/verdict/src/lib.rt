@@ -14,5 +14,5 @@ pub fn edge_verdict(count: usize, faces: &[u32]) -> Verdict
     requires { ⌜ Faces count (now faces) ⌝ }
     ensures { λ r. ⌜ checkOf r ≡ decided (no7 count (facesOf (now (faces .entry))) ∷ no8 count (facesOf (now (faces .entry))) ∷ []) ⌝ }
 {
-    halves::decide(count as u64, faces)
+    windows::decide(count as u64, faces)
 }

@@ -1,5 +1,5 @@
 #!/usr/bin/env bash
-# docs/PROMISES.md: every must-fail edit, file and crate that it names stands where it says.
+# docs/PROMISES.md: every must-fail edit, file and crate that it names stands where it says, and every `File.name` is a definition or theorem of that file.
 set -u
 cd "$(dirname "${BASH_SOURCE[0]}")/.." || exit 1
 faults=0
@@ -20,5 +20,11 @@ while read -r name; do
     *) stands "$name" "crates/${name%%/*}/must-fail/${name#*/}.edit" ;;
     esac
 done < <(grep -oE '`[a-z_0-9]+/[A-Za-z_0-9./]+`' docs/PROMISES.md | tr -d '`' | sort -u)
+while read -r name; do
+    count=$((count + 1))
+    grep -qE "^ *(unfoldable |abbrev )?pub (record |data )?${name#*.}( |$)" crates/*/{specs,proofs}/"${name%%.*}.antt" 2>/dev/null && continue
+    faults=$((faults + 1))
+    echo "promises: $name is not there"
+done < <(grep -oE '`[A-Z][A-Za-z0-9]*\.[a-z][a-z0-9-]*`' docs/PROMISES.md | tr -d '`' | grep -v '\.antt$' | sort -u)
 echo "promises: $count names, $faults not there"
 [ "$faults" -eq 0 ] && [ "$count" -gt 50 ]

@@ -1,6 +1,6 @@
 /* Replays recorded answers through the library: `replay CASES ANSWERS`. The word form is told in tests/cases/FORMAT.md. Every room is lent filled with
- * 0x5a; accepted, it must hold the answer, then zero up to the stated room, then 0x5a; refused, 0x5a everywhere. Repair and edges are called once more
- * with a work room of zeros. */
+ * 0xff, which makes each float a NaN with a payload; accepted, it must hold the answer, then zero up to the stated room, then 0xff; refused, 0xff
+ * everywhere. Repair and edges are called once more with a work room of zeros. */
 #include "shell.h"
 #include <stdio.h>
 #include <stdlib.h>
@@ -74,16 +74,16 @@ static double *floats(Row row) {
     return out;
 }
 
-/* A room of n entries that each hold 0x5a in every byte. */
+/* A room of n entries that each hold 0xff in every byte. */
 static void *lent(uint64_t n, size_t size) {
     void *room = malloc(n * size + 8);
     if (room == NULL)
         exit(2);
-    memset(room, 0x5a, n * size);
+    memset(room, 0xff, n * size);
     return room;
 }
 
-/* Whether a room holds the answer in front, zero up to `stated` and 0x5a behind; with `stated` 0, whether it is untouched. */
+/* Whether a room holds the answer in front, zero up to `stated` and 0xff behind; with `stated` 0, whether it is untouched. */
 static int holds(const void *room, size_t size, uint64_t length, uint64_t stated, Row answer) {
     const unsigned char *bytes = room;
     if (answer.count > stated || stated > length)
@@ -94,7 +94,7 @@ static int holds(const void *room, size_t size, uint64_t length, uint64_t stated
         if (i < answer.count)
             wanted = entry(answer, i);
         else if (i >= stated)
-            memset(&wanted, 0x5a, size);
+            memset(&wanted, 0xff, size);
         if (found != wanted)
             return 0;
     }
@@ -119,7 +119,7 @@ static Recorded recorded(Words *w) {
     return r;
 }
 
-/* Rooms of the recorded lengths, each filled with 0x5a; the last, which is the work room, all zero if asked. */
+/* Rooms of the recorded lengths, each filled with 0xff; the last, which is the work room, all zero if asked. */
 static void lend(Row rooms, int count, const size_t *size, uint64_t *length, void **room, int zero) {
     for (int k = 0; k < count; k++) {
         length[k] = entry(rooms, k);

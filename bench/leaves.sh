@@ -1,5 +1,5 @@
 #!/usr/bin/env bash
-# Builds the bench library and prints the leaves' times and ratios, in one run.
+# Builds the bench library and prints the leaves' times and ratios, in one run: bash bench/leaves.sh
 set -eu
 cd "$(dirname "${BASH_SOURCE[0]}")/.."
 rt staticlib bench >/dev/null

@@ -11,7 +11,7 @@
 #include <string.h>
 #include <sys/mman.h>
 
-enum { MANY = 6000, MOST = 40000, POINTS = 6, FACES, LABELS, COUNTS };
+enum { MANY = 6000, MOST = 40000, SHORT = 1000, POINTS = 6, FACES, LABELS, COUNTS };
 
 typedef struct {
     const uint8_t *at, *end;
@@ -59,7 +59,7 @@ static void read_mesh(Asked *a, Bytes *b, int whole) {
     for (size_t i = 0; i < 3 * P; i++)
         take(b);
     size_t left = b->end - b->at, F = left / per, rest = whole ? 0 : left % per;
-    size_t most = (copies < 254 ? MANY : MOST) / (F + P + 1) + 1;
+    size_t most = (copies < 254 || a->call != EDGES ? MANY : MOST) / (F + P + 1) + 1;
     copies = copies < 200 ? 1 : copies < 250 ? copies - 198 : most;
     copies = copies < most ? copies : most;
     double *points = lend(POINTS, 3 * P * copies, 8, 0);
@@ -174,9 +174,9 @@ static Given call(const Asked *a, void **r) {
 static int lend_rooms(Asked *a, const Look *look, void **r) {
     size_t size[6];
     uint64_t stated[6];
-    int rooms = document_rooms(a, size, stated);
+    int rooms = document_rooms(a, size, stated), huge = a->P > SHELL_MOST_POINTS || a->faces_len / 3 > SHELL_MOST_FACES;
     for (int k = 0; k < rooms; k++) {
-        uint64_t n = stated[k] > LONGEST / size[k] ? 1000 : stated[k];
+        uint64_t n = huge || stated[k] > LONGEST / size[k] ? SHORT : stated[k];
         if (look->odd % rooms == k)
             n = look->by < 0 && n < (uint64_t)-look->by ? 0 : n + look->by;
         a->room[k] = n;

@@ -1,6 +1,5 @@
 /* A fuzz target: bytes become an input of one of the five calls and rooms for it. Number, place, counts and every entry of every room must be document
- * 01's (document.c); of a repair, refusal and rooms, the same answer from clean rooms, and with all six options demand 3, the check and the edges of
- * what came out. */
+ * 01's (document.c, passes.c); and of what a repair with all six options gives, demand 3 must hold, the check must say yes, and the edge call accept. */
 #define _DEFAULT_SOURCE
 #include "blocks.h"
 #include "document.h"
@@ -189,7 +188,7 @@ static int lend_rooms(Asked *a, const Look *look, void **r) {
     return rooms;
 }
 
-/* The call with what must come out of it. What a repair or a check leaves is its caller's to judge. */
+/* The call, and whether all is as it must be. */
 static Given try(Asked *a, const Look *look, void **r) {
     size_t size[6];
     uint64_t stated[6];
@@ -200,16 +199,12 @@ static Given try(Asked *a, const Look *look, void **r) {
     if (g.number != w.number || g.place != w.place)
         wrong(a, "another number or place");
     for (int k = 0; k < rooms; k++) {
-        int untold = g.number == 0 && a->call == REPAIR && k < 3, work = k == rooms - 1 && a->call != LINE;
-        const void *row = untold ? r[k] : w.row[k];
-        uint64_t count = work ? 0 : untold ? g.entries[k] : w.entries[k];
-        if (!work && g.entries[k] != count)
+        int work = k == rooms - 1 && a->call != LINE, accepted = g.number == 0;
+        if (g.entries[k] != w.entries[k])
             wrong(a, "another count");
-        if (!holds(k, row, g.number == 0 ? count : 0, g.number == 0 ? stated[k] : 0))
+        if (!holds(k, w.row[k], accepted && !work ? w.entries[k] : 0, accepted ? stated[k] : 0))
             wrong(a, "a room does not hold what it must");
     }
-    if (a->call == CHECK && g.entries[0] != w.entries[0])
-        wrong(a, "another answer");
     blocks_seen(a->call, g.number, g.place, g.entries, rooms);
     document_free(&w);
     return g;
@@ -222,35 +217,23 @@ static void *copy(const void *from, size_t bytes) {
     return bytes == 0 ? to : memcpy(to, from, bytes);
 }
 
-/* What came out of a repair: the same once more from rooms of zeros; and with all six options what is promised of it. */
-static void after_repair(Asked *a, const Look *look, const Given *g, void **r) {
-    size_t bytes[3] = {8 * g->entries[0], 4 * g->entries[1], 4 * g->entries[2]};
-    void *out[3];
-    for (int k = 0; k < 3; k++)
-        out[k] = copy(r[k], bytes[k]);
-    if (look->dirt != 0 || look->by != 0) {
-        Look clean = {0, !look->front, 0, 0, 0, 0};
-        Given again = try(a, &clean, r);
-        if (memcmp(&again, g, sizeof again) != 0 || memcmp(out[0], r[0], bytes[0]) != 0 || memcmp(out[1], r[1], bytes[1]) != 0 ||
-            memcmp(out[2], r[2], bytes[2]) != 0)
-            wrong(a, "another answer from clean rooms");
-    }
-    if (a->options == 63) {
-        const char *what = document_demand(a, out[0], g->entries[0] / 3, out[1], g->entries[1] / 3, out[2]);
-        if (what != NULL)
-            wrong(a, what);
-        Asked check = {.call = CHECK, .P = g->entries[0] / 3, .faces = out[1], .faces_len = g->entries[1]}, edges = check;
-        edges.call = EDGES;
-        edges.points = out[0];
-        edges.points_len = g->entries[0];
-        Look exact = {look->dirt, look->front, 0, 0, 0, look->seed};
-        if (try(&check, &exact, r).entries[0] != 1)
-            wrong(a, "the check says no to what came out");
-        if (try(&edges, &exact, r).number != 0)
-            wrong(a, "the edge call refuses what came out");
-    }
-    for (int k = 0; k < 3; k++)
-        free(out[k]);
+/* What is promised of a mesh that is mended with all six options. */
+static void after_repair(const Asked *a, const Look *look, const Given *g, void **r) {
+    size_t P = g->entries[0] / 3, F = g->entries[1] / 3;
+    double *points = copy(r[0], 24 * P);
+    uint32_t *faces = copy(r[1], 12 * F);
+    const char *what = document_demand(a, points, P, faces, F, r[2]);
+    if (what != NULL)
+        wrong(a, what);
+    Asked check = {.call = CHECK, .P = P, .faces = faces, .faces_len = 3 * F};
+    Asked edges = {.call = EDGES, .P = P, .faces = faces, .faces_len = 3 * F, .points = points, .points_len = 3 * P};
+    Look exact = {look->dirt, look->front, 0, 0, 0, look->seed};
+    if (try(&check, &exact, r).entries[0] != 1)
+        wrong(a, "the check says no to what came out");
+    if (try(&edges, &exact, r).number != 0)
+        wrong(a, "the edge call refuses what came out");
+    free(points);
+    free(faces);
 }
 
 int LLVMFuzzerTestOneInput(const uint8_t *data, size_t size) {
@@ -266,7 +249,7 @@ int LLVMFuzzerTestOneInput(const uint8_t *data, size_t size) {
     for (int k = POINTS; k <= COUNTS; k++)
         keep(k);
     Given g = try(&a, &look, r);
-    if (a.call == REPAIR && g.number == 0)
+    if (a.call == REPAIR && g.number == 0 && a.options == 63)
         after_repair(&a, &look, &g, r);
     for (int k = POINTS; k <= COUNTS; k++)
         if (!holds(k, NULL, 0, 0))

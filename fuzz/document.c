@@ -1,16 +1,9 @@
 #include "document.h"
+#include "uses.h"
 #include <math.h>
 #include <stdio.h>
 #include <stdlib.h>
 #include <string.h>
-
-/* So many entries of zero, at least one. */
-static void *row(size_t n, size_t size) {
-    void *out = calloc(n + 1, size);
-    if (out == NULL)
-        abort();
-    return out;
-}
 
 int document_rooms(const Asked *a, size_t size[6], uint64_t stated[6]) {
     uint64_t P = a->P, F = a->faces_len / 3, C = a->patches, work = 16 * P + 64 * F + 64;
@@ -70,43 +63,6 @@ static int rooms_refused(const Asked *a, Wanted *w) {
             return refused(w, 6, k);
     return 0;
 }
-
-/* A use of an edge: its ends, and its entry, 3i for step (1,2) of face i, 3i + 1 for (2,0), 3i + 2 for (0,1). */
-typedef struct {
-    uint32_t low, high, entry;
-} Use;
-
-static uint32_t begins(const uint32_t *faces, uint32_t entry) { return faces[entry - entry % 3 + (entry % 3 + 1) % 3]; }
-static uint32_t ends(const uint32_t *faces, uint32_t entry) { return faces[entry - entry % 3 + (entry % 3 + 2) % 3]; }
-
-static int by_ends(const void *one, const void *other) {
-    const Use *x = one, *y = other;
-    if (x->low != y->low)
-        return x->low < y->low ? -1 : 1;
-    if (x->high != y->high)
-        return x->high < y->high ? -1 : 1;
-    return (x->entry > y->entry) - (x->entry < y->entry);
-}
-
-/* All uses, sorted by ends; with `directed`, low is where the step begins. */
-static Use *uses(const uint32_t *faces, size_t n, int directed) {
-    Use *all = row(n, sizeof *all);
-    for (uint32_t i = 0; i < n; i++) {
-        uint32_t from = begins(faces, i), to = ends(faces, i);
-        Use use = {from, to, i};
-        if (!directed && to < from) {
-            use.low = to;
-            use.high = from;
-        }
-        all[i] = use;
-    }
-    qsort(all, n, sizeof *all, by_ends);
-    return all;
-}
-
-static int same_edge(Use x, Use y) { return x.low == y.low && x.high == y.high; }
-
-static double norm(double x, double y, double z) { return sqrt((x * x + y * y) + z * z); }
 
 static double distance(const double *to, const double *from) { return norm(to[0] - from[0], to[1] - from[1], to[2] - from[2]); }
 
@@ -264,6 +220,8 @@ Wanted document_answer(const Asked *a) {
     Wanted w = {0, 0, {0}, {NULL}};
     if (sizes_refused(a, &w) || content_refused(a, &w) || rooms_refused(a, &w))
         return w;
+    if (a->call == REPAIR)
+        document_repair(a, &w);
     if (a->call == EDGES)
         answer_edges(a, &w);
     if (a->call == CHECK)

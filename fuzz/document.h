@@ -1,5 +1,4 @@
-/* What document 01 says that a call must answer, in plain C and from the document alone, so that it shares nothing with the library. Of the repair it
- * says the refusal, and of what comes out with all six options demand 3. */
+/* What document 01 says that a call must answer, in plain C and from the document alone, so that it shares nothing with the library. */
 #ifndef JOGASMUN_DOCUMENT_H
 #define JOGASMUN_DOCUMENT_H
 
@@ -29,9 +28,11 @@ typedef struct {
     void *row[6];
 } Wanted;
 
-/* The rows of a repair are not told: they are NULL. */
 Wanted document_answer(const Asked *a);
 void document_free(Wanted *w);
+
+/* The rows of an accepted repair. */
+void document_repair(const Asked *a, Wanted *w);
 
 /* What differs from demand 3 in what a repair with all six options gives, or NULL. Its boundary is looked at by the edge call's answer. */
 const char *document_demand(const Asked *a, const double *points, size_t P, const uint32_t *faces, size_t F, const uint32_t *report);

@@ -13,8 +13,8 @@ flags=(-std=c11 -Wall -Wextra -Werror -O1 -g -ffp-contract=off -fsanitize=addres
 case $name in
     calls)
         code=$folder/libshell.a anchor=shell_line
-        clang "${flags[@]}" -DBLOCKS_ANCHOR=$anchor -o "$folder/calls" fuzz/{calls,document,lend,blocks}.c "$code" -lm
-        words=(-max_len=600)
+        clang "${flags[@]}" -DBLOCKS_ANCHOR=$anchor -o "$folder/calls" fuzz/{calls,document,passes,uses,lend,blocks}.c "$code" -lm
+        words=(-max_len=600 -entropic_scale_per_exec_time=1)
         ;;
     text)
         rt check meshfix >"$folder/meshfix.log" 2>&1 || { tail -n 3 "$folder/meshfix.log"; exit 1; }

@@ -29,7 +29,7 @@ fi
 (cd "$here" && rt check meshfix) >log 2>&1 || { tail -n 3 log; exit 1; }
 objcopy --redefine-sym main=meshfix_main --redefine-sym read=text_read --redefine-sym write=text_write "$here/target/obj/meshfix.o" meshfix.o || exit 1
 fuzz=$here/fuzz
-gcc "${flags[@]}" "-I$fuzz" -DBLOCKS_ANCHOR=shell_line -o calls "$fuzz"/{replay,calls,document,lend,blocks}.c libshell.a -lm || exit 1
+gcc "${flags[@]}" "-I$fuzz" -DBLOCKS_ANCHOR=shell_line -o calls "$fuzz"/{replay,calls,document,passes,uses,lend,blocks}.c libshell.a -lm || exit 1
 gcc "${flags[@]}" "-I$fuzz" -DBLOCKS_ANCHOR=meshfix_main -o text "$fuzz"/{replay,text,blocks}.c meshfix.o libshell.a || exit 1
 ./calls "$here"/tests/cases/fuzz/calls/* || exit 1
 ./text "$here"/tests/cases/fuzz/text/* "$here"/tests/cases/text/*.txt || exit 1

@@ -1,5 +1,5 @@
 #!/usr/bin/env python3
-"""Times the calls against the Rust and prints the tables in Markdown: table.py FOLDER [--short] [--only CALL,...].
+"""Times the calls against the Rust and prints the tables in Markdown: table.py FOLDER [--short] [--only CALL,...] [--shapes SHAPE,...].
 
 FOLDER is bench/run.sh's: the oracle, the leaves' times, and CGAL's program where CGAL is. Each figure is the median of five runs in processor time, in a
 process of its own. What does not end within its limit is said to be over it."""
@@ -10,7 +10,7 @@ import shutil
 import subprocess
 import sys
 
-LIMIT = 60  # seconds of processor time for one process
+LIMIT, SHORT_LIMIT = 60, 15  # seconds of processor time for one process; the second where the Rust is known to be slow
 words = sys.argv[1:]
 folder = os.path.abspath(words.pop(0))
 oracle = os.path.join(folder, "oracle")
@@ -19,30 +19,38 @@ only = words[words.index("--only") + 1].split(",") if "--only" in words else ["r
 sizes = [10_000, 100_000] if short else [10_000, 100_000, 1_000_000]
 top = sizes[-1]
 shapes = [line.split("\t") for line in subprocess.run([oracle, "--shapes"], capture_output=True, text=True, check=True).stdout.splitlines()]
+if "--shapes" in words:
+    shapes = [shape for shape in shapes if shape[0] in words[words.index("--shapes") + 1].split(",")]
 plain = [shape for shape in shapes if shape[0] in ("grid", "scan", "numbered")]
+crowded = [shape for shape in shapes if shape[0] in ("edge", "same", "equal")]
+WAYS = ["reused", "fresh", "dirty"]
 
 
-def limited():
-    resource.setrlimit(resource.RLIMIT_CPU, (LIMIT, LIMIT))
+def limit(call):
+    return SHORT_LIMIT if call in ("repair8", "repair16") else LIMIT
+
+
+def limited(seconds):
+    return lambda: resource.setrlimit(resource.RLIMIT_CPU, (seconds, seconds))
 
 
 figures = {}
 
 
 def figure(call, shape, size, way):
-    """One figure: milliseconds, runs, megabytes and number; milliseconds are None where there is no answer, and 'over' beyond the limit."""
+    """One figure: milliseconds, runs, megabytes and number. Where there is no answer milliseconds are None; beyond the limit, 'over' and the limit."""
     key = (call, shape, size, way)
     if key in figures:
         return figures[key]
     smaller = [s for s in sizes if s < size]
     if way == "rust" and smaller and figure(call, shape, smaller[-1], way)[0] == "over":
-        figures[key] = ("over", 0, None, 0)
+        figures[key] = ("over", limit(call), None, 0)
         return figures[key]
     if sys.stderr.isatty():
         print(f"{call} {shape} {size} {way}", end="\033[K\r", file=sys.stderr, flush=True)
-    run = subprocess.run([oracle, "--time", call, str(size), shape, way], capture_output=True, text=True, preexec_fn=limited)
+    run = subprocess.run([oracle, "--time", call, str(size), shape, way], capture_output=True, text=True, preexec_fn=limited(limit(call)))
     if run.returncode < 0:
-        figures[key] = ("over", 0, None, 0)
+        figures[key] = ("over", limit(call), None, 0)
         return figures[key]
     if run.returncode != 0:
         sys.exit(f"{call} {shape} {size} {way}: status {run.returncode}\n{run.stderr}")
@@ -61,20 +69,20 @@ def number(x):
 def milliseconds(f):
     """A time, with the number of runs where they are fewer than five."""
     if f[0] == "over":
-        return f"over {LIMIT} s"
+        return f"over {f[1]} s"
     return number(f[0]) + (f" ({f[1]} run{'s' if f[1] > 1 else ''})" if f[0] is not None and f[1] < 5 else "")
 
 
 def ratio(ours, theirs):
-    """Ours over the Rust's; with a limit, at most."""
-    if ours is None or theirs is None or ours == "over":
+    """Ours over the Rust's; where that is over its limit, ours over the limit."""
+    if ours[0] in (None, "over") or theirs[0] is None:
         return None
-    return ours / (LIMIT * 1000) if theirs == "over" else ours / theirs
+    return ours[0] / (theirs[1] * 1000 if theirs[0] == "over" else theirs[0])
 
 
 def shown(ours, theirs):
     r = ratio(ours, theirs)
-    return "—" if r is None else ("under " if theirs == "over" else "") + f"{r:.3f}"
+    return "—" if r is None else ("under " if theirs[0] == "over" else "") + f"{r:.3g}"
 
 
 def table(head, rows):
@@ -85,8 +93,10 @@ def table(head, rows):
     print(flush=True)
 
 
-def against(title, call, meshes, ways):
+def against(title, call, meshes, ways=WAYS):
     """The table of one call: the library by ways of lending, the Rust, ratios, memory."""
+    if not meshes:
+        return
     print(f"### {title}\n")
     rows = []
     for shape, what in meshes:
@@ -94,7 +104,7 @@ def against(title, call, meshes, ways):
             ours, rust = [figure(call, shape, size, way) for way in ways], figure(call, shape, size, "rust")
             name = what + (f", refused {ours[0][3]}" if ours[0][3] else "")
             times = [milliseconds(f) for f in ours] + [milliseconds(rust)]
-            rows.append([name, f"{size:,}"] + times + [shown(f[0], rust[0]) for f in ours] + [number(ours[0][2]), number(rust[2])])
+            rows.append([name, f"{size:,}"] + times + [shown(f, rust) for f in ours] + [number(ours[0][2]), number(rust[2])])
     table(["mesh", "faces"] + [f"{way} ms" for way in ways] + ["Rust ms"] + [f"{way} / Rust" for way in ways] + ["MB", "Rust MB"], rows)
 
 
@@ -106,15 +116,9 @@ def grows(call, shape, way):
 
 def growth():
     print(f"### How time grows: time of a face at {top:,} faces over that at {sizes[0]:,}\n")
-    kinds = [(call, way) for call, ways in (("repair", ("fresh", "dirty", "rust")), ("edges", ("fresh", "dirty", "rust")), ("check", ("fresh", "dirty"))) for way in ways if call in only]
-    rows = []
-    for shape, what in shapes:
-        row = [what]
-        for call, way in kinds:
-            g = grows(call, shape, way)
-            row.append("over the limit" if figure(call, shape, top, way)[0] == "over" else "—" if g is None else f"{g:.2f}")
-        rows.append(row)
-    table(["mesh"] + [f"{call}, {way}" for call, way in kinds], rows)
+    kinds = [(call, way) for call in ("repair", "edges", "check") for way in ("reused", "dirty", "rust") if call in only and (call, way) != ("check", "rust")]
+    shown = lambda call, shape, way: "—" if grows(call, shape, way) is None else f"{grows(call, shape, way):.2f}"
+    table(["mesh"] + [f"{call}, {way}" for call, way in kinds], [[what] + [shown(call, shape, way) for call, way in kinds] for shape, what in shapes])
 
 
 def target(rows, what, most, values):
@@ -132,16 +136,18 @@ def targets():
     print("### Targets\n")
     names = dict(map(tuple, shapes))
     rows = []
-    share = lambda call, shape, size, way: ratio(figure(call, shape, size, way)[0], figure(call, shape, size, "rust")[0])
+    share = lambda call, shape, size, way: ratio(figure(call, shape, size, way), figure(call, shape, size, "rust"))
     for call in [call for call in ("repair", "edges") if call in only]:
-        for shape in ("scan", "numbered"):
-            target(rows, f"{call}, {names[shape]}, {top:,} faces, rooms fresh: a tenth of the Rust's time", 0.1, [(share(call, shape, top, "fresh"), "")])
-        for way in ("fresh", "dirty"):
+        for shape in [shape for shape in ("scan", "numbered") if shape in names]:
+            target(rows, f"{call}, {names[shape]}, {top:,} faces, rooms reused: a tenth of the Rust's time", 0.1, [(share(call, shape, top, "reused"), "")])
+        for way in ("reused", "dirty"):
             every = [(share(call, shape, size, way), f"{what}, {size:,}") for shape, what in shapes for size in sizes]
             target(rows, f"{call}, rooms {way}, any mesh: half of the Rust's time", 0.5, every)
-    for call, way in [("repair", "fresh"), ("repair", "dirty"), ("edges", "fresh"), ("edges", "dirty"), ("check", "fresh"), ("check", "dirty")]:
-        if call in only:
-            target(rows, f"{call}, rooms {way}, any mesh: time of a face at {top:,} over that at {sizes[0]:,}", 3, [(grows(call, shape, way), what) for shape, what in shapes])
+    for call, way in [(call, way) for call in ("repair", "edges", "check") for way in ("reused", "dirty") if call in only]:
+        grown = [(grows(call, shape, way), what) for shape, what in shapes]
+        if call == "repair":
+            grown += [(grows(alone, shape, way), f"{what}, {pass_name}") for alone, pass_name in (("repair8", "pass 5 alone"), ("repair16", "pass 4 alone")) for shape, what in crowded]
+        target(rows, f"{call}, rooms {way}, any mesh: time of a face at {top:,} over that at {sizes[0]:,}", 3, grown)
     roots = [(float(value), name.strip()) for name, value in re.findall(r"^root +(.*?)  .*ratio ([0-9.]+)$", leaves(), re.M)]
     target(rows, "root: times the processor's own", 20, roots)
     table(["target", "at most", "worst seen", "met"], rows)
@@ -155,7 +161,7 @@ def leaves():
 
 def ended(command):
     """A program's processor time in milliseconds and its peak memory in megabytes; nothing if it fails."""
-    child = subprocess.Popen(command, cwd=folder, stdout=subprocess.PIPE, stderr=subprocess.DEVNULL, text=True, preexec_fn=limited)
+    child = subprocess.Popen(command, cwd=folder, stdout=subprocess.PIPE, stderr=subprocess.DEVNULL, text=True, preexec_fn=limited(LIMIT))
     out = child.stdout.read()
     _, status, used = os.wait4(child.pid, 0)
     return (None, None, "") if status != 0 else ((used.ru_utime + used.ru_stime) * 1000, used.ru_maxrss / 1024, out)
@@ -174,28 +180,30 @@ def others():
         for size in sizes:
             for kind in ("off", "stl"):
                 subprocess.run([oracle, "--write", shape, str(size), os.path.join(folder, f"mesh.{kind}")], check=True)
-            row = [what, f"{size:,}", number(figure("repair", shape, size, "fresh")[0])]
+            row = [what, f"{size:,}", number(figure("repair", shape, size, "reused")[0])]
             for name, command in programs:
                 found = [ended(command) for _ in range(5 if name in there else 0)]
                 found = sorted((float(out.split()[-1]) if name == "cgal" else time, memory) for time, memory, out in found if time is not None)
                 row += [number(found[len(found) // 2][0]), number(found[len(found) // 2][1])] if found else ["—", "—"]
             rows.append(row)
-    table(["mesh", "faces", "repair, fresh ms", "CGAL ms", "CGAL MB", "admesh ms", "admesh MB"], rows)
+    table(["mesh", "faces", "repair, reused ms", "CGAL ms", "CGAL MB", "admesh ms", "admesh MB"], rows)
     print("CGAL: `repair_polygon_soup` and `orient_polygon_soup`, without reading and writing. admesh: the whole program, reading and writing binary STL; it joins")
-    print("faces by places and not by numbers. Memory is the whole process's. They mend by other rules, so the answers differ.\n")
+    print("faces by places and not by numbers. Memory is the whole process's and not below 11 MB, the starter's. They mend by other rules, so the answers differ.\n")
 
 
 if "repair" in only:
-    against("Repair, options 63", "repair", shapes, ["fresh", "dirty"])
-    against("Repair, options 0", "repair0", plain[:2], ["fresh", "dirty"])
+    against("Repair, options 63", "repair", shapes)
+    against("Repair, options 16: pass 4 alone on crowded edges", "repair16", crowded)
+    against("Repair, options 8: pass 5 alone on crowded points", "repair8", crowded)
+    against("Repair, options 0", "repair0", plain)
 if "edges" in only:
-    against("Edges", "edges", shapes, ["fresh", "reused", "dirty"])
+    against("Edges", "edges", shapes)
 if "check" in only:
-    against("Edge check, which the Rust does not have", "check", shapes, ["fresh", "dirty"])
+    against("Edge check, which the Rust does not have", "check", shapes)
 if "patches" in only:
-    against("Patches, 64 labels", "patches", plain, ["fresh", "dirty"])
+    against("Patches, 64 labels", "patches", plain)
 if "line" in only:
-    against("Report line, ten counts", "line", plain[:1], ["fresh", "dirty"])
+    against("Report line, ten counts", "line", shapes[:1], ["reused"])
 growth()
 targets()
 if "others" in only:

@@ -147,9 +147,10 @@ fn asks_the_rust(case: &Case) -> bool {
 /// Shapes that are mended for the other calls, which would refuse them at once.
 const MENDED: [&str; 4] = ["scan", "numbered", "strip", "pinched"];
 
-/// The case of a call on a shape.
+/// The case of a call on a shape. A repair may be named with its options, as in repair16.
 fn case_of(name: &str, faces: usize, shape: &str) -> Option<Case> {
-    let call = call_named(name.strip_suffix('0').unwrap_or(name))?;
+    let options = name.strip_prefix("repair").and_then(|text| text.parse().ok());
+    let call = if options.is_some() { Call::Repair } else { call_named(name)? };
     let mut mesh = shapes::named(shape, faces)?;
     if call != Call::Repair && MENDED.contains(&shape) {
         let mut repair = asked(Call::Repair, mesh);
@@ -157,7 +158,7 @@ fn case_of(name: &str, faces: usize, shape: &str) -> Option<Case> {
         mesh = here::mended(&repair);
     }
     let mut case = asked(call, mesh);
-    case.options = if name == "repair" { 63 } else { 0 };
+    case.options = options.unwrap_or(63);
     Some(case)
 }
 
@@ -165,7 +166,7 @@ fn case_of(name: &str, faces: usize, shape: &str) -> Option<Case> {
 /// The way is fresh, reused, dirty or rust.
 pub fn one(name: &str, faces: usize, shape: &str, way: &str) -> ExitCode {
     let Some(case) = case_of(name, faces, shape) else {
-        eprintln!("oracle: --time takes repair, repair0, edges, check, patches or line, a number of faces, and a shape of --shapes");
+        eprintln!("oracle: --time takes repair, repair with its options as in repair16, edges, check, patches or line, a number of faces, and a shape of --shapes");
         return ExitCode::from(2);
     };
     let ((time, runs), taken) = match way {

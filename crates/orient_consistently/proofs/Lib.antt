@@ -8,5 +8,7 @@ pub mod Beginning
 pub mod Turning
 -- `Orienting` has the whole.
 pub mod Orienting
+-- `Settling` has that the walk is not needed where each directed edge is used at most once.
+pub mod Settling
 -- `Standing` has that the faces stand as before, for the next pass.
 pub mod Standing

@@ -48,11 +48,11 @@ module _ {P : ℕ} {xs : List ℕ} {n : ℕ} {w : List ℕ} (p : FacesStand P xs
 
     module _ {w₂ : List ℕ} {m : ℕ} (t : TableGives w₁ (take (3 * n) xs) P false (3 + 11 * n) w₂ m) where
       -- the rows of the walk are there
-      fits : Fits w₂ (take (3 * n) xs) n
+      pub fits : Fits w₂ (take (3 * n) xs) n
       fits = let u = bounds in record { long = u .front; few = u .few; fit = omega (arith, u, o .long, t .only .long) }
 
       -- the rows are still 0
-      blank : Filled 0 (3 + 11 * n) 0 w₂
+      pub blank : Filled 0 (3 + 11 * n) 0 w₂
       blank = holds-kept (t .only) (before (omega arith)) z
 
       -- the walk may start

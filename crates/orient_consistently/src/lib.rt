@@ -13,7 +13,10 @@
 //     3 + 5n        3n      who disagrees with a step from its lower to its higher end
 //     3 + 8n        3n      who disagrees with a step from its higher to its lower end
 //     3 + 11n       15n + 1 + P     the undirected table, see `table`
-ghost use Rattle.leaving.specs.Pass.{FacesStand};
+ghost use mathlib.Core.Path.{_≡_};
+ghost use mathlib.Core.Bool.{true};
+ghost use Rattle.rules.proofs.Once.{Once};
+ghost use Rattle.leaving.specs.Pass.{standing, FacesStand};
 ghost use Rattle.orient_consistently.specs.Walked.{PopAsks, PopGives, EmptyAsks, EmptyGives, StartAsks, StartGives, BeginAsks, BeginGives, AllAsks, AllGives, TurnAsks, TurnGives, OrientGives};
 
 // How many faces were exchanged, and how many components are at odds.
@@ -106,18 +109,49 @@ fn turn_all(faces: &mut [u32], work: &[u32], n: usize)
     }
 }
 
+// How many faces were exchanged, how many components are at odds, and whether each directed edge is surely used at most once then.
+pub struct Settled {
+    pub reoriented: usize,
+    pub components: usize,
+    pub single: bool,
+}
+
+// Orients the n faces at the front of their room, of `count` points, and says whether each directed edge is surely used at most once then. Where it
+// is before, nothing is at odds, and no walk is needed.
+pub fn settle(faces: &mut [u32], n: usize, count: usize, work: &mut [u32]) -> Settled
+    requires { ⌜ FacesStand count (now faces) n (now work) ⌝ }
+    ensures { λ r. ⌜ OrientGives count (now (faces .entry)) n (now (work .entry)) (now (faces .exit)) (now (work .exit)) (r .reoriented) (r .components) ⌝ }
+    ensures { λ r. ⌜ (r .single ≡ true → Once (standing (now (faces .exit)) n)) ⌝ }
+{
+    let at = 3 + 11 * n;
+    rows::clear(work, 0, at);
+    let m = table::table(work, &faces[..3 * n], count, false, at);
+    if single_use::single(work, &faces[..3 * n], 3, at, m) {
+        return Settled {
+            reoriented: 0,
+            components: 0,
+            single: true,
+        };
+    }
+    let components = walk_all(work, &faces[..3 * n], n);
+    let single = single_use::single(work, &faces[..3 * n], 3, at, m);
+    turn_all(faces, work, n);
+    Settled {
+        reoriented: work[1] as usize,
+        components,
+        single,
+    }
+}
+
 // Orients the n faces at the front of their room, of `count` points: each face agrees with the one from which it was reached. Returns how many
 // faces were exchanged, and how many components have faces that disagree.
 pub fn orient_consistently(faces: &mut [u32], n: usize, count: usize, work: &mut [u32]) -> Turned
     requires { ⌜ FacesStand count (now faces) n (now work) ⌝ }
     ensures { λ r. ⌜ OrientGives count (now (faces .entry)) n (now (work .entry)) (now (faces .exit)) (now (work .exit)) (r .reoriented) (r .components) ⌝ }
 {
-    rows::clear(work, 0, 3 + 11 * n);
-    table::table(work, &faces[..3 * n], count, false, 3 + 11 * n);
-    let components = walk_all(work, &faces[..3 * n], n);
-    turn_all(faces, work, n);
+    let s = settle(faces, n, count, work);
     Turned {
-        reoriented: work[1] as usize,
-        components,
+        reoriented: s.reoriented,
+        components: s.components,
     }
 }

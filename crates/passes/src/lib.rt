@@ -89,8 +89,9 @@ fn pass4(on: bool, points: &[f64], faces: &mut [u32], n: usize, work: &mut [u32]
     ensures { λ r. ⌜ (r .reoriented ≤ n) × (r .components ≤ n) ⌝ }
 {
     if on {
-        let turned = orient_consistently::orient_consistently(faces, n, points.len() / 3, work);
-        let left = resolve_directed_collisions::resolve_directed_collisions(points, faces, n, work);
+        let turned = orient_consistently::settle(faces, n, points.len() / 3, work);
+        let single = turned.single;
+        let left = resolve_directed_collisions::resolve_unless(points, faces, n, work, single);
         return Oriented {
             reoriented: turned.reoriented,
             components: turned.components,

@@ -24,7 +24,7 @@ use Rattle.marking.proofs.Running.{lostAmong}
 use Rattle.resolve_directed_collisions.specs.Collisions.{afterFirst}
 
 -- of at most one entry none comes after the first
-none-after : (q : ℕ → Float) (us : List ℕ) (i : ℕ) → length us ≤ 1 → has i (without (best q us) us) ≡ false
+pub none-after : (q : ℕ → Float) (us : List ℕ) (i : ℕ) → length us ≤ 1 → has i (without (best q us) us) ≡ false
 unfolding has any without best through
 none-after q [] i h = refl
 none-after q (u ∷ []) i h = rw (eq-eqb u u refl)

@@ -14,6 +14,7 @@ ghost use Rattle.rules.specs.Lists.{has};
 ghost use Rattle.rules.specs.Mesh.{facesOf, pointsOf};
 ghost use Rattle.rules.specs.Pass4.{marked4};
 ghost use Rattle.rules.specs.Rank.{without};
+ghost use Rattle.rules.proofs.Once.{Once};
 ghost use Rattle.leaving.specs.Pass.{standing, PassAsks, LeaveGives};
 ghost use Rattle.rank.specs.Ranks.{facesIn, valueOf};
 ghost use Rattle.marking.specs.Marking.{faceCount, edgeAt, MarkAsks, MarkGives, RunAsks, EntriesAsks, LostGives};
@@ -91,4 +92,22 @@ pub fn resolve_directed_collisions(
     let marks = 15 * n + 1 + points.len() / 3;
     mark_edges(points, &faces[..3 * n], work, marks);
     rows::retain(faces, work, marks, n)
+}
+
+// The same, where `single` may say that each directed edge is used at most once: then every face stays.
+pub fn resolve_unless(
+    points: &[f64],
+    faces: &mut [u32],
+    n: usize,
+    work: &mut [u32],
+    single: bool,
+) -> usize
+    requires { ⌜ PassAsks (now points) (now faces) n (now work) ⌝ }
+    requires { ⌜ (single ≡ true → Once (standing (now faces) n)) ⌝ }
+    ensures { λ r. ⌜ LeaveGives (marked4 (pointsOf (now (points .entry))) (standing (now (faces .entry)) n)) (length (now (points .entry)) / 3) (now (faces .entry)) n (now (work .entry)) (now (faces .exit)) (now (work .exit)) r ⌝ }
+{
+    if single {
+        return n;
+    }
+    resolve_directed_collisions(points, faces, n, work)
 }

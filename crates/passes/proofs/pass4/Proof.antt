@@ -5,11 +5,13 @@ use borrow.Author.Needs.{needs}
 use Rattle.passes.proofs.pass4.Statement.{statement}
 use Rattle.passes.proofs.pass4.Tie as tie
 
-orient-consistently-requires : tie.Need-orient-consistently-requires
-orient-consistently-requires c κs = search needs
+settle-requires : tie.Need-settle-requires
+settle-requires c κs = search needs
 
-resolve-directed-collisions-requires : tie.Need-resolve-directed-collisions-requires
-resolve-directed-collisions-requires c κs = turned-asks (c .before .before .before .before .before .before .before .before .before .before .before .before .before .pre) (c .before .before .before .before .before .before .orient-consistently .ensures)
+resolve-unless-requires : tie.Need-resolve-unless-requires
+resolve-unless-requires c κs =
+    let s = c .before .before .before .before .before .before .settle .ensures in
+    (turned-asks (c .before .before .before .before .before .before .before .before .before .before .before .before .before .pre) (s .0), s .1)
 
 same-length : tie.Need-same-length
 same-length c = search needs
@@ -18,7 +20,7 @@ same-length-2 : tie.Need-same-length-2
 same-length-2 c = search needs
 
 returns : tie.Need-returns
-returns c = (rw (c .before .before .before .before .before .before .before .before .before .before .before .before .before .before .if1 .taken) (on4 (c .before .before .before .before .before .before .before .before .before .before .before .before .before .before .before .before .before .before .pre) (c .before .before .before .before .before .before .before .before .before .before .before .orient-consistently .ensures) (c .before .before .before .before .resolve-directed-collisions .ensures)), (c .before .before .before .before .before .before .before .before .before .before .before .orient-consistently .ensures .few-exchanges, c .before .before .before .before .before .before .before .before .before .before .before .orient-consistently .ensures .few-marks))
+returns c = (rw (c .before .before .before .before .before .before .before .before .before .before .before .before .before .before .if1 .taken) (on4 (c .before .before .before .before .before .before .before .before .before .before .before .before .before .before .before .before .before .before .pre) (c .before .before .before .before .before .before .before .before .before .before .before .settle .ensures .0) (c .before .before .before .before .resolve-unless .ensures)), (c .before .before .before .before .before .before .before .before .before .before .before .settle .ensures .0 .few-exchanges, c .before .before .before .before .before .before .before .before .before .before .before .settle .ensures .0 .few-marks))
 
 returns-2 : tie.Need-returns-2
 returns-2 c = (rw (c .if1 .left) (off4 (c .before .before .before .before .pre)), (omega arith, omega arith))
@@ -27,8 +29,8 @@ pub pass4-spec : {M : Type 1} → statement M
 pass4-spec =
     tie.close
     (tie.spec
-    orient-consistently-requires
-    resolve-directed-collisions-requires
+    settle-requires
+    resolve-unless-requires
     same-length
     same-length-2
     returns

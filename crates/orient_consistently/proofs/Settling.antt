@@ -1,0 +1,72 @@
+-- The first half of pass 4 where each directed edge is used at most once: before the walk, which is then not needed, or after it. Assumes nothing.
+use mathlib.Core.Path.{_≡_, sym, ap, subst, _∙_}
+use mathlib.Core.Bool.{false}
+use mathlib.Core.List.{List}
+use Prim.Native.Nat.{ℕ, _+_, _*_, _/_}
+use native.Mathlib.Omega.{arith}
+use lib.ListN.{length, take}
+use Rattle.rows.specs.Region.{part, Apart.after, Only, Filled}
+use Rattle.rows.proofs.Regions.{only-none, only-both, only-more}
+use Rattle.rules.specs.Mesh.{facesOf, flatFaces}
+use Rattle.rules.specs.Rooms.{work-room}
+use Rattle.rules.proofs.Flat.{faces-flat, flat-faces}
+use Rattle.rules.proofs.Once.{Once}
+use Rattle.leaving.specs.Pass.{standing, FacesStand}
+use Rattle.table.specs.Table.{TableGives}
+use Rattle.table.proofs.Places.{tabled-kept}
+use Rattle.orienting.specs.Reaching.{turnedBy}
+use Rattle.reaching.specs.Walking.{walkOf}
+use Rattle.single_use.specs.Single.{SingleAsks}
+use Rattle.single_use.proofs.Calm.{same-faces, no-exchanges, no-marks}
+use Rattle.orient_consistently.specs.Walked.{AllGives, TurnGives, OrientGives}
+use Rattle.orient_consistently.proofs.Beginning.{blank-is}
+use Rattle.orient_consistently.proofs.Orienting.{bounds, fits, blank}
+
+module _ {P : ℕ} {xs : List ℕ} {n : ℕ} {w : List ℕ} (p : FacesStand P xs n w) {w₁ : List ℕ} (o : Only 0 (3 + 11 * n) w w₁) (z : Filled 0 (3 + 11 * n) 0 w₁)
+    {w₂ : List ℕ} {m : ℕ} (t : TableGives w₁ (take (3 * n) xs) P false (3 + 11 * n) w₂ m) where
+  -- the table may be scanned
+  pub single-asks : SingleAsks w₂ (take (3 * n) xs) 3 (3 + 11 * n) m
+  single-asks = record { points = P; tabled = t .tabled; fit = omega (arith, bounds p, o .long, t .only .long) }
+
+  -- as many states as faces
+  states-long : length (take (3 * n) xs) / 3 ≡ n
+  states-long = omega (arith, bounds p)
+
+  module _ (s : Once (turnedBy (part w₂ 3 (length (take (3 * n) xs) / 3)) (facesOf (take (3 * n) xs)))) where
+    -- no face is exchanged yet
+    pub once-now : Once (standing xs n)
+    unfolding walkOf
+    once-now = subst Once (ap (λ k. turnedBy (part w₂ 3 k) (standing xs n)) states-long ∙ ap (λ v. v .faces) (blank-is (fits p o z t) (blank p o z t))) s
+
+    -- so the walk would change nothing
+    pub calm-gives : OrientGives P xs n w xs w₂ 0 0
+    unfolding work-room
+    calm-gives =
+        let u = bounds p in
+        record {
+          faces = sym (ap flatFaces (same-faces (standing xs n) once-now) ∙ flat-faces (take (3 * n) xs) (omega (arith, u)));
+          exchanges = sym (no-exchanges (standing xs n) once-now);
+          marks = sym (no-marks (standing xs n) once-now);
+          few-exchanges = omega arith;
+          few-marks = omega arith;
+          only-faces = only-none 0 (3 * n) xs;
+          only-work = only-both (only-more (omega arith) (omega arith) o) (only-more (omega arith) (omega (arith, u)) (t .only));
+        }
+
+  module _ {w₃ : List ℕ} {r : ℕ} (g : AllGives w₂ (take (3 * n) xs) n w₃ r) where
+    -- the table still stands after the walk
+    pub single-asks-after : SingleAsks w₃ (take (3 * n) xs) 3 (3 + 11 * n) m
+    single-asks-after =
+        record {
+          points = P;
+          tabled = tabled-kept (g .only) (after (omega arith)) (t .tabled);
+          fit = omega (arith, bounds p, o .long, t .only .long, g .only .long);
+        }
+
+    -- what is said of the faces under their states is said of those that are turned
+    pub once-turned : {xs′ : List ℕ} → TurnGives xs w₃ n xs′ → Once (turnedBy (part w₃ 3 (length (take (3 * n) xs) / 3)) (facesOf (take (3 * n) xs))) → Once (standing xs′ n)
+    once-turned h s =
+        subst Once
+        (ap (λ k. turnedBy (part w₃ 3 k) (standing xs n)) states-long
+        ∙ sym (ap facesOf (h .faces) ∙ faces-flat (turnedBy (part w₃ 3 n) (standing xs n))))
+        s

@@ -1,6 +1,4 @@
--- `Rising` has lists in which each member comes before all later ones by several keys, as a sort by groups makes them.
-pub mod Rising
--- `Runs` has where a run of equal keys begins in such a list.
+-- `Runs` has where a run of equal keys begins in a list that rises by several keys.
 pub mod Runs
 -- `Alike` has the rules' mark of a face, by its three sorted corners.
 pub mod Alike

@@ -2,16 +2,26 @@
 use mathlib.Core.Path.{_≡_, sym, ap, ap₂, _∙_}
 use mathlib.Core.Bool.{Bool, false}
 use mathlib.Core.List.{List}
-use Prim.Native.Nat.{ℕ, _+_, _-_, _*_, _≤_, _<_}
+use Prim.Native.Nat.{ℕ, _+_, _-_, _*_, _/_, _≤_, _<_}
 use native.Mathlib.Omega.{arith}
 use native.Mathlib.Decide.{ℕ-discrete}
-use borrow.Author.Tests.{eq-eqb}
+use borrow.Author.Tests.{eq-eqb, ne-eqb}
 use lib.Dec.{eqb}
 use lib.ListN.{length, getD}
+use Rattle.table.specs.Entries.{next}
 use Rattle.table.proofs.Handing.{AtRun, at-run}
 use Rattle.table.proofs.Places.{id-in}
 use Rattle.orienting.proofs.Reached.{not-both}
-use Rattle.single_use.specs.Single.{beginOf, from, entry, BeginAsks, PairAsks, SingleAsks, RunAsks, Opposed}
+use Rattle.single_use.specs.Single.{beginOf, from, entry, BeginAsks, PairAsks, RunAsks, Opposed}
+
+module _ {w xs : List ℕ} {states id : ℕ} (p : BeginAsks w xs states id) where
+  -- the entry of an exchanged face begins at the next corner
+  pub begin-turned : getD w (states + id / 3) 0 ≡ 2 → {j : ℕ} → j ≡ next id → getD xs j 0 ≡ beginOf w xs states id
+  begin-turned e q = rw (eq-eqb (getD w (states + id / 3) 0) 2 e, q)
+
+  -- that of another at its own
+  pub begin-straight : (getD w (states + id / 3) 0 ≡ 2 → ⊥) → getD xs id 0 ≡ beginOf w xs states id
+  begin-straight e = rw (ne-eqb (getD w (states + id / 3) 0) 2 e)
 
 module _ {w xs : List ℕ} {states at j : ℕ} (p : PairAsks w xs states at j) where
   -- the second entry, as the code reads it
@@ -72,8 +82,8 @@ pub record Passed (w xs : List ℕ) (states at r : ℕ) : Type 0 where
 
 module _ {w xs : List ℕ} {states at : ℕ} where
   -- none is passed
-  pub none-passed : Passed w xs states at 0
-  none-passed = record { each = λ j h. absurd (omega arith) }
+  pub none-passed : {r : ℕ} → r ≤ 0 → Passed w xs states at r
+  none-passed l = record { each = λ j h. absurd (omega arith) }
 
   -- one more
   pub one-passed : {r : ℕ} → Passed w xs states at r → Opposed w xs states at r → Passed w xs states at (r + 1)

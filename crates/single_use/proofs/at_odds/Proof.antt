@@ -44,7 +44,7 @@ sub-if1 : tie.Need-sub-if1
 sub-if1 c = omega (arith, bounds (c .before .before .before .before .pre))
 
 returns : tie.Need-returns
-returns c = λ e. one-entry (c .before .before .before .before .before .pre) (c .if1 .taken)
+returns c = λ e. one-entry (c .before .before .before .before .before .pre) (omega arith)
 
 sub-if2 : tie.Need-sub-if2
 sub-if2 c = search needs
@@ -53,10 +53,10 @@ returns-2 : tie.Need-returns-2
 returns-2 c = λ e. absurd (not-both refl e)
 
 alike-requires : tie.Need-alike-requires
-alike-requires c κs = pair (c .before .before .before .before .before .before .pre) (c .before .if1 .left) (c .if2 .left)
+alike-requires c κs = pair (c .before .before .before .before .before .before .pre) (omega arith) (omega arith)
 
 returns-3 : tie.Need-returns-3
-returns-3 c = two-entries (c .before .before .before .before .before .before .before .pre) (c .before .before .if1 .left) (c .before .if2 .left) (c .alike .ensures)
+returns-3 c = two-entries (c .before .before .before .before .before .before .before .pre) (omega arith) (omega arith) (c .alike .ensures)
 
 pub at-odds-spec : {M : Type 1} → statement M
 at-odds-spec =

@@ -1,8 +1,8 @@
 -- `single_use::begin` meets its contract: the corner at the entry, or the next one where its face is exchanged. Assumes nothing.
 use borrow.Author.Needs.{needs}
 use native.Mathlib.Omega.{arith}
-use borrow.Author.Tests.{eq-eqb, ne-eqb}
 use Rattle.table.proofs.Ids.{next-in}
+use Rattle.single_use.proofs.Scanning.{begin-turned, begin-straight}
 use Rattle.single_use.proofs.begin.Statement.{statement}
 use Rattle.single_use.proofs.begin.Tie as tie
 
@@ -25,7 +25,7 @@ shared-slice-read-result : tie.Need-shared-slice-read-result
 shared-slice-read-result c = omega (arith, next-in _ _ (c .before .before .before .before .before .before .pre .whole) (c .before .before .before .before .before .before .pre .here), c .before .after .ensures)
 
 returns : tie.Need-returns
-returns c = rw (eq-eqb _ _ (c .before .before .if1 .taken), c .before .after .ensures)
+returns c = begin-turned (c .before .before .before .before .before .before .pre) (omega arith) (c .before .after .ensures)
 
 mul-result-2 : tie.Need-mul-result-2
 mul-result-2 c = search needs
@@ -34,7 +34,7 @@ shared-slice-read-result-2 : tie.Need-shared-slice-read-result-2
 shared-slice-read-result-2 c = search needs
 
 returns-2 : tie.Need-returns-2
-returns-2 c = rw (ne-eqb _ _ (c .before .if1 .left))
+returns-2 c = begin-straight (c .before .before .before .before .before .pre) (omega arith)
 
 pub begin-spec : {M : Type 1} → statement M
 begin-spec =

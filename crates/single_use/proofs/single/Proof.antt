@@ -15,7 +15,7 @@ abbrev μ-loop : tie.MeasureT-loop
 μ-loop work faces states at m r₀ r = m - r
 
 loop-holds : tie.Need-loop-holds Inv-loop μ-loop
-loop-holds c = none-passed
+loop-holds c = none-passed (omega arith)
 
 at-odds-requires : tie.Need-at-odds-requires Inv-loop μ-loop
 at-odds-requires c κs = record { runs = _; asks = c .before .before .before .before .pre; here = c .loop-test .taken }

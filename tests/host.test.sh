@@ -1,7 +1,7 @@
 #!/usr/bin/env bash
 # The library in a C program: the example prints what it must, the header is good for C++, recorded answers come out through the calls with every
-# room as it must be, damaged meshes are after a repair what is proved of them, what fuzzing found worth keeping comes out as document 01 says, and no call
-# takes more stack than is promised; a sample under valgrind too, so that nothing outside a room is touched.
+# room as it must be, damaged meshes are after a repair what is proved of them, what fuzzing found worth keeping comes out as document 01 says, and a call
+# takes no memory but its rooms and no more stack than is promised; a sample under valgrind too, so that nothing outside a room is touched.
 set -u
 here=$(cd "$(dirname "${BASH_SOURCE[0]}")/.." && pwd)
 room=$(mktemp -d) || exit 1
@@ -13,6 +13,11 @@ for program in example replay chain stack; do
     gcc "${flags[@]}" -o "$program" "$here/host/$program.c" libshell.a || exit 1
 done
 g++ -std=c++17 -Wall -Werror -fsyntax-only -x c++ shell.h || exit 1
+# A call takes no memory but its rooms and the stack, and keeps nothing: the library names no function of the system but these, and has no data of its own.
+if nm -u libshell.a | sed -n 's/^ *U //p' | grep -vxE 'memset|memcpy|memmove|memcmp|bcmp' || nm libshell.a | grep -E ' [bBcCdD] '; then
+    echo "host: the library wants or keeps something"
+    exit 1
+fi
 ./example >found || exit 1
 diff found "$here/host/example.out" || exit 1
 ./replay "$here/tests/cases/lib.cases.bin" "$here/tests/cases/lib.answers.bin" || exit 1

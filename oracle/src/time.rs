@@ -166,7 +166,9 @@ fn case_of(name: &str, faces: usize, shape: &str) -> Option<Case> {
 /// The way is fresh, reused, dirty or rust.
 pub fn one(name: &str, faces: usize, shape: &str, way: &str) -> ExitCode {
     let Some(case) = case_of(name, faces, shape) else {
-        eprintln!("oracle: --time takes repair, repair with its options as in repair16, edges, check, patches or line, a number of faces, and a shape of --shapes");
+        eprintln!(
+            "oracle: --time takes repair, repair with its options as in repair16, edges, check, patches or line, a number of faces, and a shape of --shapes"
+        );
         return ExitCode::from(2);
     };
     let ((time, runs), taken) = match way {

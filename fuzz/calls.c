@@ -50,39 +50,66 @@ static uint64_t number(uint8_t b) {
     return b < 248 ? b : some[b - 248];
 }
 
-/* The rest of the bytes as corners; with copies, the mesh stands so many times over. */
-static void read_mesh(Asked *a, Bytes *b, int whole) {
-    size_t P = take(b), copies = take(b);
-    int labelled = a->call == PATCHES, per = labelled ? 4 : 3;
-    const uint8_t *places = b->at;
-    for (size_t i = 0; i < 3 * P; i++)
-        take(b);
-    size_t left = b->end - b->at, F = left / per, rest = whole ? 0 : left % per;
-    size_t most = (copies < 254 || a->call != EDGES ? MANY : MOST) / (F + P + 1) + 1;
-    copies = copies < 200 ? 1 : copies < 250 ? copies - 198 : most;
-    copies = copies < most ? copies : most;
-    double *points = lend(POINTS, 3 * P * copies, 8, 0);
-    uint32_t *faces = lend(FACES, 3 * F * copies + rest, 4, 0), *labels = lend(LABELS, labelled ? F * copies : 0, 4, 0);
-    for (size_t i = 0; i < 3 * P * copies; i++)
-        points[i] = coordinate(places + i % (3 * P) < b->end ? places[i % (3 * P)] : 0);
-    for (size_t i = 0; i < 3 * F * copies + rest; i++) {
-        size_t face = i / 3 % (F > 0 ? F : 1), copy = F > 0 ? i / 3 / F : 0;
-        uint8_t v = i < 3 * F * copies ? b->at[face * per + i % 3] : b->at[F * per + i - 3 * F * copies];
-        faces[i] = v >= 240 ? (v == 255 ? 0xffffffff : P * copies + v - 240) : P == 0 ? v : v % P + copy % copies * P;
-    }
-    for (size_t i = 0; labelled && i < F * copies; i++) {
-        uint8_t v = b->at[i % F * per + 3];
-        labels[i] = v == 255 ? SHELL_NO_PATCH : v == 254 ? 0xfffffffe : v;
+/* A mesh in bytes: three for each point, then three for each face, or four with its label; and how many times over it stands. */
+typedef struct {
+    const uint8_t *places, *corners, *end;
+    size_t P, F, per, copies;
+} Plan;
+
+static void read_points(Asked *a, const Plan *m, size_t beyond) {
+    size_t n = 3 * m->P * m->copies;
+    double *points = lend(POINTS, n + beyond, 8, 0);
+    for (size_t i = 0; i < n + beyond; i++) {
+        const uint8_t *place = m->places + (m->P == 0 ? 0 : i % (3 * m->P));
+        points[i] = coordinate(i < n && place < m->end ? *place : 0);
     }
     a->points = points;
+    a->points_len = n + beyond;
+    a->P = m->P * m->copies;
+}
+
+/* A corner is a point of its copy; from 240 on it lies beyond the points. */
+static void read_faces(Asked *a, const Plan *m, size_t beyond) {
+    size_t n = 3 * m->F * m->copies;
+    uint32_t *faces = lend(FACES, n + beyond, 4, 0);
+    for (size_t i = 0; i < n + beyond; i++) {
+        uint32_t v = i < n ? m->corners[i / 3 % m->F * m->per + i % 3] : 0, copy = i < n ? (uint32_t)(i / 3 / m->F) : 0;
+        faces[i] = v == 255 ? 0xffffffff : v >= 240 ? (uint32_t)a->P + v - 240 : m->P == 0 ? v : v % (uint32_t)m->P + copy * (uint32_t)m->P;
+    }
     a->faces = faces;
+    a->faces_len = n + beyond;
+}
+
+static void read_labels(Asked *a, const Plan *m, int beyond) {
+    size_t n = m->F * m->copies;
+    n = beyond < 0 && n == 0 ? 0 : n + beyond;
+    uint32_t *labels = lend(LABELS, n, 4, 0);
+    for (size_t i = 0; i < n; i++) {
+        uint32_t v = m->F == 0 ? 0 : m->corners[i % m->F * m->per + 3];
+        labels[i] = v == 255 ? SHELL_NO_PATCH : v == 254 ? 0xfffffffe : v;
+    }
     a->labels = labels;
-    a->P = P * copies;
-    a->points_len = 3 * a->P + (whole ? 0 : rest % 2);
-    if (a->points_len != 3 * a->P)
-        a->points = lend(POINTS, a->points_len, 8, 0), soil(POINTS, 0, 0);
-    a->faces_len = 3 * F * copies + rest;
-    a->labels_len = labelled ? F * copies : 0;
+    a->labels_len = n;
+}
+
+/* The rest of the bytes as a mesh; `special` may ask for lists whose lengths do not fit. */
+static void read_mesh(Asked *a, Bytes *b, uint8_t special) {
+    Plan m = {.per = a->call == PATCHES ? 4 : 3};
+    m.P = take(b);
+    m.copies = take(b);
+    m.places = b->at;
+    for (size_t i = 0; i < 3 * m.P; i++)
+        take(b);
+    m.corners = b->at;
+    m.end = b->end;
+    m.F = (size_t)(b->end - b->at) / m.per;
+    size_t most = (m.copies < 254 || a->call != EDGES ? MANY : MOST) / (m.F + m.P + 1) + 1;
+    m.copies = m.copies < 200 ? 1 : m.copies < 250 ? m.copies - 198 : most;
+    m.copies = m.copies < most ? m.copies : most;
+    read_points(a, &m, special >= 240 && special < 244 ? special % 3 : 0);
+    read_faces(a, &m, special >= 242 && special < 246 ? special % 3 : 0);
+    if (a->call == PATCHES)
+        read_labels(a, &m, special == 246 ? 1 : special == 247 ? -1 : 0);
 }
 
 /* Lists of zeros beyond the largest sizes. */
@@ -104,9 +131,9 @@ static void make_huge(Asked *a, uint8_t which) {
 }
 
 static void read_asked(Asked *a, Bytes *b, Look *look) {
-    uint8_t how = take(b), special = take(b);
-    a->call %= CALLS;
-    *look = (Look){how % DIRTS, how >> 3 & 1, take(b), (int8_t)take(b), how >> 4 & 1, special};
+    uint8_t call = take(b), how = take(b), special = take(b), odd = take(b), by = take(b);
+    a->call = call % CALLS;
+    *look = (Look){how % DIRTS, how >> 3 & 1, odd, (int8_t)by, how >> 4 & 1, special};
     if (a->call == LINE) {
         a->counts_len = take(b) % 14;
         uint32_t *counts = lend(COUNTS, a->counts_len, 4, 0);
@@ -129,7 +156,7 @@ static void read_asked(Asked *a, Bytes *b, Look *look) {
             a->least[k] = limit(take(b));
         a->keep_largest_n = number(take(b));
     }
-    read_mesh(a, b, how >> 5 & 1 ? 0 : 1);
+    read_mesh(a, b, special);
     if (special >= 250 && a->call == CHECK)
         a->P = number(special);
     else if (special >= 253)
@@ -238,7 +265,7 @@ static void after_repair(const Asked *a, const Look *look, const Given *g, void 
 
 int LLVMFuzzerTestOneInput(const uint8_t *data, size_t size) {
     Bytes bytes = {data, data + size};
-    Asked a = {.call = take(&bytes)};
+    Asked a = {.call = REPAIR};
     Look look;
     void *r[6];
     lend(POINTS, 0, 8, 0);

@@ -10,7 +10,7 @@
 #include <string.h>
 #include <sys/mman.h>
 
-enum { MANY = 6000, MOST = 40000, SHORT = 1000, POINTS = 6, FACES, LABELS, COUNTS };
+enum { FEW = 600, MANY = 6000, MOST = 40000, SHORT = 1000, POINTS = 6, FACES, LABELS, COUNTS };
 
 typedef struct {
     const uint8_t *at, *end;
@@ -50,14 +50,15 @@ static uint64_t number(uint8_t b) {
     return b < 248 ? b : some[b - 248];
 }
 
-/* A mesh in bytes: three for each point, then three for each face, or four with its label; and how many times over it stands. */
+/* A mesh in bytes: three for each point, then three for each face, or four with its label; and how many times over it stands, each time on points of
+ * its own or always on the same. */
 typedef struct {
     const uint8_t *places, *corners, *end;
-    size_t P, F, per, copies;
+    size_t P, F, per, copies, apart;
 } Plan;
 
 static void read_points(Asked *a, const Plan *m, size_t beyond) {
-    size_t n = 3 * m->P * m->copies;
+    size_t n = 3 * m->P * (m->apart ? m->copies : 1);
     double *points = lend(POINTS, n + beyond, 8, 0);
     for (size_t i = 0; i < n + beyond; i++) {
         const uint8_t *place = m->places + (m->P == 0 ? 0 : i % (3 * m->P));
@@ -65,7 +66,7 @@ static void read_points(Asked *a, const Plan *m, size_t beyond) {
     }
     a->points = points;
     a->points_len = n + beyond;
-    a->P = m->P * m->copies;
+    a->P = n / 3;
 }
 
 /* A corner is a point of its copy; from 240 on it lies beyond the points. */
@@ -73,7 +74,7 @@ static void read_faces(Asked *a, const Plan *m, size_t beyond) {
     size_t n = 3 * m->F * m->copies;
     uint32_t *faces = lend(FACES, n + beyond, 4, 0);
     for (size_t i = 0; i < n + beyond; i++) {
-        uint32_t v = i < n ? m->corners[i / 3 % m->F * m->per + i % 3] : 0, copy = i < n ? (uint32_t)(i / 3 / m->F) : 0;
+        uint32_t v = i < n ? m->corners[i / 3 % m->F * m->per + i % 3] : 0, copy = i < n && m->apart ? (uint32_t)(i / 3 / m->F) : 0;
         faces[i] = v == 255 ? 0xffffffff : v >= 240 ? (uint32_t)a->P + v - 240 : m->P == 0 ? v : v % (uint32_t)m->P + copy * (uint32_t)m->P;
     }
     a->faces = faces;
@@ -93,8 +94,8 @@ static void read_labels(Asked *a, const Plan *m, int beyond) {
 }
 
 /* The rest of the bytes as a mesh; `special` may ask for lists whose lengths do not fit. */
-static void read_mesh(Asked *a, Bytes *b, uint8_t special) {
-    Plan m = {.per = a->call == PATCHES ? 4 : 3};
+static void read_mesh(Asked *a, Bytes *b, uint8_t how, uint8_t special) {
+    Plan m = {.per = a->call == PATCHES ? 4 : 3, .apart = !(how >> 5 & 1)};
     m.P = take(b);
     m.copies = take(b);
     m.places = b->at;
@@ -103,7 +104,7 @@ static void read_mesh(Asked *a, Bytes *b, uint8_t special) {
     m.corners = b->at;
     m.end = b->end;
     m.F = (size_t)(b->end - b->at) / m.per;
-    size_t most = (m.copies < 254 || a->call != EDGES ? MANY : MOST) / (m.F + m.P + 1) + 1;
+    size_t faces = a->call == EDGES ? (m.copies < 254 ? MANY : MOST) : m.apart ? MANY : FEW, most = faces / (m.F + m.P + 1) + 1;
     m.copies = m.copies < 200 ? 1 : m.copies < 250 ? m.copies - 198 : most;
     m.copies = m.copies < most ? m.copies : most;
     read_points(a, &m, special >= 240 && special < 244 ? special % 3 : 0);
@@ -156,7 +157,7 @@ static void read_asked(Asked *a, Bytes *b, Look *look) {
             a->least[k] = limit(take(b));
         a->keep_largest_n = number(take(b));
     }
-    read_mesh(a, b, special);
+    read_mesh(a, b, how, special);
     if (special >= 250 && a->call == CHECK)
         a->P = number(special);
     else if (special >= 253)

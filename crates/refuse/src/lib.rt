@@ -114,7 +114,7 @@ fn settings(s: f64, options: u32) -> Verdict
 // ---- 4 and 5: points and faces
 
 // Coordinates are finite and at most 2^100 in magnitude.
-fn in_domain(x: f64) -> bool
+pub fn in_domain(x: f64) -> bool
     ensures { λ r. ⌜ r ≡ rule.in-domain x ⌝ }
 {
     within(-FAR, x, FAR)

@@ -15,12 +15,12 @@
 // Where its first 5n + 1 + 4P entries are 0 at entry, a fault is undone by clearing them again: the room is then as it was.
 use refuse::Verdict;
 ghost use mathlib.Core.Path.{_≡_};
-ghost use Prim.Native.Nat.{_+_, _^_, _≤_, _<_};
+ghost use Prim.Native.Nat.{_+_, _≤_, _<_};
 ghost use lib.Dec.{eqb};
 ghost use lib.ListN.{length, take};
 ghost use Rattle.rules.specs.Lists.{all};
 ghost use Rattle.rules.specs.Mesh.{facesOf};
-ghost use Rattle.table.specs.Entries.{next, stepAt};
+ghost use Rattle.table.specs.Entries.{stepAt};
 ghost use Rattle.boundary.specs.Rows.{FirstOf, long, uneven, alone, AloneAsks, AddAsks, AddGives, TraceAsks, TraceGives, BoundaryAsks, BoundaryGives};
 
 // Whether the first n entries are all 0.
@@ -67,14 +67,6 @@ fn alone(work: &[u32], faces: &[u32], at: usize, i: usize) -> bool
     to - from == 1
 }
 
-// The place of the corner that follows the one at place i of the flat list, in its face.
-fn after(i: usize) -> usize
-    requires { ⌜ i < 2 ^ 32 ⌝ }
-    ensures { λ r. ⌜ r ≡ next i ⌝ }
-{
-    if i % 3 == 2 { i - 2 } else { i + 1 }
-}
-
 // Counts the boundary edge from v to u at both ends, and notes where it ends.
 fn add(work: &mut [u32], count: usize, row: usize, v: usize, u: usize)
     requires { ⌜ AddAsks (now work) count row v u ⌝ }
@@ -94,7 +86,7 @@ fn trace(work: &mut [u32], faces: &[u32], count: usize, at: usize, row: usize)
     let mut i = 0;
     while i < n {
         if alone(work, faces, at, i) {
-            let j = after(i);
+            let j = table::after(i);
             add(work, count, row, faces[i] as usize, faces[j] as usize);
         }
         i += 1;

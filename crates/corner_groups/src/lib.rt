@@ -9,24 +9,15 @@
 //     at + 7n + 1 + P   2n + 1  where each run of them begins
 //     at + 9n + 2 + P   n       the first member of each corner's group
 ghost use mathlib.Core.Path.{_≡_};
-ghost use Prim.Native.Nat.{_^_, _<_};
-ghost use Rattle.table.specs.Entries.{next};
+ghost use Prim.Native.Nat.{_<_};
 ghost use Rattle.corner_groups.specs.Sides.{lowerOf, higherOf, SideAsks, SidesAsks, SidesGives, ShiftAsks, ShiftGives, CornersAsks, CornersGives};
-
-// The place of the corner that follows the one at place i of the flat list, in its face.
-fn after(i: usize) -> usize
-    requires { ⌜ i < 2 ^ 32 ⌝ }
-    ensures { λ r. ⌜ r ≡ next i ⌝ }
-{
-    if i % 3 == 2 { i - 2 } else { i + 1 }
-}
 
 // The corner at the lower end of step s; corner 0 where both ends are one point, as nothing is joined there.
 fn lower(faces: &[u32], s: usize) -> usize
     requires { ⌜ SideAsks (now faces) s ⌝ }
     ensures { λ r. ⌜ r ≡ lowerOf (now (faces .entry)) s ⌝ }
 {
-    let t = after(s);
+    let t = table::after(s);
     let x = faces[s];
     let y = faces[t];
     if x == y {
@@ -40,7 +31,7 @@ fn higher(faces: &[u32], s: usize) -> usize
     requires { ⌜ SideAsks (now faces) s ⌝ }
     ensures { λ r. ⌜ r ≡ higherOf (now (faces .entry)) s ⌝ }
 {
-    let t = after(s);
+    let t = table::after(s);
     let x = faces[s];
     let y = faces[t];
     if x == y {

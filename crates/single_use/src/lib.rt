@@ -3,23 +3,14 @@
 // which of them are exchanged: those with 2.
 ghost use mathlib.Core.Path.{_≡_};
 ghost use mathlib.Core.Bool.{true, false};
-ghost use Prim.Native.Nat.{_+_, _/_, _^_, _<_};
+ghost use Prim.Native.Nat.{_+_, _/_, _<_};
 ghost use lib.Dec.{eqb};
 ghost use lib.ListN.{length};
 ghost use Rattle.rows.specs.Region.{part};
 ghost use Rattle.rules.specs.Mesh.{facesOf};
 ghost use Rattle.rules.proofs.Once.{Once};
 ghost use Rattle.orienting.specs.Reaching.{turnedBy};
-ghost use Rattle.table.specs.Entries.{next};
 ghost use Rattle.single_use.specs.Single.{beginOf, entry, BeginAsks, PairAsks, SingleAsks, RunAsks, Opposed};
-
-// The place of the corner that follows the one at place i of the flat list, in its face.
-fn after(i: usize) -> usize
-    requires { ⌜ i < 2 ^ 32 ⌝ }
-    ensures { λ r. ⌜ r ≡ next i ⌝ }
-{
-    if i % 3 == 2 { i - 2 } else { i + 1 }
-}
 
 // Where the step of an entry begins, as its face stands: an exchanged face walks its edges the opposite way.
 fn begin(work: &[u32], faces: &[u32], states: usize, id: usize) -> u32
@@ -27,7 +18,7 @@ fn begin(work: &[u32], faces: &[u32], states: usize, id: usize) -> u32
     ensures { λ r. ⌜ r ≡ beginOf (now (work .entry)) (now (faces .entry)) states id ⌝ }
 {
     if work[states + id / 3] == 2 {
-        let j = after(id);
+        let j = table::after(id);
         return faces[j];
     }
     faces[id]

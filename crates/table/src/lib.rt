@@ -8,11 +8,20 @@
 //     at + 3n       n       the order: the entries, run after run
 //     at + 4n       n + 1   where each run begins in the order, and n behind the last; while sorting, scratch
 //     at + 5n + 1   P       bins, 0 at exit
+ghost use Prim.Native.Nat.{_^_, _<_};
 ghost use mathlib.Core.Path.{_≡_};
 ghost use Rattle.rules.specs.Steps.{step};
-ghost use Rattle.table.specs.Entries.{under};
+ghost use Rattle.table.specs.Entries.{next, under};
 ghost use Rattle.table.specs.Table.{put, PutAsks, KeysAsks, KeysGives, TableAsks, OrderGives, TableGives};
 ghost use Rattle.table.specs.Runs.{begins, BeginsAsks, NoteAsks, NoteGives, RunsAsks, RunsGives};
+
+// The place of the corner that follows the one at place i of the flat list, in its face.
+pub fn after(i: usize) -> usize
+    requires { ⌜ i < 2 ^ 32 ⌝ }
+    ensures { λ r. ⌜ r ≡ next i ⌝ }
+{
+    if i % 3 == 2 { i - 2 } else { i + 1 }
+}
 
 // The first key of an entry whose step goes from x to y.
 fn first_key(directed: bool, x: u32, y: u32) -> u32

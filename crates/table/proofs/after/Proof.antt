@@ -1,9 +1,9 @@
--- `single_use::after` meets its contract. Assumes nothing.
-use borrow.Author.Needs.{needs}
+-- `table::after` meets its contract. Assumes nothing.
 use borrow.Author.Tests.{eq-eqb, ne-eqb}
 use Prim.Native.Nat.{_%_}
-use Rattle.single_use.proofs.after.Statement.{statement}
-use Rattle.single_use.proofs.after.Tie as tie
+use borrow.Author.Needs.{needs}
+use Rattle.table.proofs.after.Statement.{statement}
+use Rattle.table.proofs.after.Tie as tie
 
 sub-result : tie.Need-sub-result
 sub-result c = search needs

@@ -78,7 +78,7 @@ walk-kept fs n w w′ l h t same =
 
 module _ {w w′ xs : List ℕ} {n : ℕ} (later : Later (walkOf (facesOf xs) n w) (walkOf (facesOf xs) n w′)) where
   -- of one
-  pub crossed-kept : {e : Step} {r : ℕ} → getD w′ (3 + 5 * n + r) 0 ≡ getD w (3 + 5 * n + r) 0 → getD w′ (3 + 8 * n + r) 0 ≡ getD w (3 + 8 * n + r) 0
+  pub crossed-kept : {e : Step} {r : ℕ} → getD w′ (3 + 2 * n + 3 * r + 1) 0 ≡ getD w (3 + 2 * n + 3 * r + 1) 0 → getD w′ (3 + 2 * n + 3 * r + 2) 0 ≡ getD w (3 + 2 * n + 3 * r + 2) 0
       → Crossed w xs n e r → Crossed w′ xs n e r
   crossed-kept {e} {r} a b c =
       let v = walkOf (facesOf xs) n w in
@@ -102,6 +102,6 @@ module _ {w w′ xs : List ℕ} {n : ℕ} (later : Later (walkOf (facesOf xs) n 
         runs = g .runs;
         tabled = tabled-kept o (after (omega arith)) (g .tabled);
         crossed = λ q h z.
-            crossed-kept (o .same (3 + 5 * n + q) (above (omega arith))) (o .same (3 + 8 * n + q) (above (omega arith)))
-            (g .crossed q h (λ e. z (o .same (3 + 2 * n + q) (above (omega arith)) ∙ e)));
+            crossed-kept (o .same (3 + 2 * n + 3 * q + 1) (above (omega arith))) (o .same (3 + 2 * n + 3 * q + 2) (above (omega arith)))
+            (g .crossed q h (λ e. z (o .same (3 + 2 * n + 3 * q) (above (omega arith)) ∙ e)));
       }

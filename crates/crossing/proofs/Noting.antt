@@ -35,17 +35,17 @@ module _ {w xs : List ℕ} {n r from to : ℕ} (p : NoteAsks w xs n r from to) w
 module _ {w xs : List ℕ} {n r from to : ℕ} (p : NoteAsks w xs n r from to) (low high up down : ℕ) where
   -- the row after each store
   abbrev w₁ : List ℕ
-  w₁ = set w (3 + 5 * n + r) up
+  w₁ = set w (3 + 2 * n + 3 * r + 1) up
 
   abbrev w₂ : List ℕ
-  w₂ = set w₁ (3 + 8 * n + r) down
+  w₂ = set w₁ (3 + 2 * n + 3 * r + 2) down
 
   abbrev w₃ : List ℕ
-  w₃ = set w₂ (3 + 2 * n + r) 1
+  w₃ = set w₂ (3 + 2 * n + 3 * r) 1
 
   -- the other entries are as they were
-  others : (q : ℕ) → (q ≡ 3 + 2 * n + r → ⊥) → (q ≡ 3 + 8 * n + r → ⊥) → (q ≡ 3 + 5 * n + r → ⊥) → getD w₃ q 0 ≡ getD w q 0
-  others q a b c = getD-set-other w₂ (3 + 2 * n + r) q 1 0 a ∙ getD-set-other w₁ (3 + 8 * n + r) q down 0 b ∙ getD-set-other w (3 + 5 * n + r) q up 0 c
+  others : (q : ℕ) → (q ≡ 3 + 2 * n + 3 * r → ⊥) → (q ≡ 3 + 2 * n + 3 * r + 2 → ⊥) → (q ≡ 3 + 2 * n + 3 * r + 1 → ⊥) → getD w₃ q 0 ≡ getD w q 0
+  others q a b c = getD-set-other w₂ (3 + 2 * n + 3 * r) q 1 0 a ∙ getD-set-other w₁ (3 + 2 * n + 3 * r + 2) q down 0 b ∙ getD-set-other w (3 + 2 * n + 3 * r + 1) q up 0 c
 
   -- so edge r is noted
   pub note-gives :
@@ -54,33 +54,33 @@ module _ {w xs : List ℕ} {n r from to : ℕ} (p : NoteAsks w xs n r from to) (
       → NoteGives w xs n r from to low high w₃
   note-gives u d =
       let k = note-bounds p in
-      let l₁ = length-set w (3 + 5 * n + r) up in
-      let l₂ = length-set w₁ (3 + 8 * n + r) down in
+      let l₁ = length-set w (3 + 2 * n + 3 * r + 1) up in
+      let l₂ = length-set w₁ (3 + 2 * n + 3 * r + 2) down in
       record {
         only =
-            only-both (only-set w (3 + 5 * n + r) up (omega arith) (omega (arith, k)))
-            (only-both (only-set w₁ (3 + 8 * n + r) down (omega arith) (omega (arith, k)))
-            (only-set w₂ (3 + 2 * n + r) 1 (omega arith) (omega (arith, k))));
+            only-both (only-set w (3 + 2 * n + 3 * r + 1) up (omega arith) (omega (arith, k)))
+            (only-both (only-set w₁ (3 + 2 * n + 3 * r + 2) down (omega arith) (omega (arith, k)))
+            (only-set w₂ (3 + 2 * n + 3 * r) 1 (omega arith) (omega (arith, k))));
         others = λ q ne h. (
-          others (3 + 2 * n + q) (λ z. ne (omega arith)) (λ z. absurd (omega arith)) (λ z. absurd (omega arith)),
-          others (3 + 5 * n + q) (λ z. absurd (omega (arith, k))) (λ z. absurd (omega arith)) (λ z. ne (omega arith)),
-          others (3 + 8 * n + q) (λ z. absurd (omega (arith, k))) (λ z. ne (omega arith)) (λ z. absurd (omega (arith, k))),
+          others (3 + 2 * n + 3 * q) (λ z. ne (omega arith)) (λ z. absurd (omega arith)) (λ z. absurd (omega arith)),
+          others (3 + 2 * n + 3 * q + 1) (λ z. absurd (omega (arith, k))) (λ z. absurd (omega arith)) (λ z. ne (omega arith)),
+          others (3 + 2 * n + 3 * q + 2) (λ z. absurd (omega (arith, k))) (λ z. ne (omega arith)) (λ z. absurd (omega (arith, k))),
         );
-        up = getD-set-other w₂ (3 + 2 * n + r) (3 + 5 * n + r) 1 0 (λ z. absurd (omega (arith, k)))
-            ∙ getD-set-other w₁ (3 + 8 * n + r) (3 + 5 * n + r) down 0 (λ z. absurd (omega (arith, k)))
-            ∙ getD-set-same w (3 + 5 * n + r) up 0 (omega (arith, k)) ∙ u;
-        down = getD-set-other w₂ (3 + 2 * n + r) (3 + 8 * n + r) 1 0 (λ z. absurd (omega (arith, k)))
-            ∙ getD-set-same w₁ (3 + 8 * n + r) down 0 (omega (arith, k)) ∙ d;
+        up = getD-set-other w₂ (3 + 2 * n + 3 * r) (3 + 2 * n + 3 * r + 1) 1 0 (λ z. absurd (omega (arith, k)))
+            ∙ getD-set-other w₁ (3 + 2 * n + 3 * r + 2) (3 + 2 * n + 3 * r + 1) down 0 (λ z. absurd (omega (arith, k)))
+            ∙ getD-set-same w (3 + 2 * n + 3 * r + 1) up 0 (omega (arith, k)) ∙ u;
+        down = getD-set-other w₂ (3 + 2 * n + 3 * r) (3 + 2 * n + 3 * r + 2) 1 0 (λ z. absurd (omega (arith, k)))
+            ∙ getD-set-same w₁ (3 + 2 * n + 3 * r + 2) down 0 (omega (arith, k)) ∙ d;
       }
 
 -- ---- who
 
 -- as it is noted for the way of the step
-pub who-up : {w : List ℕ} {n r : ℕ} → WhoAsks w n r → (x y : ℕ) → x ≤ y → getD w (3 + 5 * n + r) 0 ≡ disagreeing w n r x y
+pub who-up : {w : List ℕ} {n r : ℕ} → WhoAsks w n r → (x y : ℕ) → x ≤ y → getD w (3 + 2 * n + 3 * r + 1) 0 ≡ disagreeing w n r x y
 who-up p x y h = rw (le-leb x y h)
 
 -- or for the other way
-pub who-down : {w : List ℕ} {n r : ℕ} → WhoAsks w n r → (x y : ℕ) → y < x → getD w (3 + 8 * n + r) 0 ≡ disagreeing w n r x y
+pub who-down : {w : List ℕ} {n r : ℕ} → WhoAsks w n r → (x y : ℕ) → y < x → getD w (3 + 2 * n + 3 * r + 2) 0 ≡ disagreeing w n r x y
 who-down p x y h = rw (lt-leb x y h)
 
 -- ---- mark

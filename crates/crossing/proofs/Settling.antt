@@ -157,7 +157,7 @@ module _ {w xs : List ℕ} {n r x y : ℕ} (p : SettleAsks w xs n r x y) where
       only-all = only-both (only-more (omega arith) (omega arith) (h .only)) (only-more (omega arith) (omega arith) (q .only))
 
       -- what was known of the others still is
-      still : (k : ℕ) → k < p .going .runs → (getD w₂ (3 + 2 * n + k) 0 ≡ 0 → ⊥) → Crossed w₂ xs n (getD (edges (p .going .points) (facesOf xs)) k none) k
+      still : (k : ℕ) → k < p .going .runs → (getD w₂ (3 + 2 * n + 3 * k) 0 ≡ 0 → ⊥) → Crossed w₂ xs n (getD (edges (p .going .points) (facesOf xs)) k none) k
       still k l z = go (ℕ-discrete k r)
         where
           few : k < 3 * n
@@ -168,9 +168,9 @@ module _ {w xs : List ℕ} {n r x y : ℕ} (p : SettleAsks w xs n r x y) where
           go (no ne) =
               let o = q .others k ne few in
               crossed-kept later-w
-              (o .1 ∙ h .only .same (3 + 5 * n + k) (above (omega arith)))
-              (o .2 ∙ h .only .same (3 + 8 * n + k) (above (omega arith)))
-              (p .going .crossed k l (λ e. z (o .0 ∙ h .only .same (3 + 2 * n + k) (above (omega arith)) ∙ e)))
+              (o .1 ∙ h .only .same (3 + 2 * n + 3 * k + 1) (above (omega arith)))
+              (o .2 ∙ h .only .same (3 + 2 * n + 3 * k + 2) (above (omega arith)))
+              (p .going .crossed k l (λ e. z (o .0 ∙ h .only .same (3 + 2 * n + 3 * k) (above (omega arith)) ∙ e)))
 
       -- so the edge is crossed, and the walk goes on
       pub settle-gives : SettleGives w xs n r x y w₂
@@ -191,7 +191,7 @@ module _ {w xs : List ℕ} {n r x y : ℕ} (p : SettleAsks w xs n r x y) where
           }
 
   -- where it was crossed, all its users are visited
-  pub was-crossed : (getD w (3 + 2 * n + r) 0 ≡ 0 → ⊥) → SettleGives w xs n r x y w
+  pub was-crossed : (getD w (3 + 2 * n + 3 * r) 0 ≡ 0 → ⊥) → SettleGives w xs n r x y w
   was-crossed z =
       let c : Crossed w xs n (edge (step x y)) r = subst (λ e. Crossed w xs n e r) (p .along) (p .going .crossed r (p .here) z) in
       record {

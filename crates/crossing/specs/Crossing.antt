@@ -21,8 +21,8 @@ use Rattle.reaching.specs.Walking.{walkOf, facesIn, Ready, RunAsks}
 -- edge e, of number r, was crossed: all its users are visited, and it is noted who disagrees with a step along it, either way
 pub record Crossed (w xs : List ℕ) (n : ℕ) (e : Step) (r : ℕ) : Type 0 where
   pub seen : All (λ i. getD (walkOf (facesOf xs) n w .visited) i false ≡ true) (users (facesOf xs) e)
-  pub up : getD w (3 + 5 * n + r) 0 ≡ lone (n + 1) (walkOf (facesOf xs) n w .faces) (opposite e) (users (facesOf xs) e)
-  pub down : getD w (3 + 8 * n + r) 0 ≡ lone (n + 1) (walkOf (facesOf xs) n w .faces) e (users (facesOf xs) e)
+  pub up : getD w (3 + 2 * n + 3 * r + 1) 0 ≡ lone (n + 1) (walkOf (facesOf xs) n w .faces) (opposite e) (users (facesOf xs) e)
+  pub down : getD w (3 + 2 * n + 3 * r + 2) 0 ≡ lone (n + 1) (walkOf (facesOf xs) n w .faces) e (users (facesOf xs) e)
 
 -- a sound walk, the table of the faces as they were, and what is noted of crossed edges
 pub record Going (w xs : List ℕ) (n : ℕ) : Type 0 where
@@ -30,7 +30,7 @@ pub record Going (w xs : List ℕ) (n : ℕ) : Type 0 where
   pub points : ℕ
   pub runs : ℕ
   pub tabled : Tabled w xs points false (3 + 11 * n) runs
-  pub crossed : (r : ℕ) → r < runs → (getD w (3 + 2 * n + r) 0 ≡ 0 → ⊥) → Crossed w xs n (getD (edges points (facesOf xs)) r none) r
+  pub crossed : (r : ℕ) → r < runs → (getD w (3 + 2 * n + 3 * r) 0 ≡ 0 → ⊥) → Crossed w xs n (getD (edges points (facesOf xs)) r none) r
 
 -- a run of entries, and the number of an edge
 pub record NoteAsks (w xs : List ℕ) (n r from to : ℕ) : Type 0 where
@@ -40,9 +40,9 @@ pub record NoteAsks (w xs : List ℕ) (n r from to : ℕ) : Type 0 where
 -- it is noted of edge r who disagrees, either way
 pub record NoteGives (w xs : List ℕ) (n r from to low high : ℕ) (w′ : List ℕ) : Type 0 where
   pub only : Only (3 + 2 * n) (9 * n) w w′
-  pub others : (q : ℕ) → (q ≡ r → ⊥) → q < 3 * n → (getD w′ (3 + 2 * n + q) 0 ≡ getD w (3 + 2 * n + q) 0) × (getD w′ (3 + 5 * n + q) 0 ≡ getD w (3 + 5 * n + q) 0) × (getD w′ (3 + 8 * n + q) 0 ≡ getD w (3 + 8 * n + q) 0)
-  pub up : getD w′ (3 + 5 * n + r) 0 ≡ lone (n + 1) (walkOf (facesOf xs) n w .faces) (step high low) (facesIn w from to)
-  pub down : getD w′ (3 + 8 * n + r) 0 ≡ lone (n + 1) (walkOf (facesOf xs) n w .faces) (step low high) (facesIn w from to)
+  pub others : (q : ℕ) → (q ≡ r → ⊥) → q < 3 * n → (getD w′ (3 + 2 * n + 3 * q) 0 ≡ getD w (3 + 2 * n + 3 * q) 0) × (getD w′ (3 + 2 * n + 3 * q + 1) 0 ≡ getD w (3 + 2 * n + 3 * q + 1) 0) × (getD w′ (3 + 2 * n + 3 * q + 2) 0 ≡ getD w (3 + 2 * n + 3 * q + 2) 0)
+  pub up : getD w′ (3 + 2 * n + 3 * r + 1) 0 ≡ lone (n + 1) (walkOf (facesOf xs) n w .faces) (step high low) (facesIn w from to)
+  pub down : getD w′ (3 + 2 * n + 3 * r + 2) 0 ≡ lone (n + 1) (walkOf (facesOf xs) n w .faces) (step low high) (facesIn w from to)
 
 -- the step from x to y is along edge r
 pub record SettleAsks (w xs : List ℕ) (n r x y : ℕ) : Type 0 where
@@ -66,7 +66,7 @@ pub record WhoAsks (w : List ℕ) (n r : ℕ) : Type 0 where
 
 -- who disagrees with a step from x to y, as it is noted
 abbrev pub disagreeing : List ℕ → ℕ → ℕ → ℕ → ℕ → ℕ
-disagreeing w n r x y = cond (leb x y) (getD w (3 + 5 * n + r) 0) (getD w (3 + 8 * n + r) 0)
+disagreeing w n r x y = cond (leb x y) (getD w (3 + 2 * n + 3 * r + 1) 0) (getD w (3 + 2 * n + 3 * r + 2) 0)
 
 -- j is a face
 pub record MarkAsks (w : List ℕ) (n j : ℕ) : Type 0 where

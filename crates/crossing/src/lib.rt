@@ -3,9 +3,8 @@
 //
 // The rows, for n faces; those before 3 + 2n are of `reaching`:
 //
-//     3 + 2n        3n      of each edge, whether it was crossed
-//     3 + 5n        3n      who disagrees with a step from its lower to its higher end: 0 for none, 1 + i for face i alone, n + 1 for several
-//     3 + 8n        3n      who disagrees with a step from its higher to its lower end
+//     3 + 2n        9n      of each edge three numbers, next to each other: whether it was crossed; who disagrees with a step from its lower to its
+//                           higher end, 0 for none, 1 + i for face i alone, n + 1 for several; and who with a step from its higher to its lower end
 //     3 + 11n       15n + 1 + P     the undirected table of the faces, see `table`
 ghost use mathlib.Core.Path.{_≡_};
 ghost use Prim.Native.Nat.{min, max};
@@ -41,9 +40,10 @@ fn note(
 {
     let up = reaching::lone(work, faces, n, from, to, high, low);
     let down = reaching::lone(work, faces, n, from, to, low, high);
-    work[3 + 5 * n + r] = up;
-    work[3 + 8 * n + r] = down;
-    work[3 + 2 * n + r] = 1;
+    let noted = 3 + 2 * n + 3 * r;
+    work[noted + 1] = up;
+    work[noted + 2] = down;
+    work[noted] = 1;
 }
 
 // Crosses edge r for the first time, by the step from x to y: its users are reached, and it is noted who disagrees.
@@ -66,7 +66,7 @@ fn open(work: &mut [u32], faces: &[u32], n: usize, r: usize, x: u32, y: u32)
     requires { ⌜ SettleAsks (now work) (now faces) n r x y ⌝ }
     ensures { λ _. ⌜ SettleGives (now (work .entry)) (now (faces .entry)) n r x y (now (work .exit)) ⌝ }
 {
-    if work[3 + 2 * n + r] == 0 {
+    if work[3 + 2 * n + 3 * r] == 0 {
         settle(work, faces, n, r, x, y);
     }
 }
@@ -77,9 +77,9 @@ fn who(work: &[u32], n: usize, r: usize, x: u32, y: u32) -> u32
     ensures { λ c. ⌜ c ≡ disagreeing (now (work .entry)) n r x y ⌝ }
 {
     if x <= y {
-        return work[3 + 5 * n + r];
+        return work[3 + 2 * n + 3 * r + 1];
     }
-    work[3 + 8 * n + r]
+    work[3 + 2 * n + 3 * r + 2]
 }
 
 // Marks the component, if some other than face j disagrees.

@@ -64,7 +64,7 @@ module _ {P : ℕ} {xs : List ℕ} {n : ℕ} {w : List ℕ} (p : FacesStand P xs
               points = P;
               runs = m;
               tabled = t .tabled;
-              crossed = λ r h c. absurd (c (zero-at fits blank (3 + 2 * n + r) (omega (arith, at-run (t .tabled) r h .runs, bounds))));
+              crossed = λ r h c. absurd (c (zero-at fits blank (3 + 2 * n + 3 * r) (omega (arith, at-run (t .tabled) r h .runs, bounds))));
             };
             blank = blank;
           }

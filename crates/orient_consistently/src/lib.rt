@@ -9,9 +9,7 @@
 //     2             1       whether the present component is marked
 //     3             n       the state of each face: 0 unvisited, 1 visited as it was, 2 visited and exchanged
 //     3 + n         n       the stack, its top last
-//     3 + 2n        3n      of each edge, whether it was crossed
-//     3 + 5n        3n      who disagrees with a step from its lower to its higher end
-//     3 + 8n        3n      who disagrees with a step from its higher to its lower end
+//     3 + 2n        9n      of each edge whether it was crossed, and who disagrees with a step along it, either way, see `crossing`
 //     3 + 11n       15n + 1 + P     the undirected table, see `table`
 ghost use mathlib.Core.Path.{_≡_};
 ghost use mathlib.Core.Bool.{true};

@@ -12,11 +12,26 @@ lone-requires c κs = c .before .before .before .pre .run
 lone-requires-2 : tie.Need-lone-requires-2
 lone-requires-2 c κs = c .before .before .before .before .before .pre .run
 
-mul-work : tie.Need-mul-work
-mul-work c = omega (arith, note-bounds (c .before .before .before .before .before .before .pre))
+mul-noted : tie.Need-mul-noted
+mul-noted c = omega (arith, note-bounds (c .before .before .before .before .before .before .pre))
+
+add-noted : tie.Need-add-noted
+add-noted c = omega (arith, note-bounds (c .before .before .before .before .before .before .pre))
+
+mul-noted-2 : tie.Need-mul-noted-2
+mul-noted-2 c = omega (arith, note-bounds (c .before .before .before .before .before .before .pre))
+
+add-noted-2 : tie.Need-add-noted-2
+add-noted-2 c = omega (arith, note-bounds (c .before .before .before .before .before .before .pre))
 
 add-work : tie.Need-add-work
 add-work c = omega (arith, note-bounds (c .before .before .before .before .before .before .pre))
+
+mul-work : tie.Need-mul-work
+mul-work c = omega (arith, note-bounds (c .before .before .before .before .before .before .pre))
+
+slice-write-work : tie.Need-slice-write-work
+slice-write-work c = omega (arith, note-bounds (c .before .before .before .before .before .before .pre))
 
 add-work-2 : tie.Need-add-work-2
 add-work-2 c = omega (arith, note-bounds (c .before .before .before .before .before .before .pre))
@@ -24,35 +39,11 @@ add-work-2 c = omega (arith, note-bounds (c .before .before .before .before .bef
 mul-work-2 : tie.Need-mul-work-2
 mul-work-2 c = omega (arith, note-bounds (c .before .before .before .before .before .before .pre))
 
-slice-write-work : tie.Need-slice-write-work
-slice-write-work c = omega (arith, note-bounds (c .before .before .before .before .before .before .pre))
-
-mul-work-3 : tie.Need-mul-work-3
-mul-work-3 c = omega (arith, note-bounds (c .before .before .before .before .before .before .pre))
-
-add-work-3 : tie.Need-add-work-3
-add-work-3 c = omega (arith, note-bounds (c .before .before .before .before .before .before .pre))
-
-add-work-4 : tie.Need-add-work-4
-add-work-4 c = omega (arith, note-bounds (c .before .before .before .before .before .before .pre))
-
-mul-work-4 : tie.Need-mul-work-4
-mul-work-4 c = omega (arith, note-bounds (c .before .before .before .before .before .before .pre))
-
 slice-write-work-2 : tie.Need-slice-write-work-2
 slice-write-work-2 c = simp length-set (omega (arith, note-bounds (c .before .before .before .before .before .before .pre)))
 
-mul-work-5 : tie.Need-mul-work-5
-mul-work-5 c = omega (arith, note-bounds (c .before .before .before .before .before .before .pre))
-
-add-work-5 : tie.Need-add-work-5
-add-work-5 c = omega (arith, note-bounds (c .before .before .before .before .before .before .pre))
-
-add-work-6 : tie.Need-add-work-6
-add-work-6 c = omega (arith, note-bounds (c .before .before .before .before .before .before .pre))
-
-mul-work-6 : tie.Need-mul-work-6
-mul-work-6 c = omega (arith, note-bounds (c .before .before .before .before .before .before .pre))
+mul-work-3 : tie.Need-mul-work-3
+mul-work-3 c = omega (arith, note-bounds (c .before .before .before .before .before .before .pre))
 
 slice-write-work-3 : tie.Need-slice-write-work-3
 slice-write-work-3 c = simp length-set (omega (arith, note-bounds (c .before .before .before .before .before .before .pre)))
@@ -64,4 +55,4 @@ returns : tie.Need-returns
 returns c = note-gives (c .before .before .before .before .before .before .pre) _ _ _ _ (c .before .before .lone .ensures) (c .lone2 .ensures)
 
 pub note-spec : {M : Type 1} → statement M
-note-spec = tie.close (tie.spec lone-requires lone-requires-2 mul-work add-work add-work-2 mul-work-2 slice-write-work mul-work-3 add-work-3 add-work-4 mul-work-4 slice-write-work-2 mul-work-5 add-work-5 add-work-6 mul-work-6 slice-write-work-3 same-length returns)
+note-spec = tie.close (tie.spec lone-requires lone-requires-2 mul-noted add-noted mul-noted-2 add-noted-2 add-work mul-work slice-write-work add-work-2 mul-work-2 slice-write-work-2 mul-work-3 slice-write-work-3 same-length returns)

@@ -2,4 +2,3 @@ pub mod Standing
 pub mod Steps
 pub mod Passes
 pub mod Rooms
-pub mod Mending

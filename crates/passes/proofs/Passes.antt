@@ -2,7 +2,7 @@
 use mathlib.Core.Path.{_≡_, refl, sym, ap, ap₂, _∙_}
 use mathlib.Core.Bool.{true, false}
 use mathlib.Core.List.{List}
-use Prim.Native.Nat.{ℕ, _*_, _-_, _/_, _≤_}
+use Prim.Native.Nat.{ℕ, _+_, _*_, _-_, _/_, _≤_}
 use native.Mathlib.Omega.{arith}
 use lib.Dec.{ltb}
 use lib.ListN.{length, take}
@@ -10,6 +10,7 @@ use lib.Ieee.{Float}
 use Rattle.leaving.specs.Pass.{standing, PassAsks, LeaveGives}
 use Rattle.rules.specs.Mesh.{Face, pointsOf, facesOf}
 use Rattle.rules.specs.Repair.{optional}
+use Rattle.rules.specs.Rooms.{work-room}
 use Rattle.rules.specs.State.{more, counted, with-faces, dropped, degenerates, duplicates, crowded-edges, dropped-at-edges, dropped-for-direction, reoriented, components}
 use Rattle.rules.specs.Pass1.{pass1, marked1}
 use Rattle.rules.specs.Pass2.{pass2, marked2}
@@ -21,102 +22,112 @@ use Rattle.rules.proofs.Fits.{few-edges}
 use Rattle.rules.proofs.Flat.{faces-flat, length-points, length-faces-take}
 use Rattle.rules.proofs.Manifold.{turned-inside}
 use Rattle.rules.proofs.Turning.{oriented-turned}
-use Rattle.passes.specs.Mended.{stateOf, StepGives}
-use Rattle.orient_consistently.specs.Walked.{OrientGives}
 use Rattle.splitting.proofs.Reports.{more-none}
+use Rattle.orient_consistently.specs.Walked.{OrientGives}
+use Rattle.split_bowtie_vertices.specs.Splits.{SplitAsks}
+use Rattle.passes.specs.Passing.{stateOf, PassGives}
 use Rattle.passes.proofs.Standing.{corners-inside, inside-corners}
-use Rattle.passes.proofs.Steps.{none-dropped, step-off, step-left, step-after, all-points}
+use Rattle.passes.proofs.Steps.{unchanged, off, reads, read, step-left, step-after}
 
-module _ {ps : List Float} {xs : List ℕ} {n : ℕ} {w : List ℕ} (a : PassAsks ps xs n w) where
-  -- how many points stand
-  points-stand : length (pointsOf (take (3 * (length ps / 3)) ps)) ≡ length ps / 3
-  points-stand = ap (λ qs. length (pointsOf qs)) (all-points a) ∙ length-points ps
+module _ {ps : List Float} {p : ℕ} {xs : List ℕ} {n : ℕ} {w : List ℕ} (a : SplitAsks ps p xs n w) where
+  -- the points that a pass reads
+  abbrev qs : List Float
+  qs = take (3 * p) ps
 
   -- pass 1 that is off
-  pub off1 : (s : Float) → StepGives (optional false (pass1 s)) (more degenerates (n - n)) ps xs n w xs w n
-  off1 s = step-off (pass1 s) (more degenerates (n - n)) (none-dropped degenerates n) a
+  pub off1 : (s : Float) → PassGives (optional false (pass1 s)) (more degenerates 0) p p (work-room p n) ps p xs n w ps xs w (unchanged p n)
+  off1 s = off (pass1 s) (more degenerates 0) p p (work-room p n) (more-none degenerates) (omega arith) (omega arith) (a .stand .inside)
 
   -- pass 1 that is on: degenerate faces leave
-  pub on1 : (s : Float) {xs′ w′ : List ℕ} {r : ℕ} → LeaveGives (marked1 s (pointsOf ps) (standing xs n)) (length ps / 3) xs n w xs′ w′ r → StepGives (optional true (pass1 s)) (more degenerates (n - r)) ps xs n w xs′ w′ r
+  pub on1 :
+      (s : Float) {xs′ w′ : List ℕ} {r : ℕ} → LeaveGives (marked1 s (pointsOf qs) (standing xs n)) (length qs / 3) xs n w xs′ w′ r
+      → PassGives (optional true (pass1 s)) (more degenerates (n - r)) p p (work-room p n) ps p xs n w ps xs′ w′ (record { points = p; faces = r; dropped = n - r; found = 0; changed = 0 })
   unfolding pass1
-  on1 s g =
-      step-left (pass1 s) degenerates (λ report. report) (marked1 s (pointsOf ps) (standing xs n))
-      (λ report. ap (λ qs. dropped degenerates (marked1 s (pointsOf qs) (standing xs n)) (stateOf ps (length ps / 3) xs n report)) (all-points a)) a g
+  on1 s g = step-left (pass1 s) degenerates (λ report. report) (marked1 s (pointsOf qs) (standing xs n)) 0 0 (omega arith) (omega arith) (λ report. refl) a (read a g)
 
   -- pass 2 that is off
-  pub off2 : StepGives (optional false pass2) (more duplicates (n - n)) ps xs n w xs w n
-  off2 = step-off pass2 (more duplicates (n - n)) (none-dropped duplicates n) a
+  pub off2 : PassGives (optional false pass2) (more duplicates 0) p p (work-room p n) ps p xs n w ps xs w (unchanged p n)
+  off2 = off pass2 (more duplicates 0) p p (work-room p n) (more-none duplicates) (omega arith) (omega arith) (a .stand .inside)
 
   -- pass 2 that is on: all but the first of faces alike leave
-  pub on2 : {xs′ w′ : List ℕ} {r : ℕ} → LeaveGives (marked2 (standing xs n)) (length ps / 3) xs n w xs′ w′ r → StepGives (optional true pass2) (more duplicates (n - r)) ps xs n w xs′ w′ r
+  pub on2 :
+      {xs′ w′ : List ℕ} {r : ℕ} → LeaveGives (marked2 (standing xs n)) p xs n w xs′ w′ r
+      → PassGives (optional true pass2) (more duplicates (n - r)) p p (work-room p n) ps p xs n w ps xs′ w′ (record { points = p; faces = r; dropped = n - r; found = 0; changed = 0 })
   unfolding pass2
-  on2 g = step-left pass2 duplicates (λ report. report) (marked2 (standing xs n)) (λ report. refl) a g
+  on2 g = step-left pass2 duplicates (λ report. report) (marked2 (standing xs n)) 0 0 (omega arith) (omega arith) (λ report. refl) a g
 
   -- pass 3 that is off
-  pub off3 : StepGives (optional false pass3) (λ report. more dropped-at-edges (n - n) (more crowded-edges 0 report)) ps xs n w xs w n
-  off3 = step-off pass3 (λ report. more dropped-at-edges (n - n) (more crowded-edges 0 report)) (λ report. none-dropped dropped-at-edges n (more crowded-edges 0 report) ∙ more-none crowded-edges report) a
+  pub off3 : PassGives (optional false pass3) (λ report. more dropped-at-edges 0 (more crowded-edges 0 report)) p p (work-room p n) ps p xs n w ps xs w (unchanged p n)
+  off3 =
+      off pass3 (λ report. more dropped-at-edges 0 (more crowded-edges 0 report)) p p (work-room p n)
+      (λ report. more-none dropped-at-edges (more crowded-edges 0 report) ∙ more-none crowded-edges report) (omega arith) (omega arith) (a .stand .inside)
 
-  -- pass 3 that is on: crowded edges are counted, and marked faces leave
-  pub on3 :
-      {xs′ w′ : List ℕ} {r k : ℕ} → LeaveGives (marked3 (pointsOf ps) (standing xs n)) (length ps / 3) xs n w xs′ w′ r → k ≡ length (crowded (length ps / 3) (standing xs n))
-      → StepGives (optional true pass3) (λ report. more dropped-at-edges (n - r) (more crowded-edges k report)) ps xs n w xs′ w′ r
-  unfolding pass3 counted
-  on3 {k = k} g e =
-      step-left pass3 dropped-at-edges (more crowded-edges k) (marked3 (pointsOf ps) (standing xs n))
-      (λ report.
-      ap (λ qs. dropped dropped-at-edges (marked3 (pointsOf qs) (standing xs n)) (stateOf ps (length ps / 3) xs n (more crowded-edges (length (crowded (length (pointsOf (take (3 * (length ps / 3)) ps))) (standing xs n))) report))) (all-points a)
-      ∙ ap (λ j. dropped dropped-at-edges (marked3 (pointsOf ps) (standing xs n)) (stateOf ps (length ps / 3) xs n (more crowded-edges j report))) (ap (λ P. length (crowded P (standing xs n))) points-stand ∙ sym e))
-      a g
+  -- how many points are read
+  points-read : length (pointsOf qs) ≡ length qs / 3
+  points-read = length-points qs
 
   -- crowded edges are edges, of which each face has three
-  pub few-crowded : {k : ℕ} → k ≡ length (crowded (length ps / 3) (standing xs n)) → k ≤ 3 * n
+  few-crowded : {k : ℕ} → k ≡ length (crowded (length qs / 3) (standing xs n)) → k ≤ p + 3 * n
   unfolding crowded
   few-crowded e =
       let l = length-faces-take xs n (a .stand .fit) in
-      omega (arith, e, few-edges (length ps / 3) (standing xs n), filter-le (λ d. ltb 2 (length (users (standing xs n) d))) (edges (length ps / 3) (standing xs n)))
+      omega (arith, e, few-edges (length qs / 3) (standing xs n), filter-le (λ d. ltb 2 (length (users (standing xs n) d))) (edges (length qs / 3) (standing xs n)))
+
+  -- pass 3 that is on: crowded edges are counted, and marked faces leave
+  pub on3 :
+      {xs′ w′ : List ℕ} {r k : ℕ} → LeaveGives (marked3 (pointsOf qs) (standing xs n)) (length qs / 3) xs n w xs′ w′ r → k ≡ length (crowded (length qs / 3) (standing xs n))
+      → PassGives (optional true pass3) (λ report. more dropped-at-edges (n - r) (more crowded-edges k report)) p p (work-room p n) ps p xs n w ps xs′ w′ (record { points = p; faces = r; dropped = n - r; found = k; changed = 0 })
+  unfolding pass3 counted
+  on3 {k = k} g e =
+      step-left pass3 dropped-at-edges (more crowded-edges k) (marked3 (pointsOf qs) (standing xs n)) k 0 (few-crowded e) (omega arith)
+      (λ report. ap (λ j. dropped dropped-at-edges (marked3 (pointsOf qs) (standing xs n)) (stateOf ps p xs n (more crowded-edges j report))) (ap (λ P. length (crowded P (standing xs n))) points-read ∙ sym e))
+      a (read a g)
 
   -- pass 4 that is off
-  pub off4 : StepGives (optional false pass4) (λ report. more dropped-for-direction (n - n) (more components 0 (more reoriented 0 report))) ps xs n w xs w n
+  pub off4 : PassGives (optional false pass4) (λ report. more dropped-for-direction 0 (more components 0 (more reoriented 0 report))) p p (work-room p n) ps p xs n w ps xs w (unchanged p n)
   off4 =
-      step-off pass4 (λ report. more dropped-for-direction (n - n) (more components 0 (more reoriented 0 report)))
-      (λ report. none-dropped dropped-for-direction n (more components 0 (more reoriented 0 report)) ∙ more-none components (more reoriented 0 report) ∙ more-none reoriented report) a
+      off pass4 (λ report. more dropped-for-direction 0 (more components 0 (more reoriented 0 report))) p p (work-room p n)
+      (λ report. more-none dropped-for-direction (more components 0 (more reoriented 0 report)) ∙ more-none components (more reoriented 0 report) ∙ more-none reoriented report) (omega arith) (omega arith) (a .stand .inside)
 
-  module _ {xs₁ w₁ : List ℕ} {e k : ℕ} (t : OrientGives (length ps / 3) xs n w xs₁ w₁ e k) where
+  module _ {xs₁ w₁ : List ℕ} {e k : ℕ} (t : OrientGives p xs n w xs₁ w₁ e k) where
     -- what stands is what the first half leaves
     turned-standing : standing xs₁ n ≡ oriented (standing xs n) .walk .faces
     turned-standing = ap facesOf (t .faces) ∙ faces-flat (oriented (standing xs n) .walk .faces)
 
-    -- it stands as the second half asks
-    pub turned-asks : PassAsks ps xs₁ n w₁
+    -- it stands as a pass asks
+    turned-asks : SplitAsks ps p xs₁ n w₁
     turned-asks =
         let f = a .stand in
         let l = t .only-faces .long in
         let m = t .only-work .long in
         record {
-          whole = a .whole;
           stand = record {
             points = f .points;
             few = f .few;
             fit = omega (arith, f .fit);
             inside =
-                inside-corners xs₁ n (omega (arith, f .fit)) (length ps / 3)
-                (rw turned-standing (turned-inside (length ps / 3) (standing xs n) (oriented (standing xs n) .walk .faces) (oriented-turned (standing xs n)) (corners-inside xs n (f .fit) (length ps / 3) (f .inside))));
+                inside-corners xs₁ n (omega (arith, f .fit)) p
+                (rw turned-standing (turned-inside p (standing xs n) (oriented (standing xs n) .walk .faces) (oriented-turned (standing xs n)) (corners-inside xs n (f .fit) p (f .inside))));
             room = omega (arith, f .room);
           };
+          room = a .room;
         }
+
+    -- the second half may read the points
+    pub turned-reads : PassAsks qs xs₁ n w₁
+    turned-reads = reads turned-asks
 
     -- pass 4 that is on: the faces that the first half leaves, less those that collide
     pub on4 :
-        {xs′ w′ : List ℕ} {r : ℕ} → LeaveGives (marked4 (pointsOf ps) (standing xs₁ n)) (length ps / 3) xs₁ n w₁ xs′ w′ r
-        → StepGives (optional true pass4) (λ report. more dropped-for-direction (n - r) (more components k (more reoriented e report))) ps xs n w xs′ w′ r
+        {xs′ w′ : List ℕ} {r : ℕ} → LeaveGives (marked4 (pointsOf qs) (standing xs₁ n)) (length qs / 3) xs₁ n w₁ xs′ w′ r
+        → PassGives (optional true pass4) (λ report. more dropped-for-direction (n - r) (more components k (more reoriented e report))) p p (work-room p n) ps p xs n w ps xs′ w′ (record { points = p; faces = r; dropped = n - r; found = k; changed = e })
     unfolding optional pass4 counted with-faces
     on4 {r = r} g =
         step-after (optional true pass4) (λ report. more components k (more reoriented e report)) (t .only-faces) (t .only-work)
         (λ report.
-        ap (λ fs. dropped dropped-for-direction (marked4 (pointsOf ps) fs) (record { points = pointsOf (take (3 * (length ps / 3)) ps); faces = fs; report = more components k (more reoriented e report) })) turned-standing
-        ∙ ap (λ qs. dropped dropped-for-direction (marked4 (pointsOf qs) gs) (record { points = pointsOf (take (3 * (length ps / 3)) ps); faces = gs; report = more components k (more reoriented e report) })) (sym (all-points a))
-        ∙ ap₂ (λ i j. dropped dropped-for-direction (marked4 (pointsOf (take (3 * (length ps / 3)) ps)) gs) (record { points = pointsOf (take (3 * (length ps / 3)) ps); faces = gs; report = more components i (more reoriented j report) })) (t .marks) (t .exchanges))
-        (step-left {xs = xs₁} {w = w₁} (dropped dropped-for-direction (marked4 (pointsOf ps) (standing xs₁ n))) dropped-for-direction (λ report. report) (marked4 (pointsOf ps) (standing xs₁ n)) (λ report. refl) turned-asks g)
+        ap (λ fs. dropped dropped-for-direction (marked4 (pointsOf qs) fs) (record { points = pointsOf qs; faces = fs; report = more components k (more reoriented e report) })) turned-standing
+        ∙ ap₂ (λ i j. dropped dropped-for-direction (marked4 (pointsOf qs) gs) (record { points = pointsOf qs; faces = gs; report = more components i (more reoriented j report) })) (t .marks) (t .exchanges))
+        (step-left {xs = xs₁} {w = w₁} (dropped dropped-for-direction (marked4 (pointsOf qs) (standing xs₁ n))) dropped-for-direction (λ report. report) (marked4 (pointsOf qs) (standing xs₁ n)) k e (omega (arith, t .few-marks)) (omega (arith, t .few-exchanges)) (λ report. refl) turned-asks (read a g))
       where
         gs : List Face
         gs = oriented (standing xs n) .walk .faces

@@ -7,7 +7,6 @@ use native.Mathlib.Omega.{arith}
 use lib.ListN.{length, getD, take}
 use lib.Seq.{length-take-le}
 use lib.Ieee.{Float}
-use Rattle.rows.proofs.Regions.{only-none}
 use Rattle.leaving.specs.Pass.{standing}
 use Rattle.rules.specs.Mesh.{pointsOf, facesOf}
 use Rattle.rules.specs.Repair.{optional}
@@ -18,14 +17,14 @@ use Rattle.rules.specs.Pass6.{pass6, number}
 use Rattle.rules.proofs.Flat.{faces-flat, points-flat, length-points}
 use Rattle.rules.proofs.Once.{Inside}
 use Rattle.rules.proofs.Output.{pass6-inside}
-use Rattle.passes.specs.Mended.{stateOf, RoomGives}
+use Rattle.passes.specs.Passing.{stateOf, PassGives}
 use Rattle.split_bowtie_vertices.specs.declared.Split.{Split}
 use Rattle.split_bowtie_vertices.specs.Splits.{SplitAsks, SplitGives}
 use Rattle.drop_isolated_vertices.specs.Unused.{UnusedAsks, UnusedGives}
 use Rattle.drop_isolated_vertices.proofs.Resulting.{unused-state}
 use Rattle.splitting.proofs.Reports.{more-none}
 use Rattle.passes.proofs.Standing.{corners-inside, inside-corners}
-use Rattle.passes.proofs.Steps.{none-dropped}
+use Rattle.passes.proofs.Steps.{unchanged, off}
 
 -- p points at the front are p
 pub length-standing-points : (ps : List Float) (p : ℕ) → 3 * p ≤ length ps → length (pointsOf (take (3 * p) ps)) ≡ p
@@ -41,27 +40,18 @@ inside-by ps p xs n report m hp hn e inside =
 
 module _ {ps : List Float} {p : ℕ} {xs : List ℕ} {n : ℕ} {w : List ℕ} (a : SplitAsks ps p xs n w) where
   -- pass 5 that is off
-  pub off5 : RoomGives (optional false pass5) (λ report. more points-added (p - p) (more vertices-split 0 report)) (p + 3 * n) (work-room p n) ps p xs n w ps p xs w
-  unfolding optional
+  pub off5 : PassGives (optional false pass5) (λ report. more points-added 0 (more vertices-split 0 report)) p (p + 3 * n) (work-room p n) ps p xs n w ps xs w (unchanged p n)
   off5 =
-      record {
-        inside = a .stand .inside;
-        fewer = omega arith;
-        state = λ report. ap (stateOf ps p xs n) (none-dropped points-added p (more vertices-split 0 report) ∙ more-none vertices-split report);
-        only-points = only-none 0 (3 * (p + 3 * n)) ps;
-        only-faces = only-none 0 (3 * n) xs;
-        only-work = only-none 0 (work-room p n) w;
-      }
+      off pass5 (λ report. more points-added 0 (more vertices-split 0 report)) p (p + 3 * n) (work-room p n)
+      (λ report. more-none points-added (more vertices-split 0 report) ∙ more-none vertices-split report) (omega arith) (omega arith) (a .stand .inside)
 
   -- pass 5 that is on: what stands is what the rule makes
   pub on5 :
       {ps′ : List Float} {xs′ w′ : List ℕ} {r : Split} → SplitGives p ps xs n w ps′ xs′ w′ r
-      → RoomGives (optional true pass5) (λ report. more points-added (r .points - p) (more vertices-split (r .splits) report)) (p + 3 * n) (work-room p n) ps p xs n w ps′ (r .points) xs′ w′
+      → PassGives (optional true pass5) (λ report. more points-added (r .points - p) (more vertices-split (r .splits) report)) p (p + 3 * n) (work-room p n) ps p xs n w ps′ xs′ w′ (record { points = r .points; faces = n; dropped = 0; found = r .splits; changed = r .points - p })
   unfolding optional
   on5 {r = r} g =
       record {
-        inside = g .inside;
-        fewer = g .most;
         state =
             λ report.
             let m = pass5 (stateOf ps p xs n report) in
@@ -69,6 +59,13 @@ module _ {ps : List Float} {p : ℕ} {xs : List ℕ} {n : ℕ} {w : List ℕ} (a
             let f = ap facesOf (g .faces report) ∙ faces-flat (m .faces) in
             let e = sym (g .report report) in
             λ i. record { points = q i; faces = f i; report = e i };
+        inside = g .inside;
+        not-below = g .least;
+        not-above = g .most;
+        fewer = omega arith;
+        few-dropped = omega arith;
+        few-found = omega (arith, g .few);
+        few-changed = omega (arith, g .most);
         only-points = g .only-points;
         only-faces = g .only-faces;
         only-work = g .only-work;
@@ -80,30 +77,26 @@ module _ {ps : List Float} {p : ℕ} {xs : List ℕ} {n : ℕ} {w : List ℕ} (a
   used-inside report = rw (length-standing-points ps p (a .points-fit)) (corners-inside xs n (a .fit) p (a .inside))
 
   -- pass 6 that is off
-  pub off6 : RoomGives (optional false pass6) (more isolated (p - p)) p (2 * p) ps p xs n w ps p xs w
-  unfolding optional
-  off6 =
-      record {
-        inside = a .inside;
-        fewer = omega arith;
-        state = λ report. ap (stateOf ps p xs n) (none-dropped isolated p report);
-        only-points = only-none 0 (3 * p) ps;
-        only-faces = only-none 0 (3 * n) xs;
-        only-work = only-none 0 (2 * p) w;
-      }
+  pub off6 : PassGives (optional false pass6) (more isolated 0) 0 p (2 * p) ps p xs n w ps xs w (unchanged p n)
+  off6 = off pass6 (more isolated 0) 0 p (2 * p) (more-none isolated) (omega arith) (omega arith) (a .inside)
 
   module _ {ps′ : List Float} {xs′ w′ : List ℕ} {r : ℕ} (g : UnusedGives ps p xs n w ps′ xs′ w′ r) where
     -- pass 6 that is on: what stands is what the rule leaves
-    pub on6 : RoomGives (optional true pass6) (more isolated (p - r)) p (2 * p) ps p xs n w ps′ r xs′ w′
+    pub on6 : PassGives (optional true pass6) (more isolated (p - r)) 0 p (2 * p) ps p xs n w ps′ xs′ w′ (record { points = r; faces = n; dropped = p - r; found = 0; changed = 0 })
     unfolding optional
     on6 =
         let lp = g .only-points .long in
         let lf = g .only-faces .long in
         record {
+          state = λ report. unused-state report a g;
           inside =
               inside-by ps′ r xs′ n _ (pass6 (stateOf ps p xs n [])) (omega (arith, g .number, a .points-fit)) (omega (arith, a .fit)) (unused-state [] a g) (pass6-inside (stateOf ps p xs n []) (used-inside []));
-          fewer = omega (arith, g .number);
-          state = λ report. unused-state report a g;
+          not-below = omega arith;
+          not-above = omega (arith, g .number);
+          fewer = omega arith;
+          few-dropped = omega arith;
+          few-found = omega arith;
+          few-changed = omega arith;
           only-points = g .only-points;
           only-faces = g .only-faces;
           only-work = g .only-work;

@@ -1,89 +1,124 @@
--- One pass by its option, where marked faces leave: the state of the rooms is what the rule makes of it. Assumes nothing.
-use mathlib.Core.Path.{_≡_, sym, ap, _∙_}
+-- One pass by its option: it is off and nothing changes, or marked faces leave. Assumes nothing.
+use mathlib.Core.Path.{_≡_, sym, ap, subst, _∙_}
 use mathlib.Core.Bool.{Bool, true, false}
 use mathlib.Core.List.{List}
-use Prim.Native.Nat.{ℕ, _*_, _-_, _/_}
+use Prim.Native.Nat.{ℕ, _+_, _*_, _-_, _/_, _%_, _^_, _≤_, _<_}
 use native.Mathlib.Omega.{arith}
-use lib.ListN.{length, take}
-use lib.Seq.{take-all}
+use borrow.Author.Tests.{eq-eqb, ne-eqb}
+use lib.ListN.{length, getD, take}
+use lib.Seq.{length-take-le}
 use lib.Ieee.{Float}
 use Rattle.rows.specs.Region.{Only}
-use Rattle.rows.proofs.Regions.{only-none, only-both, only-more}
+use Rattle.rows.proofs.Regions.{only-none, only-both}
 use Rattle.leaving.specs.Pass.{PassAsks, LeaveGives}
-use Rattle.rules.specs.Lists.{count, leave}
 use Rattle.leaving.proofs.Standing.{dropped-state, stands-left}
-use Rattle.splitting.proofs.Reports.{more-none}
 use Rattle.rules.specs.Mesh.{pointsOf}
-use Rattle.rules.specs.Repair.{optional}
+use Rattle.rules.specs.Repair.{optional, bit}
 use Rattle.rules.specs.Rooms.{work-room}
 use Rattle.rules.specs.State.{State, Count, more, dropped}
-use Rattle.passes.specs.Mended.{stateOf, StepGives}
+use Rattle.split_bowtie_vertices.specs.Splits.{SplitAsks}
+use Rattle.passes.specs.declared.Passed.{Passed}
+use Rattle.passes.specs.Passing.{stateOf, PassGives}
+
+-- an option that is set
+pub bit-set : (k o : ℕ) → o / 2 ^ k % 2 ≡ 1 → bit k o ≡ true
+unfolding bit
+bit-set k o e = eq-eqb (o / 2 ^ k % 2) 1 e
+
+-- an option that is not
+pub bit-clear : (k o : ℕ) → (o / 2 ^ k % 2 ≡ 1 → ⊥) → bit k o ≡ false
+unfolding bit
+bit-clear k o e = ne-eqb (o / 2 ^ k % 2) 1 e
+
+-- bit 0 is the lowest digit
+pub lowest : (o : ℕ) → o / 2 ^ 0 % 2 ≡ o % 2
+lowest o = omega arith
+
+-- what a pass leaves that changes nothing
+abbrev pub unchanged : ℕ → ℕ → Passed
+unchanged p n = record { points = p; faces = n; dropped = 0; found = 0; changed = 0 }
 
 -- a pass that is off changes nothing
-pub step-off :
-    {ps : List Float} {xs : List ℕ} {n : ℕ} {w : List ℕ} (pass : State → State) (after : List ℕ → List ℕ)
-    → ((report : List ℕ) → after report ≡ report) → PassAsks ps xs n w → StepGives (optional false pass) after ps xs n w xs w n
+pub off :
+    {ps : List Float} {p : ℕ} {xs : List ℕ} {n : ℕ} {w : List ℕ} (pass : State → State) (after : List ℕ → List ℕ) (least most scratch : ℕ)
+    → ((report : List ℕ) → after report ≡ report) → least ≤ p → p ≤ most → ((i : ℕ) → i < 3 * n → getD xs i 0 < p)
+    → PassGives (optional false pass) after least most scratch ps p xs n w ps xs w (unchanged p n)
 unfolding optional
-step-off {ps} {xs} {n} {w} pass after same a =
+off {ps} {p} {xs} {n} {w} pass after least most scratch same l m inside =
     record {
-      stands = a .stand;
+      state = λ report. ap (stateOf ps p xs n) (same report);
+      inside = inside;
+      not-below = l;
+      not-above = m;
       fewer = omega arith;
-      state = λ report. ap (stateOf ps (length ps / 3) xs n) (same report);
+      few-dropped = omega arith;
+      few-found = omega arith;
+      few-changed = omega arith;
+      only-points = only-none 0 (3 * most) ps;
       only-faces = only-none 0 (3 * n) xs;
-      only-work = only-none 0 (work-room (length ps / 3) n) w;
+      only-work = only-none 0 scratch w;
     }
 
--- a count of none dropped
-pub none-dropped : (c : Count) (n : ℕ) (report : List ℕ) → more c (n - n) report ≡ report
-none-dropped c n report = let e : n - n ≡ 0 = omega arith in rw e (more-none c report)
+-- the points in front of their room, as a list of their own
+pub as-long : {ps : List Float} {p : ℕ} {xs : List ℕ} {n : ℕ} {w : List ℕ} → SplitAsks ps p xs n w → length (take (3 * p) ps) ≡ 3 * p
+as-long {ps} {p} a = length-take-le (3 * p) ps (omega (arith, a .room))
+
+-- there are p of them
+pub as-many : {ps : List Float} {p : ℕ} {xs : List ℕ} {n : ℕ} {w : List ℕ} → SplitAsks ps p xs n w → length (take (3 * p) ps) / 3 ≡ p
+as-many a = omega (arith, as-long a)
+
+-- a pass may read them
+pub reads : {ps : List Float} {p : ℕ} {xs : List ℕ} {n : ℕ} {w : List ℕ} → SplitAsks ps p xs n w → PassAsks (take (3 * p) ps) xs n w
+reads a = record { whole = omega (arith, as-long a); stand = rw (as-many a) (a .stand) }
+
+-- what is said of a pass that read them
+pub read :
+    {ps : List Float} {p : ℕ} {xs : List ℕ} {n : ℕ} {w : List ℕ} {marked : ℕ → Bool} {xs₁ w₁ xs′ w′ : List ℕ} {r : ℕ}
+    → SplitAsks ps p xs n w → LeaveGives marked (length (take (3 * p) ps) / 3) xs₁ n w₁ xs′ w′ r → LeaveGives marked p xs₁ n w₁ xs′ w′ r
+read {n = n} {marked = marked} {xs₁ = xs₁} {w₁ = w₁} {xs′ = xs′} {w′ = w′} {r = r} a g =
+    subst (λ (P : ℕ). LeaveGives marked P xs₁ n w₁ xs′ w′ r) (as-many a) g
 
 -- a pass in which marked faces leave, after `first` was added to the report
 pub step-left :
-    {ps : List Float} {xs : List ℕ} {n : ℕ} {w xs′ w′ : List ℕ} {r : ℕ} (pass : State → State) (c : Count) (first : List ℕ → List ℕ) (marked : ℕ → Bool)
-    → ((report : List ℕ) → pass (stateOf ps (length ps / 3) xs n report) ≡ dropped c marked (stateOf ps (length ps / 3) xs n (first report)))
-    → PassAsks ps xs n w → LeaveGives marked (length ps / 3) xs n w xs′ w′ r
-    → StepGives (optional true pass) (λ report. more c (n - r) (first report)) ps xs n w xs′ w′ r
+    {ps : List Float} {p : ℕ} {xs : List ℕ} {n : ℕ} {w xs′ w′ : List ℕ} {r : ℕ} (pass : State → State) (c : Count) (first : List ℕ → List ℕ) (marked : ℕ → Bool) (found changed : ℕ)
+    → found ≤ p + 3 * n → changed ≤ p + 3 * n
+    → ((report : List ℕ) → pass (stateOf ps p xs n report) ≡ dropped c marked (stateOf ps p xs n (first report)))
+    → SplitAsks ps p xs n w → LeaveGives marked p xs n w xs′ w′ r
+    → PassGives (optional true pass) (λ report. more c (n - r) (first report)) p p (work-room p n) ps p xs n w ps xs′ w′ (record { points = p; faces = r; dropped = n - r; found = found; changed = changed })
 unfolding optional
-step-left {ps} {xs} {n} {w} {xs′} {w′} {r} pass c first marked e a g =
+step-left {ps} {p} {xs} {n} {w} {xs′} {w′} {r} pass c first marked found changed few-found few-changed e a g =
     record {
-      stands = stands-left (a .stand) g;
+      state = λ report. dropped-state c (pointsOf (take (3 * p) ps)) (first report) (a .stand .fit) g ∙ sym (e report);
+      inside = stands-left (a .stand) g .inside;
+      not-below = omega arith;
+      not-above = omega arith;
       fewer = omega (arith, g .number);
-      state = λ report. dropped-state c (pointsOf (take (3 * (length ps / 3)) ps)) (first report) (a .stand .fit) g ∙ sym (e report);
+      few-dropped = omega (arith, g .number);
+      few-found = few-found;
+      few-changed = few-changed;
+      only-points = only-none 0 (3 * p) ps;
       only-faces = g .only-faces;
       only-work = g .only-work;
     }
 
 -- a pass whose faces were changed in their room before: what is said of the changed ones is said of those before
 pub step-after :
-    {pass : State → State} {after : List ℕ → List ℕ} {ps : List Float} {xs : List ℕ} {n : ℕ} {w xs₁ w₁ xs′ w′ : List ℕ} {r : ℕ} (pass₁ : State → State) (first : List ℕ → List ℕ)
-    → Only 0 (3 * n) xs xs₁ → Only 0 (work-room (length ps / 3) n) w w₁
-    → ((report : List ℕ) → pass (stateOf ps (length ps / 3) xs₁ n (first report)) ≡ pass₁ (stateOf ps (length ps / 3) xs n report))
-    → StepGives pass after ps xs₁ n w₁ xs′ w′ r
-    → StepGives pass₁ (λ report. after (first report)) ps xs n w xs′ w′ r
+    {pass : State → State} {after : List ℕ → List ℕ} {least most scratch : ℕ} {ps : List Float} {p : ℕ} {xs : List ℕ} {n : ℕ} {w xs₁ w₁ : List ℕ} {ps′ : List Float} {xs′ w′ : List ℕ} {r : Passed} (pass₁ : State → State) (first : List ℕ → List ℕ)
+    → Only 0 (3 * n) xs xs₁ → Only 0 scratch w w₁
+    → ((report : List ℕ) → pass (stateOf ps p xs₁ n (first report)) ≡ pass₁ (stateOf ps p xs n report))
+    → PassGives pass after least most scratch ps p xs₁ n w₁ ps′ xs′ w′ r
+    → PassGives pass₁ (λ report. after (first report)) least most scratch ps p xs n w ps′ xs′ w′ r
 step-after pass₁ first of ow e g =
     record {
-      stands = g .stands;
-      fewer = g .fewer;
       state = λ report. g .state (first report) ∙ e report;
+      inside = g .inside;
+      not-below = g .not-below;
+      not-above = g .not-above;
+      fewer = g .fewer;
+      few-dropped = g .few-dropped;
+      few-found = g .few-found;
+      few-changed = g .few-changed;
+      only-points = g .only-points;
       only-faces = only-both of (g .only-faces);
       only-work = only-both ow (g .only-work);
     }
-
--- one pass after the other
-pub step-then :
-    {pass pass₁ : State → State} {after after₁ : List ℕ → List ℕ} {ps : List Float} {xs : List ℕ} {n : ℕ} {w xs₁ w₁ xs′ w′ : List ℕ} {m r : ℕ}
-    → StepGives pass after ps xs n w xs₁ w₁ m → StepGives pass₁ after₁ ps xs₁ m w₁ xs′ w′ r
-    → StepGives (λ t. pass₁ (pass t)) (λ report. after₁ (after report)) ps xs n w xs′ w′ r
-unfolding work-room
-step-then {pass} {pass₁} {after} {after₁} {ps} g h =
-    record {
-      stands = h .stands;
-      fewer = omega (arith, g .fewer, h .fewer);
-      state = λ report. h .state (after report) ∙ ap pass₁ (g .state report);
-      only-faces = only-both (g .only-faces) (only-more (omega arith) (omega (arith, g .fewer)) (h .only-faces));
-      only-work = only-both (g .only-work) (only-more (omega arith) (omega (arith, g .fewer)) (h .only-work));
-    }
-
--- all the points stand at the front
-pub all-points : {ps : List Float} {xs : List ℕ} {n : ℕ} {w : List ℕ} → PassAsks ps xs n w → take (3 * (length ps / 3)) ps ≡ ps
-all-points {ps} a = take-all (3 * (length ps / 3)) ps (omega (arith, a .whole))

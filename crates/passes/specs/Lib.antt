@@ -1,1 +1,1 @@
-pub mod Mended
+pub mod Passing

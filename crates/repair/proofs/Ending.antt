@@ -22,9 +22,9 @@ use Rattle.refuse.specs.declared.Verdict.{Verdict}
 use Rattle.refuse.specs.declared.Verdict.the-variants.{Fine, Refused}
 use Rattle.refuse.proofs.Calls.{repair-is}
 use Rattle.refuse.proofs.Accept.{repair-accepted}
-use Rattle.passes.specs.declared.Mended.{Mended}
+use Rattle.lending.specs.declared.Mended.{Mended}
 use Rattle.repair.specs.declared.Repaired.the-variants as repaired-as
-use Rattle.passes.specs.Mended.{MendAsks, MendGives}
+use Rattle.lending.specs.Mended.{MendAsks, MendGives}
 use Rattle.repair.specs.Answers.{roomsOf, outcomeOf, ReportAsks, ReportGives}
 use Rattle.passes.proofs.Rooms.{length-standing-points}
 

@@ -7,8 +7,8 @@ use lib.Ieee.{Float}
 use Rattle.rows.specs.Region.{Only}
 use Rattle.rules.specs.Calls.{RepairRooms}
 use Rattle.rules.specs.Rooms.{Answer, accepted, refused, Outcome}
-use Rattle.passes.specs.Mended.{countsOf, CountsBelow}
-use Rattle.passes.specs.declared.Report.{Report}
+use Rattle.lending.specs.Reports.{countsOf, CountsBelow}
+use Rattle.lending.specs.declared.Report.{Report}
 use Rattle.repair.specs.declared.Repaired.{Repaired}
 use Rattle.repair.specs.declared.Repaired.the-variants.{Done, Refused}
 

@@ -1,5 +1,5 @@
 // The repair call of document 01: its refusals, the six passes by option bits, and every room after it.
-use passes::Report;
+use lending::Report;
 use refuse::RepairRooms;
 use refuse::Verdict;
 ghost use mathlib.Core.Path.{_≡_};
@@ -56,7 +56,7 @@ pub fn repair(
     }
     let p = points.len() / 3;
     let n = faces.len() / 3;
-    let mended = passes::mend(points, faces, s, options, points_room, faces_room, work);
+    let mended = lending::mend(points, faces, s, options, points_room, faces_room, work);
     let a = 3 * mended.points;
     let b = 3 * mended.faces;
     let counts = mended.report;

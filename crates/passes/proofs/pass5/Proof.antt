@@ -1,5 +1,5 @@
 -- `passes::pass5` meets its contract: the pass is on and vertices are split, or it is off. Assumes nothing.
-use native.Mathlib.Omega.{arith}
+use Rattle.passes.proofs.Steps.{bit-set, bit-clear}
 use Rattle.passes.proofs.Rooms.{on5, off5}
 use borrow.Author.Needs.{needs}
 use Rattle.passes.proofs.pass5.Statement.{statement}
@@ -7,6 +7,9 @@ use Rattle.passes.proofs.pass5.Tie as tie
 
 split-bowtie-vertices-requires : tie.Need-split-bowtie-vertices-requires
 split-bowtie-vertices-requires c κs = search needs
+
+sub-t19 : tie.Need-sub-t19
+sub-t19 c = c .before .before .before .before .before .before .split-bowtie-vertices .ensures .least
 
 same-length : tie.Need-same-length
 same-length c = search needs
@@ -18,16 +21,17 @@ same-length-3 : tie.Need-same-length-3
 same-length-3 c = search needs
 
 returns : tie.Need-returns
-returns c = (rw (c .before .before .before .before .before .before .before .before .before .before .if1 .taken) (on5 (c .before .before .before .before .before .before .before .before .before .before .before .before .before .before .pre) (c .before .before .before .before .before .before .split-bowtie-vertices .ensures)), (c .before .before .before .before .before .before .split-bowtie-vertices .ensures .least, c .before .before .before .before .before .before .split-bowtie-vertices .ensures .few))
+returns c = rw (bit-set 3 (c .before .before .before .before .before .before .before .before .before .before .before .before .before .before .args .options) (c .before .before .before .before .before .before .before .before .before .before .if1 .taken)) (on5 (c .before .before .before .before .before .before .before .before .before .before .before .before .before .before .pre) (c .before .before .before .before .before .before .split-bowtie-vertices .ensures))
 
 returns-2 : tie.Need-returns-2
-returns-2 c = (rw (c .if1 .left) (off5 (c .before .before .before .before .pre)), (omega arith, omega arith))
+returns-2 c = rw (bit-clear 3 (c .before .before .before .before .args .options) (c .if1 .left)) (off5 (c .before .before .before .before .pre))
 
 pub pass5-spec : {M : Type 1} → statement M
 pass5-spec =
     tie.close
     (tie.spec
     split-bowtie-vertices-requires
+    sub-t19
     same-length
     same-length-2
     same-length-3

@@ -1,0 +1,82 @@
+-- The whole repair on the lists in the rooms: the given lists are copied, and the six passes follow. Assumes nothing.
+use mathlib.Core.Path.{_≡_, sym, ap, ap₂, _∙_}
+use mathlib.Core.List.{List}
+use Prim.Native.Nat.{ℕ, _*_, _/_}
+use native.Mathlib.Omega.{arith}
+use lib.ListN.{length, getD, take, replicate}
+use lib.Seq.{getD-take, take-all}
+use lib.Ieee.{Float, nan}
+use Rattle.rows.specs.Region.{RowAsks, RowGives}
+use Rattle.rows.proofs.Regions.{only-both, only-more}
+use Rattle.rules.specs.Mesh.{pointsOf, facesOf}
+use Rattle.rules.specs.Repair.{passes, repaired}
+use Rattle.rules.specs.State.{start}
+use Rattle.split_bowtie_vertices.specs.Splits.{SplitAsks}
+use Rattle.passes.specs.Passing.{stateOf}
+use Rattle.lending.specs.declared.Mended.{Mended}
+use Rattle.lending.specs.Mended.{TurnsGive, MendAsks, MendGives}
+
+module _ {points : List Float} {faces : List ℕ} {ps : List Float} {xs w : List ℕ} (a : MendAsks points faces ps xs w) where
+  -- how many points and faces are given
+  abbrev P : ℕ
+  P = length points / 3
+
+  abbrev n : ℕ
+  n = length faces / 3
+
+  -- the given lists are whole
+  whole-points : take (3 * P) points ≡ points
+  whole-points = take-all (3 * P) points (omega (arith, a .input .whole))
+
+  -- and so are the faces
+  whole-faces : take (3 * n) faces ≡ faces
+  whole-faces = take-all (3 * n) faces (omega (arith, a .input .faces-fine .whole))
+
+  -- both lists may be copied
+  pub copies-points : RowAsks points (3 * P) ps
+  copies-points = record { from-fit = omega arith; to-fit = omega (arith, a .room-points) }
+
+  -- the faces too
+  pub copies-faces : RowAsks faces (3 * n) xs
+  copies-faces = record { from-fit = omega arith; to-fit = omega (arith, a .room-faces) }
+
+  module _ {ps₁ : List Float} (cp : RowGives nan points (3 * P) ps ps₁) {xs₁ : List ℕ} (cf : RowGives 0 faces (3 * n) xs xs₁) where
+    -- the copies stand as the passes ask
+    pub turns-ask : SplitAsks ps₁ P xs₁ n w
+    turns-ask =
+        let f = a .input .faces-fine in
+        let lp = cp .only .long in
+        let lf = cf .only .long in
+        record {
+          stand = record {
+            points = f .points;
+            few = f .few;
+            fit = omega (arith, a .room-faces);
+            inside =
+                λ i h.
+                let e : getD xs₁ i 0 ≡ getD faces i 0 = sym (getD-take (3 * n) xs₁ i 0 h) ∙ ap (λ l. getD l i 0) (cf .copied) ∙ getD-take (3 * n) faces i 0 h in
+                rw e (f .below i (omega arith));
+            room = a .room-work;
+          };
+          room = omega (arith, a .room-points);
+        }
+
+    -- at first the state is the rules' start
+    first-state : stateOf ps₁ P xs₁ n (replicate 10 0) ≡ start (pointsOf points) (facesOf faces)
+    unfolding start
+    first-state =
+        ap₂ (λ qs fs. record { points = pointsOf qs; faces = facesOf fs; report = replicate 10 0 }) (cp .copied ∙ whole-points) (cf .copied ∙ whole-faces)
+
+    -- the whole repair stands in the rooms
+    pub mend-done : {s : Float} {o : ℕ} {ps₂ : List Float} {xs₂ w₂ : List ℕ} {m : Mended} → TurnsGive s o ps₁ P xs₁ n w ps₂ xs₂ w₂ m → MendGives points faces s o ps xs w ps₂ xs₂ w₂ m
+    unfolding repaired
+    mend-done {s = s} {o = o} g =
+        record {
+          state = g .state ∙ ap (passes s o) first-state;
+          few = g .few;
+          points-fit = g .points-fit;
+          faces-fit = g .faces-fit;
+          only-points = only-both (only-more (omega arith) (omega arith) (cp .only)) (g .only-points);
+          only-faces = only-both (cf .only) (g .only-faces);
+          only-work = g .only-work;
+        }

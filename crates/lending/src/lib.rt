@@ -1,0 +1,268 @@
+// One report lent to each of the six passes in turn and added to there, and the whole repair on the lists in the rooms.
+use passes::Passed;
+ghost use mathlib.Core.Path.{_≡_};
+ghost use mathlib.Core.List.{List};
+ghost use Prim.Native.Nat.{ℕ, _+_, _-_, _*_, _^_};
+ghost use Rattle.rules.specs.Repair.{optional, bit};
+ghost use Rattle.rules.specs.Rooms.{work-room};
+ghost use Rattle.rules.specs.State.{more, degenerates, duplicates, crowded-edges, dropped-at-edges, dropped-for-direction, vertices-split, points-added, reoriented, components, isolated};
+ghost use Rattle.rules.specs.Pass1 as one;
+ghost use Rattle.rules.specs.Pass2 as two;
+ghost use Rattle.rules.specs.Pass3 as three;
+ghost use Rattle.rules.specs.Pass4 as four;
+ghost use Rattle.rules.specs.Pass5 as five;
+ghost use Rattle.rules.specs.Pass6 as six;
+ghost use Rattle.split_bowtie_vertices.specs.Splits.{SplitAsks};
+ghost use Rattle.drop_isolated_vertices.specs.Unused.{UnusedAsks};
+ghost use Rattle.passes.specs.Passing.{PassGives};
+ghost use Rattle.lending.specs.Reports.{empty, added, CountsBelow};
+ghost use Rattle.lending.specs.Mended.{TurnsGive, MendAsks, MendGives};
+
+// An account of everything that a repair changed.
+pub struct Report {
+    pub degenerate_removed: usize,
+    pub duplicate_faces_removed: usize,
+    pub nonmanifold_edges: usize,
+    pub faces_dropped_at_nonmanifold: usize,
+    pub faces_dropped_for_orientation: usize,
+    pub bowtie_vertices_split: usize,
+    pub points_added_by_splitting: usize,
+    pub faces_reoriented: usize,
+    pub nonorientable_components: usize,
+    pub isolated_vertices_removed: usize,
+}
+
+// What a repair leaves: how many points and faces, and its report.
+pub struct Mended {
+    pub points: usize,
+    pub faces: usize,
+    pub report: Report,
+}
+
+// The report before the first pass.
+fn new() -> Report
+    ensures { λ r. ⌜ r ≡ empty ⌝ }
+{
+    Report {
+        degenerate_removed: 0,
+        duplicate_faces_removed: 0,
+        nonmanifold_edges: 0,
+        faces_dropped_at_nonmanifold: 0,
+        faces_dropped_for_orientation: 0,
+        bowtie_vertices_split: 0,
+        points_added_by_splitting: 0,
+        faces_reoriented: 0,
+        nonorientable_components: 0,
+        isolated_vertices_removed: 0,
+    }
+}
+
+// Pass 1: degenerate faces leave, and are added to the lent report.
+pub fn drop_degenerate(
+    report: &mut Report,
+    options: u32,
+    s: f64,
+    points: &mut [f64],
+    p: usize,
+    faces: &mut [u32],
+    n: usize,
+    work: &mut [u32],
+) -> Passed
+    requires { ⌜ SplitAsks (now points) p (now faces) n (now work) × CountsBelow (2 ^ 64 - (p + 3 * n)) (now report) ⌝ }
+    ensures { λ r. ⌜ PassGives (optional (bit 0 options) (one.pass1 s)) (more degenerates (r .dropped)) p p (work-room p n) (now (points .entry)) p (now (faces .entry)) n (now (work .entry)) (now (points .exit)) (now (faces .exit)) (now (work .exit)) r × (now (report .exit) ≡ added degenerates (r .dropped) (now (report .entry))) ⌝ }
+{
+    let r = passes::pass1(options, s, points, p, faces, n, work);
+    report.degenerate_removed = report.degenerate_removed + r.dropped;
+    r
+}
+
+// Pass 2: of faces with the same three sorted corners the first stays; the others are added to the lent report.
+pub fn drop_duplicate_faces(
+    report: &mut Report,
+    options: u32,
+    s: f64,
+    points: &mut [f64],
+    p: usize,
+    faces: &mut [u32],
+    n: usize,
+    work: &mut [u32],
+) -> Passed
+    requires { ⌜ SplitAsks (now points) p (now faces) n (now work) × CountsBelow (2 ^ 64 - (p + 3 * n)) (now report) ⌝ }
+    ensures { λ r. ⌜ PassGives (optional (bit 1 options) two.pass2) (more duplicates (r .dropped)) p p (work-room p n) (now (points .entry)) p (now (faces .entry)) n (now (work .entry)) (now (points .exit)) (now (faces .exit)) (now (work .exit)) r × (now (report .exit) ≡ added duplicates (r .dropped) (now (report .entry))) ⌝ }
+{
+    let r = passes::pass2(options, s, points, p, faces, n, work);
+    report.duplicate_faces_removed = report.duplicate_faces_removed + r.dropped;
+    r
+}
+
+// Pass 3: edges with more than two entries, and the faces that leave there, are added to the lent report.
+pub fn resolve_nonmanifold_edges(
+    report: &mut Report,
+    options: u32,
+    s: f64,
+    points: &mut [f64],
+    p: usize,
+    faces: &mut [u32],
+    n: usize,
+    work: &mut [u32],
+) -> Passed
+    requires { ⌜ SplitAsks (now points) p (now faces) n (now work) × CountsBelow (2 ^ 64 - (p + 3 * n)) (now report) ⌝ }
+    ensures { λ r. ⌜ PassGives (optional (bit 2 options) three.pass3) (λ (report : List ℕ). more dropped-at-edges (r .dropped) (more crowded-edges (r .found) report)) p p (work-room p n) (now (points .entry)) p (now (faces .entry)) n (now (work .entry)) (now (points .exit)) (now (faces .exit)) (now (work .exit)) r × (now (report .exit) ≡ added dropped-at-edges (r .dropped) (added crowded-edges (r .found) (now (report .entry)))) ⌝ }
+{
+    let r = passes::pass3(options, s, points, p, faces, n, work);
+    report.nonmanifold_edges = report.nonmanifold_edges + r.found;
+    report.faces_dropped_at_nonmanifold = report.faces_dropped_at_nonmanifold + r.dropped;
+    r
+}
+
+// Pass 4: faces turned, components in which neighbours cannot agree, and faces that leave at directed edges are added to the lent report.
+pub fn orient_consistently(
+    report: &mut Report,
+    options: u32,
+    s: f64,
+    points: &mut [f64],
+    p: usize,
+    faces: &mut [u32],
+    n: usize,
+    work: &mut [u32],
+) -> Passed
+    requires { ⌜ SplitAsks (now points) p (now faces) n (now work) × CountsBelow (2 ^ 64 - (p + 3 * n)) (now report) ⌝ }
+    ensures { λ r. ⌜ PassGives (optional (bit 4 options) four.pass4) (λ (report : List ℕ). more dropped-for-direction (r .dropped) (more components (r .found) (more reoriented (r .changed) report))) p p (work-room p n) (now (points .entry)) p (now (faces .entry)) n (now (work .entry)) (now (points .exit)) (now (faces .exit)) (now (work .exit)) r × (now (report .exit) ≡ added dropped-for-direction (r .dropped) (added components (r .found) (added reoriented (r .changed) (now (report .entry))))) ⌝ }
+{
+    let r = passes::pass4(options, s, points, p, faces, n, work);
+    report.faces_reoriented = report.faces_reoriented + r.changed;
+    report.nonorientable_components = report.nonorientable_components + r.found;
+    report.faces_dropped_for_orientation = report.faces_dropped_for_orientation + r.dropped;
+    r
+}
+
+// Pass 5: vertices that are split, and the points that they add, are added to the lent report.
+pub fn split_bowtie_vertices(
+    report: &mut Report,
+    options: u32,
+    s: f64,
+    points: &mut [f64],
+    p: usize,
+    faces: &mut [u32],
+    n: usize,
+    work: &mut [u32],
+) -> Passed
+    requires { ⌜ SplitAsks (now points) p (now faces) n (now work) × CountsBelow (2 ^ 64 - (p + 3 * n)) (now report) ⌝ }
+    ensures { λ r. ⌜ PassGives (optional (bit 3 options) five.pass5) (λ (report : List ℕ). more points-added (r .changed) (more vertices-split (r .found) report)) p (p + 3 * n) (work-room p n) (now (points .entry)) p (now (faces .entry)) n (now (work .entry)) (now (points .exit)) (now (faces .exit)) (now (work .exit)) r × (now (report .exit) ≡ added points-added (r .changed) (added vertices-split (r .found) (now (report .entry)))) ⌝ }
+{
+    let r = passes::pass5(options, s, points, p, faces, n, work);
+    report.bowtie_vertices_split = report.bowtie_vertices_split + r.found;
+    report.points_added_by_splitting = report.points_added_by_splitting + r.changed;
+    r
+}
+
+// Pass 6: unused points leave, and are added to the lent report.
+pub fn drop_isolated_vertices(
+    report: &mut Report,
+    options: u32,
+    s: f64,
+    points: &mut [f64],
+    p: usize,
+    faces: &mut [u32],
+    n: usize,
+    work: &mut [u32],
+) -> Passed
+    requires { ⌜ UnusedAsks (now points) p (now faces) n (now work) × CountsBelow (2 ^ 64 - (p + 3 * n)) (now report) ⌝ }
+    ensures { λ r. ⌜ PassGives (optional (bit 5 options) six.pass6) (more isolated (r .dropped)) 0 p (2 * p) (now (points .entry)) p (now (faces .entry)) n (now (work .entry)) (now (points .exit)) (now (faces .exit)) (now (work .exit)) r × (now (report .exit) ≡ added isolated (r .dropped) (now (report .entry))) ⌝ }
+{
+    let r = passes::pass6(options, s, points, p, faces, n, work);
+    report.isolated_vertices_removed = report.isolated_vertices_removed + r.dropped;
+    r
+}
+
+// The six passes in their order, on p points and n faces at the front of their rooms. One report is lent to each in turn.
+fn in_turn(
+    options: u32,
+    s: f64,
+    points: &mut [f64],
+    p: usize,
+    faces: &mut [u32],
+    n: usize,
+    work: &mut [u32],
+) -> Mended
+    requires { ⌜ SplitAsks (now points) p (now faces) n (now work) ⌝ }
+    ensures { λ r. ⌜ TurnsGive s options (now (points .entry)) p (now (faces .entry)) n (now (work .entry)) (now (points .exit)) (now (faces .exit)) (now (work .exit)) r ⌝ }
+{
+    let mut report = new();
+    let a = drop_degenerate(&mut report, options, s, points, p, faces, n, work);
+    let b = drop_duplicate_faces(
+        &mut report,
+        options,
+        s,
+        points,
+        a.points,
+        faces,
+        a.faces,
+        work,
+    );
+    let c = resolve_nonmanifold_edges(
+        &mut report,
+        options,
+        s,
+        points,
+        b.points,
+        faces,
+        b.faces,
+        work,
+    );
+    let d = orient_consistently(
+        &mut report,
+        options,
+        s,
+        points,
+        c.points,
+        faces,
+        c.faces,
+        work,
+    );
+    let e = split_bowtie_vertices(
+        &mut report,
+        options,
+        s,
+        points,
+        d.points,
+        faces,
+        d.faces,
+        work,
+    );
+    let f = drop_isolated_vertices(
+        &mut report,
+        options,
+        s,
+        points,
+        e.points,
+        faces,
+        e.faces,
+        work,
+    );
+    Mended {
+        points: f.points,
+        faces: f.faces,
+        report,
+    }
+}
+
+// The six passes, each by its option, from the given lists to those at the front of the rooms.
+pub fn mend(
+    points: &[f64],
+    faces: &[u32],
+    s: f64,
+    options: u32,
+    out_points: &mut [f64],
+    out_faces: &mut [u32],
+    work: &mut [u32],
+) -> Mended
+    requires { ⌜ MendAsks (now points) (now faces) (now «out_points») (now «out_faces») (now work) ⌝ }
+    ensures { λ r. ⌜ MendGives (now (points .entry)) (now (faces .entry)) s options (now («out_points» .entry)) (now («out_faces» .entry)) (now (work .entry)) (now («out_points» .exit)) (now («out_faces» .exit)) (now (work .exit)) r ⌝ }
+{
+    let p = points.len() / 3;
+    let n = faces.len() / 3;
+    rows::copy_points(points, out_points, 3 * p);
+    rows::copy_row(faces, out_faces, 3 * n);
+    in_turn(options, s, out_points, p, out_faces, n, work)
+}

@@ -2,12 +2,11 @@
 use mathlib.Core.Path.{_≡_, refl, sym, ap, _∙_}
 use mathlib.Core.Bool.{true, false}
 use mathlib.Core.List.{List}
-use Prim.Native.Nat.{ℕ, zero, suc, _+_, _-_, _*_, _/_, _≤_, _<_, _^_, min}
-use native.Mathlib.Nat.{zero-add, add-zero, mul-le-mul-right}
+use Prim.Native.Nat.{ℕ, zero, suc, _+_, _-_, _*_, _/_, _≤_, _<_, min}
+use native.Mathlib.Nat.{add-zero, mul-le-mul-right}
 use native.Mathlib.Omega.{arith}
 use native.Mathlib.Decide.{decLt}
 use lib.ListN.{length, getD}
-use Rattle.refuse.specs.Accepted.{Faces}
 use Rattle.rows.specs.Region.{Filled}
 use Rattle.halves.specs.declared.State.{State}
 use Rattle.halves.specs.Split.{tally}
@@ -16,10 +15,10 @@ use Rattle.halves.specs.Gather.{halves, RoundsAsks, RoundsGives}
 use Rattle.halves.proofs.Tallies.{tally-some}
 use Rattle.halves.proofs.Halves.{bound}
 use Rattle.halves.proofs.Walking.{small-more, crowd-told}
-use Rattle.windows.specs.Around.{around, cornersOf, startOf, sumTo, PassAsks, PassGives, FitAsks, FitGives}
-use Rattle.windows.specs.Window.{beginOf, manyOf, RunsAsks, RunsCount, RunsGives, WindowAsks, Counted, AdvanceAsks, AdvanceGives, AllAsks}
+use Rattle.windows.specs.Around.{around, cornersOf, startOf, sumTo, PassAsks, PassGives, FitGives}
+use Rattle.windows.specs.Window.{beginOf, manyOf, RunsAsks, RunsGives, WindowAsks, Counted, AdvanceAsks, AdvanceGives, AllAsks}
 use Rattle.windows.proofs.Arounds.{around-none, around-halves}
-use Rattle.windows.proofs.Places.{start-zero, start-suc, start-more, start-before, sum-start, begin-zero, begin-suc}
+use Rattle.windows.proofs.Places.{start-zero, start-suc, start-before, sum-start, begin-zero, begin-suc}
 
 -- ---- the runs of a window
 
@@ -131,10 +130,6 @@ module _ {f : List ℕ} {P v width : ℕ} {t : State} {ends b counts entries : L
 -- ---- the next window
 
 module _ {f : List ℕ} {P v width : ℕ} {t : State} {ends counts entries : List ℕ} (p : AdvanceAsks f P v width t ends counts entries) where
-  -- where its runs begin
-  pub fit-asks : {limit room : ℕ} → limit ≡ min width (P - v) → room ≤ 1073741824 → FitAsks counts limit room ends
-  fit-asks e h = record { counts-fit = omega (arith, p .counts-fit); ends-fit = omega (arith, p .ends-fit); small = omega arith }
-
   module _ {limit room w : ℕ} {ends′ counts′ : List ℕ} (limit-is : limit ≡ min width (P - v)) (room-small : room ≤ 1073741824) (ends-long : length ends′ ≡ length ends) (counts-long : length counts′ ≡ length counts)
       (g : FitGives counts limit room (length entries) ends′ w) (z : Filled 0 width 0 counts′) where
     -- they do

@@ -1,14 +1,13 @@
 -- The loop that finds where runs begin, and the copy of a run. Assumes nothing.
-use mathlib.Core.Path.{_≡_, refl, sym, ap, _∙_}
+use mathlib.Core.Path.{_≡_, refl, sym, _∙_}
 use mathlib.Core.List.{List}
-use Prim.Native.Nat.{ℕ, zero, suc, _+_, _-_, _*_, _≤_, _<_, _^_}
+use Prim.Native.Nat.{ℕ, suc, _+_, _-_, _*_, _≤_, _<_, _^_}
 use native.Mathlib.Numerals.{add-one}
 use native.Mathlib.Omega.{arith}
 use native.Mathlib.Decide.{ℕ-discrete}
 use lib.ListN.{length, getD, set, length-set}
 use lib.Seq.{getD-set-same, getD-set-other}
-use Rattle.windows.specs.Around.{sumTo, FitAsks, FitGives}
-use Rattle.windows.specs.Pick.{WidenAsks, WidenGives}
+use Rattle.windows.specs.Around.{sumTo, FitAsks, FitGives, WidenAsks, WidenGives}
 use Rattle.windows.proofs.Places.{sum-zero, sum-suc}
 
 -- the first k runs fit, and s is where the next begins

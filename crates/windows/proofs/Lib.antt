@@ -6,8 +6,6 @@ pub mod Places
 pub mod Passing
 -- `Fitting` has the loop that finds where runs begin, and the copy of a run.
 pub mod Fitting
--- `Picking` has the keys of a short run, one after the other.
-pub mod Picking
 -- `Running` has the loop over the runs of a window.
 pub mod Running
 -- `Advancing` has what a window makes of what is known.

@@ -8,7 +8,7 @@ use native.Mathlib.Decide.{ℕ-discrete}
 use lib.ListN.{length, getD, set, length-set}
 use lib.Seq.{getD-set-same, getD-set-other}
 use Rattle.halves.specs.Split.{hit, tally}
-use Rattle.halves.proofs.Tallies.{hit-same, hit-other, tally-zero, tally-suc, tally-eq, tally-add}
+use Rattle.halves.proofs.Tallies.{hit-other, tally-zero, tally-suc, tally-eq, tally-add}
 use Rattle.windows.specs.Around.{cornersOf, startOf, sumTo}
 use Rattle.windows.specs.Window.{Counted, beginOf}
 use Rattle.windows.proofs.Arounds.{hit-is}

@@ -1,7 +1,7 @@
 -- The loop over the runs of a window: each is copied with the part of its vertex added, and its keys are taken in. Assumes nothing.
 use mathlib.Core.Path.{_≡_, refl, sym, ap, _∙_}
 use mathlib.Core.List.{List}
-use Prim.Native.Nat.{ℕ, zero, suc, _+_, _-_, _*_, _/_, _≤_, _<_, _^_}
+use Prim.Native.Nat.{ℕ, zero, suc, _+_, _-_, _*_, _/_, _≤_, _<_}
 use native.Mathlib.Nat.{zero-add, mul-le-mul-right, add-zero}
 use native.Mathlib.Numerals.{add-one}
 use native.Mathlib.Omega.{arith}
@@ -13,8 +13,8 @@ use Rattle.halves.specs.Scan.{Told, Small}
 use Rattle.halves.specs.Walk.{Counts, WalkAsks, WalkGives}
 use Rattle.halves.proofs.Tallies.{hit-other, tally-zero, tally-suc}
 use Rattle.halves.proofs.Halves.{bound}
-use Rattle.windows.specs.Pick.{PickAsks, WidenAsks, WidenGives}
-use Rattle.windows.specs.Window.{beginOf, manyOf, RunsAsks, RunsCount, RunsGives}
+use Rattle.windows.specs.Around.{WidenAsks, WidenGives}
+use Rattle.windows.specs.Window.{beginOf, RunsAsks, RunsCount, RunsGives}
 use Rattle.windows.proofs.Arounds.{hit-is}
 use Rattle.windows.proofs.Places.{tally-next, begin-zero, begin-suc}
 
@@ -124,7 +124,7 @@ module _ {P v w : ℕ} {ends b entries₀ : List ℕ} {t : State} (p : RunsAsks 
         below-at i l = rw (q .s-is) (p .below j h i (rw (q .s-is) at l))
 
         -- its keys are those of the vertex
-        walk-asks : WalkAsks entries₁ 0 (getD ends j 0 - s) from (from + P) P r
+        pub walk-asks : WalkAsks entries₁ 0 (getD ends j 0 - s) from (from + P) P r
         walk-asks =
             record {
               fit = omega (arith, turn);
@@ -137,10 +137,6 @@ module _ {P v w : ℕ} {ends b entries₀ : List ℕ} {t : State} (p : RunsAsks 
               };
               small = q .small;
             }
-
-        -- and small
-        pub run-asks : PickAsks entries₁ (getD ends j 0 - s) from (from + P) P r
-        run-asks = record { walk = walk-asks; small = omega (arith, turn) }
 
         -- it has them all
         counts : (c : ℕ → ℕ) → RunsCount c P v w ends b → Counts c entries₁ 0 (getD ends j 0 - s) from (from + P)

@@ -2,7 +2,7 @@
 use mathlib.Core.Path.{_≡_}
 use mathlib.Core.Bool.{cond}
 use mathlib.Core.List.{List}
-use Prim.Native.Nat.{ℕ, zero, suc, _+_, _-_, _*_, _/_, _%_, _≤_, _<_, _^_}
+use Prim.Native.Nat.{ℕ, zero, suc, _+_, _-_, _*_, _%_, _≤_, _<_, _^_}
 use lib.Dec.{eqb}
 use lib.ListN.{length, getD, set}
 use Rattle.refuse.specs.Accepted.{Faces}
@@ -84,3 +84,13 @@ pub record FitGives (counts : List ℕ) (limit room most : ℕ) (ends′ : List 
   pub starts : (j : ℕ) → j < r → getD ends′ j 0 ≡ sumTo counts j
   pub fits : sumTo counts r ≤ room
   pub each : (j : ℕ) → j < r → 2 * getD counts j 0 ≤ most
+
+-- a run, and room for it
+pub record WidenAsks (b : List ℕ) (s n base : ℕ) (to : List ℕ) : Type 0 where
+  pub run : s + n ≤ length b
+  pub room : n ≤ length to
+  pub small : base + 2 ^ 32 ≤ 2 ^ 64
+
+-- each entry is `base` more
+pub record WidenGives (b : List ℕ) (s n base : ℕ) (to′ : List ℕ) : Type 0 where
+  pub each : (i : ℕ) → i < n → getD to′ i 0 ≡ base + getD b (s + i) 0

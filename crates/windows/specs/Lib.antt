@@ -1,3 +1,2 @@
 pub mod Around
-pub mod Pick
 pub mod Window

@@ -10,12 +10,9 @@ ghost use mathlib.Core.Path.{_≡_};
 ghost use Prim.Native.Nat.{_+_, _*_, _≤_, _<_, _^_, min};
 ghost use lib.ListN.{length};
 ghost use Rattle.refuse.specs.Accepted.{Faces};
-ghost use Rattle.halves.specs.Split.{tally};
-ghost use Rattle.halves.specs.Walk.{WalkGives};
 ghost use Rattle.halves.specs.Gather.{halves, RoundsGives};
 ghost use Rattle.halves.specs.Right.{Right};
-ghost use Rattle.windows.specs.Around.{previousOf, CornerAsks, CornerGives, PassAsks, PassGives, FitAsks, FitGives};
-ghost use Rattle.windows.specs.Pick.{LeastAsks, LeastGives, PickAsks, WidenAsks, WidenGives};
+ghost use Rattle.windows.specs.Around.{previousOf, CornerAsks, CornerGives, PassAsks, PassGives, FitAsks, FitGives, WidenAsks, WidenGives};
 ghost use Rattle.windows.specs.Window.{RunsAsks, RunsGives, WindowAsks, AdvanceAsks, AdvanceGives, AllAsks};
 
 // The place of the corner before the one at place i of the flat list, in its face.
@@ -108,75 +105,6 @@ fn widen(buffer: &[u32], s: usize, n: usize, base: u64, to: &mut [u64])
     }
 }
 
-// The least key from k on among the first n entries, or `to`, which no key reaches.
-fn least(entries: &[u64], n: usize, k: u64, to: u64) -> u64
-    requires { ⌜ LeastAsks (now entries) n k to ⌝ }
-    ensures { λ r. ⌜ LeastGives (now (entries .entry)) n k to r ⌝ }
-{
-    let mut l = to;
-    let mut i = 0;
-    while i < n {
-        let x = entries[i] / 2;
-        if k <= x {
-            if x < l {
-                l = x;
-            }
-        }
-        i += 1;
-    }
-    l
-}
-
-// How many of the first n entries are x.
-fn hits(entries: &[u64], n: usize, x: u64) -> usize
-    requires { ⌜ n ≤ length (now entries) ⌝ }
-    ensures { λ r. ⌜ r ≡ tally (now (entries .entry)) 0 n x ⌝ }
-{
-    let mut c: usize = 0;
-    let mut i = 0;
-    while i < n {
-        if entries[i] == x {
-            c += 1;
-        }
-        i += 1;
-    }
-    c
-}
-
-// Takes in all keys from `from` up to `to`, whose half entries are the first n: key after key, for few.
-fn pick(entries: &[u64], n: usize, from: u64, to: u64, points: u64, t: State) -> State
-    requires { ⌜ PickAsks (now entries) n from to points t ⌝ }
-    ensures { λ r. ⌜ WalkGives (now (entries .entry)) 0 n from to points t (now (entries .entry)) r ⌝ }
-{
-    let mut k = from;
-    let mut s = t;
-    while k < to {
-        if s.crowd {
-            return s;
-        }
-        let l = least(entries, n, k, to);
-        if l == to {
-            return s;
-        }
-        let b = hits(entries, n, 2 * l) as u64;
-        let e = hits(entries, n, 2 * l + 1) as u64;
-        s = halves::visit(points, l, b + e, b, s);
-        k = l + 1;
-    }
-    s
-}
-
-// The same for any number of half entries.
-fn run(entries: &mut [u64], n: usize, from: u64, to: u64, points: u64, t: State) -> State
-    requires { ⌜ PickAsks (now entries) n from to points t ⌝ }
-    ensures { λ r. ⌜ WalkGives (now (entries .entry)) 0 n from to points t (now (entries .exit)) r ⌝ }
-{
-    if n <= 64 {
-        return pick(entries, n, from, to, points, t);
-    }
-    halves::walk(entries, 0, n, from, to, points, t)
-}
-
 // Takes in all keys of the w vertices from v on, whose runs stand in the buffer, vertex after vertex.
 fn runs(
     points: u64,
@@ -198,7 +126,7 @@ fn runs(
         let e = ends[j] as usize;
         let to = from + points;
         widen(buffer, s, e - s, 2 * from, entries);
-        r = run(entries, e - s, from, to, points, r);
+        r = halves::walk(entries, 0, e - s, from, to, points, r);
         from = to;
         s = e;
         j += 1;

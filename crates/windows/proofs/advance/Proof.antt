@@ -1,6 +1,6 @@
 -- `windows::advance` meets its contract. Assumes nothing.
 use native.Mathlib.Omega.{arith}
-use Rattle.windows.proofs.Advancing.{fit-asks, one-asks, some-asks, some-in}
+use Rattle.windows.proofs.Advancing.{one-asks, some-asks, some-in}
 use borrow.Author.Needs.{needs}
 use Rattle.windows.proofs.advance.Statement.{statement}
 use Rattle.windows.proofs.advance.Tie as tie

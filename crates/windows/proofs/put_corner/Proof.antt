@@ -65,14 +65,14 @@ mul-buffer-3 c =
     let at-previous = c .before in
     let at-next = at-previous .before .before in
     let start = at-next .before .before .before .before .before in
-    omega (arith, previous-there (start .pre) (at-previous .previous .ensures))
+    omega (arith, next-there (start .pre) (at-next .next .ensures), previous-there (start .pre) (at-previous .previous .ensures))
 
 add-buffer : tie.Need-add-buffer
 add-buffer c =
     let at-previous = c .before in
     let at-next = at-previous .before .before in
     let start = at-next .before .before .before .before .before in
-    omega (arith, previous-there (start .pre) (at-previous .previous .ensures))
+    omega (arith, next-there (start .pre) (at-next .next .ensures), previous-there (start .pre) (at-previous .previous .ensures))
 
 add-buffer-2 : tie.Need-add-buffer-2
 add-buffer-2 c = search needs

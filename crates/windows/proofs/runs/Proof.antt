@@ -1,7 +1,7 @@
 -- `windows::runs` meets its contract. The invariant: the runs before run j are taken in. Assumes nothing.
 use Prim.Native.Nat.{_-_}
 use native.Mathlib.Omega.{arith}
-use Rattle.windows.proofs.Running.{Ran, begin, first-bound, turn, widen-asks, run-asks, again, done}
+use Rattle.windows.proofs.Running.{Ran, begin, first-bound, turn, widen-asks, walk-asks, again, done}
 use Rattle.windows.proofs.runs.Statement.{statement}
 use Rattle.windows.proofs.runs.Tie as tie
 
@@ -38,11 +38,11 @@ mul-widen c = omega (arith, turn (c .before .before .before .before .before .bef
 widen-requires : tie.Need-widen-requires Inv-loop μ-loop
 widen-requires c κs = widen-asks (c .before .before .before .before .before .before .before .pre) (c .before .before .before .loop .inv) (c .before .before .loop-test .taken)
 
-sub-run : tie.Need-sub-run Inv-loop μ-loop
-sub-run c = omega (arith, turn (c .before .before .before .before .before .before .before .before .before .before .before .pre) (c .before .before .before .before .before .before .before .loop .inv) (c .before .before .before .before .before .before .loop-test .taken))
+sub-walk : tie.Need-sub-walk Inv-loop μ-loop
+sub-walk c = omega (arith, turn (c .before .before .before .before .before .before .before .before .before .before .before .pre) (c .before .before .before .before .before .before .before .loop .inv) (c .before .before .before .before .before .before .loop-test .taken))
 
-run-requires : tie.Need-run-requires Inv-loop μ-loop
-run-requires c κs = run-asks (c .before .before .before .before .before .before .before .before .before .before .before .pre) (c .before .before .before .before .before .before .before .loop .inv) (c .before .before .before .before .before .before .loop-test .taken) (c .before .before .before .widen .ensures) (c .before .before .before .widen .kept .1 .1 .1 .1 .0)
+walk-requires : tie.Need-walk-requires Inv-loop μ-loop
+walk-requires c κs = walk-asks (c .before .before .before .before .before .before .before .before .before .before .before .pre) (c .before .before .before .before .before .before .before .loop .inv) (c .before .before .before .before .before .before .loop-test .taken) (c .before .before .before .widen .ensures) (c .before .before .before .widen .kept .1 .1 .1 .1 .0)
 
 add-j : tie.Need-add-j Inv-loop μ-loop
 add-j c = omega (arith, turn (c .before .before .before .before .before .before .before .before .before .before .before .before .before .before .pre) (c .before .before .before .before .before .before .before .before .before .before .loop .inv) (c .before .before .before .before .before .before .before .before .before .loop-test .taken))
@@ -51,7 +51,7 @@ loop-less : tie.Need-loop-less Inv-loop μ-loop
 loop-less c = let h = c .before .before .before .before .before .before .before .before .before .loop-test .taken in omega arith
 
 loop-again : tie.Need-loop-again Inv-loop μ-loop
-loop-again c = again (c .before .before .before .before .before .before .before .before .before .before .before .before .before .before .pre) (c .before .before .before .before .before .before .before .before .before .before .loop .inv) (c .before .before .before .before .before .before .before .before .before .loop-test .taken) (c .before .before .before .before .before .before .widen .ensures) (c .before .before .before .before .before .before .widen .kept .1 .1 .1 .1 .0) (c .before .before .run .ensures)
+loop-again c = again (c .before .before .before .before .before .before .before .before .before .before .before .before .before .before .pre) (c .before .before .before .before .before .before .before .before .before .before .loop .inv) (c .before .before .before .before .before .before .before .before .before .loop-test .taken) (c .before .before .before .before .before .before .widen .ensures) (c .before .before .before .before .before .before .widen .kept .1 .1 .1 .1 .0) (c .before .before .walk .ensures)
 
 same-length : tie.Need-same-length Inv-loop μ-loop
 same-length c = c .before .loop .inv .long
@@ -74,8 +74,8 @@ runs-spec =
     sub-widen
     mul-widen
     widen-requires
-    sub-run
-    run-requires
+    sub-walk
+    walk-requires
     add-j
     loop-less
     loop-again

@@ -2,22 +2,21 @@
 use mathlib.Core.Path.{_≡_, refl, sym, ap, _∙_}
 use mathlib.Core.Bool.{Bool, false}
 use mathlib.Core.List.{List, [], _∷_}
-use Prim.Native.Nat.{ℕ, suc, _+_, _*_, _/_}
+use Prim.Native.Nat.{ℕ, suc, _*_, _/_}
 use native.Mathlib.Omega.{arith}
 use lib.ListN.{length, take}
 use lib.Seq.{length-take-le}
 use lib.Ieee.{Float}
 use Rattle.rows.proofs.Regions.{only-none}
-use Rattle.rules.specs.Lists.{below, count, any, has, leave}
+use Rattle.rules.specs.Lists.{any, has, leave}
 use Rattle.rules.specs.Mesh.{Point, Face, pointsOf, flatFaces}
-use Rattle.rules.specs.Steps.{Step, walkers, directed, qualityOf}
+use Rattle.rules.specs.Steps.{walkers, directed, qualityOf}
 use Rattle.rules.specs.Rank.{best, without}
 use Rattle.rules.specs.Pass4.{marked4}
 use Rattle.rules.specs.Rooms.{work-room}
-use Rattle.rules.proofs.Flat.{flat-faces}
 use Rattle.rules.proofs.Lists.{leave-length}
 use Rattle.rules.proofs.Once.{Once}
-use Rattle.rules.proofs.Flat.{length-faces-take}
+use Rattle.rules.proofs.Flat.{flat-faces, length-faces-take}
 use Rattle.leaving.specs.Pass.{standing, PassAsks, LeaveGives}
 use Rattle.resolve_directed_collisions.proofs.Colliding.{none-after}
 

@@ -1,16 +1,15 @@
 -- Where each directed edge is used at most once, neighbours agree: pass 4's walk changes no face and marks no component, and no face leaves then.
 -- Assumes nothing.
-use mathlib.Core.Path.{_≡_, refl, sym, ap, subst, _∙_}
+use mathlib.Core.Path.{_≡_, refl, sym, subst, _∙_}
 use mathlib.Core.Bool.{Bool, true, false, not, _||_, cond, or-false}
-use mathlib.Core.List.{List, [], _∷_, map, List·Memᴰ, List·Memᴰ·head, Memᴰ·map}
-use Prim.Native.Nat.{ℕ, zero, suc, _≤_, _<_}
+use mathlib.Core.List.{List, [], _∷_, map, List·Memᴰ, Memᴰ·map}
+use Prim.Native.Nat.{ℕ, zero, suc, _<_}
 use lib.Dec.{T, eqb, T-not}
 use borrow.Author.Tests.{eq-eqb}
-use lib.Ieee.Bits.{is-true}
-use lib.ListN.{length, getD, set, replicate}
+use lib.ListN.{length, getD, replicate}
 use Rattle.rules.specs.Lists.{below, filter, any, through}
-use Rattle.rules.specs.Mesh.{Face, face, exchanged}
-use Rattle.rules.specs.Steps.{Step, steps, opposite, edge, same, walks, Entry, entries, users, walkers}
+use Rattle.rules.specs.Mesh.{Face, face}
+use Rattle.rules.specs.Steps.{Step, steps, opposite, edge, same, walks, entries, users, walkers}
 use Rattle.rules.specs.Pass4.{Walk, Oriented, remark, visit, meet, across, popped, run, started, component, closed, begin, oriented}
 use Rattle.rules.proofs.Rising.{All, all-imp, all-filter, below-all}
 use Rattle.rules.proofs.Members.{any-elim, any-intro, all-members, in-all, mem-below, mem-each, mem-filter}

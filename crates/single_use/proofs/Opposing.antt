@@ -3,20 +3,20 @@
 use mathlib.Core.Path.{_≡_, refl, sym, ap, _∙_}
 use mathlib.Core.Bool.{Bool, true, false, cond}
 use mathlib.Core.List.{List}
-use Prim.Native.Nat.{ℕ, suc, _+_, _*_, _/_, _%_, _≤_, _<_}
+use Prim.Native.Nat.{ℕ, _+_, _*_, _/_, _%_, _≤_, _<_}
 use native.Mathlib.Numerals.{add-one}
 use native.Mathlib.Omega.{arith}
 use native.Mathlib.Decide.{decLe, decLt}
-use lib.Dec.{T, eqb}
+use lib.Dec.{eqb}
 use lib.ListN.{length, getD, length-map}
 use Rattle.rows.specs.Region.{part}
 use Rattle.rows.proofs.Regions.{getD-part}
 use Rattle.rules.specs.Lists.{below, count, filter, first}
 use Rattle.rules.specs.Mesh.{Face, facesOf}
-use Rattle.rules.specs.Steps.{Step, opposite, edge, same, walkers}
+use Rattle.rules.specs.Steps.{opposite, edge, same}
 use Rattle.rules.proofs.Counting.{count-onto}
 use Rattle.rules.proofs.Once.{Once, same-is}
-use Rattle.table.specs.Entries.{next, stepAt, under, idsOf, keysOf, startOf}
+use Rattle.table.specs.Entries.{stepAt, idsOf, keysOf}
 use Rattle.table.specs.Table.{runOf}
 use Rattle.table.proofs.Ids.{three-faces, step-flat, walkers-ids}
 use Rattle.table.proofs.Places.{placed, run-in, run-number}

@@ -1,5 +1,5 @@
 -- The entries of faces under their states: an exchanged face makes its steps the opposite way and from the last to the first. Assumes nothing.
-use mathlib.Core.Path.{_≡_, refl, sym, ap, _∙_}
+use mathlib.Core.Path.{_≡_, refl, ap}
 use mathlib.Core.Bool.{Bool, true, false, cond}
 use mathlib.Core.List.{List, [], _∷_}
 use Prim.Native.Nat.{ℕ, zero, suc, _*_, _/_, _<_}
@@ -8,7 +8,7 @@ use lib.Dec.{eqb}
 use lib.ListN.{length, getD}
 use Rattle.rules.specs.Lists.{each}
 use Rattle.rules.specs.Mesh.{Face, exchanged}
-use Rattle.rules.specs.Steps.{Step, opposite}
+use Rattle.rules.specs.Steps.{opposite}
 use Rattle.table.specs.Entries.{stepAt}
 use Rattle.orienting.specs.Reaching.{turn, turnedBy}
 

@@ -1,7 +1,8 @@
-// Writes what each function of `rows` makes of small rows. The file stdout says what it must be.
+// Writes what each function of `rows` and of `sorting` makes of small rows. The file stdout says what it must be.
 ghost use mathlib.Core.Path.{_≡_};
 ghost use lib.ListN.{length};
 ghost use Rattle.sorting.specs.Sort.{TriplesAsks};
+ghost use Rattle.sorting.specs.Order.{OrderTriplesAsks};
 
 // A u32 as a u64.
 fn wide(x: u32) -> u64 {
@@ -52,6 +53,7 @@ fn show_points(row: &[f64]) {
 fn keyed() -> [u32; 39]
     ensures { λ r. ⌜ 39 ≡ length r ⌝ }
     ensures { λ r. ⌜ TriplesAsks r 0 6 6 12 18 24 3 27 33 ⌝ }
+    ensures { λ r. ⌜ OrderTriplesAsks r 6 6 12 18 24 3 27 33 ⌝ }
 {
     [
         0,
@@ -117,6 +119,19 @@ fn by_three() {
     show(&work);
 }
 
+// The numbers 0 .. 5 by one key, by two and by three: the same orders, with no row of ids.
+fn by_number() {
+    let mut one = keyed();
+    sorting::order(&mut one, 6, 18, 24, 3, 33);
+    show(&one);
+    let mut two = keyed();
+    sorting::order_pairs(&mut two, 6, 12, 18, 24, 3, 33, 27);
+    show(&two);
+    let mut three = keyed();
+    sorting::order_triples(&mut three, 6, 6, 12, 18, 24, 3, 27, 33);
+    show(&three);
+}
+
 // A region filled, one cleared, and one copied.
 fn regions(work: &mut [u32])
     requires { ⌜ length (now work) ≡ 12 ⌝ }
@@ -160,6 +175,7 @@ fn main() {
     by_one();
     by_two();
     by_three();
+    by_number();
     let mut row = [1, 2, 3, 4, 5, 6, 7, 8, 9, 10, 11, 12];
     regions(&mut row);
     let mut corners = [1, 2, 3, 4, 5, 6, 7, 8, 9, 10, 11, 12, 13];

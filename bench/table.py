@@ -139,8 +139,9 @@ def targets():
     share = lambda call, shape, size, way: ratio(figure(call, shape, size, way), figure(call, shape, size, "rust"))
     for call in [call for call in ("repair", "edges") if call in only]:
         for shape in [shape for shape in ("scan", "numbered") if shape in names]:
-            target(rows, f"{call}, {names[shape]}, {top:,} faces, rooms reused: a tenth of the Rust's time", 0.1, [(share(call, shape, top, "reused"), "")])
-        for way in ("reused", "dirty"):
+            for way in WAYS:
+                target(rows, f"{call}, {names[shape]}, {top:,} faces, rooms {way}: a tenth of the Rust's time", 0.1, [(share(call, shape, top, way), "")])
+        for way in WAYS:
             every = [(share(call, shape, size, way), f"{what}, {size:,}") for shape, what in shapes for size in sizes]
             target(rows, f"{call}, rooms {way}, any mesh: half of the Rust's time", 0.5, every)
     for call, way in [(call, way) for call in ("repair", "edges", "check") for way in ("reused", "dirty") if call in only]:

@@ -2,8 +2,7 @@
  *
  * What the caller owes: each pointer is good for the number of entries that follows it, and aligned; NULL is allowed where that number is 0; rooms
  * do not overlap each other or the input, and nobody else writes to either during the call. Float arithmetic is as a C program starts: no other
- * rounding, no flushing to zero, no traps. Stack: 1.25 MB for shell_edges where the work room is not zero, else 64 kB. Nothing else is asked: every
- * call checks its own input.
+ * rounding, no flushing to zero, no traps. Nothing else is asked: every call checks its own input.
  *
  * What the caller gets: `number` 0 and `place` 0 if the call is accepted, and then how many entries stand in each answer room. Each answer stands at
  * the front of its room, the rest of the stated room is zero, the work room is all zero up to what is stated, and entries beyond are unchanged.

@@ -1,6 +1,4 @@
 -- `table::put` meets its contract: the keys are the ends of what the step is under. Assumes nothing.
-use mathlib.Core.Path.{_≡_, ap₂}
-use lib.ListN.{set}
 use borrow.Author.Needs.{needs}
 use Rattle.table.proofs.put.Statement.{statement}
 use Rattle.table.proofs.put.Tie as tie

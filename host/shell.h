@@ -26,13 +26,14 @@ enum {
     SHELL_BAD_LENGTH = 1,   /* points or faces no multiple of 3, or not ten counts: 0 points, 1 faces, 2 counts */
     SHELL_TOO_LARGE = 2,    /* points, faces or patches: 0, 1, 2 */
     SHELL_BAD_SETTING = 3,  /* threshold or options: 0, 1 */
-    SHELL_BAD_POINT = 4,    /* a coordinate outside its domain: the first such point */
+    SHELL_BAD_POINT = 4,    /* a coordinate outside its domain: the first such point; of an STL file, the first such corner, counted through the file */
     SHELL_BAD_CORNER = 5,   /* a corner that is no point: the first such face */
     SHELL_SHORT_ROOM = 6,   /* a room too short: its place in the call's list of rooms, from 0 */
     SHELL_CROWDED_EDGE = 7, /* an edge that occurs more than twice: the position of the first such among the sorted unique edges */
     SHELL_BAD_BOUNDARY = 8, /* the boundary is not simple: the lowest vertex at fault */
     SHELL_BAD_LABEL = 9,    /* a label that is neither SHELL_NO_PATCH nor a patch: the first such face */
-    SHELL_LABEL_COUNT = 10  /* as many labels as faces are wanted: 0 */
+    SHELL_LABEL_COUNT = 10, /* as many labels as faces are wanted: 0 */
+    SHELL_BAD_FILE = 12     /* an STL file whose length is not 84 plus 50 times its count: 0 */
 };
 
 /* The largest sizes, and the label of a face in no patch. */
@@ -61,6 +62,9 @@ enum {
 #define SHELL_FLAGS_ROOM(C) ((size_t)(C))
 #define SHELL_PATCHES_WORK_ROOM(C) (4 * (size_t)(C))
 #define SHELL_LINE_ROOM ((size_t)512)
+#define SHELL_STL_POINTS_ROOM(F) (9 * (size_t)(F))
+#define SHELL_STL_FACES_ROOM(F) (3 * (size_t)(F))
+#define SHELL_STL_WORK_ROOM(F) (64 * (size_t)(F) + 64)
 
 /* The options of a repair, added up. The passes run in this order, except that orient_consistently runs before split_bowtie_vertices. */
 enum {
@@ -145,6 +149,18 @@ typedef struct {
 } ShellLine;
 
 ShellLine shell_line(const uint32_t *counts, size_t counts_len, uint8_t *line, size_t line_len);
+
+/* Reads a binary STL file in memory: 80 header bytes, a little-endian u32 facet count F, then 50 bytes a facet. Corners equal as numbers become one point,
+ * numbered by first appearance, with the bits that appear first; coordinates are widened exactly, normals and attribute bytes skipped. `points` and
+ * `faces` are entries, 3 a point and 3 a facet. Rooms, in this order: SHELL_STL_POINTS_ROOM(F), SHELL_STL_FACES_ROOM(F), SHELL_STL_WORK_ROOM(F). F stands
+ * at byte 80 of the file. */
+typedef struct {
+    uint32_t number, place;
+    uint64_t points, faces;
+} ShellStl;
+
+ShellStl shell_read_stl(const uint8_t *file, size_t file_len, double *points, size_t points_len, uint32_t *faces, size_t faces_len, uint32_t *work,
+                        size_t work_len);
 
 #ifdef __cplusplus
 }

@@ -2,3 +2,4 @@ pub mod Places
 pub mod Outcomes
 pub mod Patching
 pub mod PatchPlaces
+pub mod StlPlaces

@@ -20,19 +20,19 @@ module _ {R : Type 0} {rooms : R} {o : Outcome R} where
   given-refused count e = record { answer = rw length-replicate (ap (λ q. told count (q .answer)) e); after = ap (λ q. q .rooms) e }
 
 -- the place of an answer, if it is a refusal, is below 2^32
-unfoldable Placed : Answer → Type 0
+unfoldable pub Placed : Answer → Type 0
 Placed (accepted entries) = Unit {0}
 Placed (refused n p) = p < 2 ^ 32
 
 module _ {R : Type 0} where
   -- an outcome's place is that of the check
-  outcome-near : (c : Check) (given : R) (entries : List ℕ) (after : R) → Near c → Placed (outcome c given entries after .answer)
+  pub outcome-near : (c : Check) (given : R) (entries : List ℕ) (after : R) → Near c → Placed (outcome c given entries after .answer)
   unfolding outcome Near Placed
   outcome-near ok given entries after h = tt
   outcome-near (no n p) given entries after h = h
 
   -- a refusal that is such an outcome has a place below 2^32
-  refused-near : {o : Outcome R} {n p : ℕ} {rooms : R} → Placed (o .answer) → record { answer = refused n p; rooms = rooms } ≡ o → p < 2 ^ 32
+  pub refused-near : {o : Outcome R} {n p : ℕ} {rooms : R} → Placed (o .answer) → record { answer = refused n p; rooms = rooms } ≡ o → p < 2 ^ 32
   unfolding Placed
   refused-near h e = subst (λ q. Placed (q .answer)) (sym e) h
 

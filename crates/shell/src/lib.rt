@@ -1,4 +1,4 @@
-// The calls of document 01 for C. Each gives back a number and a place (0 and 0 if it is accepted), and how many entries stand in each answer room.
+// The calls of document 01 and of the requests after it for C. Each gives back a number and a place (0 and 0 if it is accepted), and how many entries stand in each answer room.
 use edge_check::Checked;
 use edges::Found;
 use line::Lined;
@@ -6,13 +6,16 @@ use patches::Filter;
 use patches::Limit;
 use patches::Patched;
 use patches::Whole;
+use read_stl::Read;
 use repair::Repaired;
 ghost use mathlib.Core.Path.{_≡_};
 ghost use mathlib.Core.List.{[], _∷_};
 ghost use Prim.Native.Nat.{_<_};
 ghost use Rattle.rules.specs.Calls as rule;
+ghost use Rattle.rules.specs.Stl as rule-stl;
 ghost use Rattle.repair.specs.Answers as repaired;
 ghost use Rattle.edges.specs.Answers as edged;
+ghost use Rattle.read_stl.specs.Answers as stl;
 ghost use Rattle.patches.specs.Answers.{limitOf, wholeOf, roomsOf};
 ghost use Rattle.shell.specs.Told.{Given};
 ghost use Rattle.shell.specs.Mask.{set, held, clip, clipped, masked};
@@ -273,5 +276,43 @@ pub extern "C" fn shell_patches(
             numbers: 0,
             flags: 0,
         },
+    }
+}
+
+// What reading a binary STL file gives back: how many entries stand in the rooms of points and faces.
+#[repr(C)]
+pub struct ShellStl {
+    pub number: u32,
+    pub place: u32,
+    pub points: u64,
+    pub faces: u64,
+}
+
+// Reads a binary STL file in memory into points and triples.
+#[no_mangle]
+pub extern "C" fn shell_read_stl(
+    file: &[u8],
+    points: &mut [f64],
+    faces: &mut [u32],
+    work: &mut [u32],
+) -> ShellStl
+    ensures { λ r. ⌜ Given (r .number) (r .place) (r .points ∷ r .faces ∷ []) (stl.roomsOf (now (points .exit)) (now (faces .exit)) (now (work .exit))) (rule-stl.read-stl (now (file .entry)) (stl.roomsOf (now (points .entry)) (now (faces .entry)) (now (work .entry)))) ⌝ }
+{
+    match read_stl::read_stl(file, points, faces, work) {
+        Read::Done(a, b) => ShellStl {
+            number: 0,
+            place: 0,
+            points: a as u64,
+            faces: b as u64,
+        },
+        Read::Refused(number, at) => {
+            let place = at as u32;
+            ShellStl {
+                number: number,
+                place: place,
+                points: 0,
+                faces: 0,
+            }
+        }
     }
 }

@@ -1,4 +1,4 @@
--- The five calls: of two answers whose statement names one outcome of the rules, the answers are one, and every room is the same list. Assumes nothing.
+-- The calls: of two answers whose statement names one outcome of the rules, the answers are one, and every room is the same list. Assumes nothing.
 use mathlib.Core.Path.{_≡_, refl, sym, ap, _∙_}
 use mathlib.Core.Bool.{Bool, true, false}
 use mathlib.Core.List.{List, [], _∷_}
@@ -23,6 +23,10 @@ use Rattle.patches.specs.Answers as patches
 use Rattle.line.specs.declared.Lined.{Lined}
 use Rattle.line.specs.declared.Lined.the-variants as lined
 use Rattle.line.specs.Put as line
+use Rattle.rules.specs.Stl.{StlRooms}
+use Rattle.read_stl.specs.declared.Read.{Read}
+use Rattle.read_stl.specs.declared.Read.the-variants as read
+use Rattle.read_stl.specs.Answers as stl
 
 -- ---- repair
 
@@ -125,4 +129,28 @@ one-line {o} {r} {r′} {room} {room′} p q =
     let e = p ∙ sym q in (
       sym (lined-is r room) ∙ ap (λ t. lined-of (t .answer)) e ∙ lined-is r′ room′,
       sym (lined-room r room) ∙ ap (λ t. t .rooms) e ∙ lined-room r′ room′,
+    )
+
+-- ---- reading an STL file
+
+-- what reading gave back, from the rules' answer
+abbrev read-of : Answer → Read
+read-of (accepted ns) = read.Done (getD ns 0 0) (getD ns 1 0)
+read-of (refused n p) = read.Refused n p
+
+-- nothing of it is lost
+read-is : (r : Read) → read-of (stl.answerOf r) ≡ r
+read-is (read.Done a b) = refl
+read-is (read.Refused n p) = refl
+
+-- reading has one answer, and leaves one list in each room
+pub one-read :
+    {o : Outcome StlRooms} {r r′ : Read} {points points′ : List Float} {faces faces′ work work′ : List ℕ} → stl.outcomeOf r points faces work ≡ o
+    → stl.outcomeOf r′ points′ faces′ work′ ≡ o → (r ≡ r′) × (points ≡ points′) × (faces ≡ faces′) × (work ≡ work′)
+one-read {o} {r} {r′} p q =
+    let e = p ∙ sym q in (
+      sym (read-is r) ∙ ap (λ t. read-of (t .answer)) e ∙ read-is r′,
+      ap (λ t. t .rooms .points) e,
+      ap (λ t. t .rooms .faces) e,
+      ap (λ t. t .rooms .work) e,
     )

@@ -9,6 +9,7 @@ use Rattle.rules.specs.Rooms.{Answer, accepted, refused, outcome}
 use Rattle.rules.specs.Edges.{no7, no8}
 use Rattle.rules.specs.Patches.{Filter}
 use Rattle.rules.specs.Calls.{RepairRooms, EdgesRooms, PatchesRooms, repair, repair-check, find-edges, edges-check, check, check-check, find-patches, patches-check, write-line, line-check}
+use Rattle.rules.specs.Stl.{StlRooms, read-stl, stl-check, no12}
 
 -- a refusal's number is not 0
 abbrev pub Numbered : Answer → Type 0
@@ -86,3 +87,10 @@ patches-numbered points faces labels C by r =
 pub line-numbered : (counts room : List ℕ) → Numbered (write-line counts room .answer)
 unfolding write-line line-check no1-counts no6 at-first
 line-numbered counts room = answers (line-check counts room) _ _ _ (decides _ (by-number 1 2 _ (omega arith), (by-number 6 _ _ (omega arith), tt)))
+
+-- reading an STL file
+pub read-numbered : (file : List ℕ) (r : StlRooms) → Numbered (read-stl file r .answer)
+unfolding read-stl stl-check no12 no4 no6 at-first
+read-numbered file r =
+    answers (stl-check file r) _ _ _
+    (decides _ (by-number 12 0 _ (omega arith), (two 1 _ _, (by-number 4 _ _ (omega arith), (by-number 6 _ _ (omega arith), tt)))))

@@ -10,6 +10,7 @@ use Rattle.shell.specs.declared.ShellEdges.{ShellEdges}
 use Rattle.shell.specs.declared.ShellCheck.{ShellCheck}
 use Rattle.shell.specs.declared.ShellPatches.{ShellPatches}
 use Rattle.shell.specs.declared.ShellLine.{ShellLine}
+use Rattle.shell.specs.declared.ShellStl.{ShellStl}
 
 -- a number, a place and as many entries, told of one outcome, are the same, and so are the rooms
 pub one-given :
@@ -55,3 +56,10 @@ module _ {R : Type 0} {o : Outcome R} {rooms rooms′ : R} where
       → (r ≡ r′) × (rooms ≡ rooms′)
   one-shell-line g h =
       let b = one-given refl g h in (ap (λ xs. record { number = getD xs 0 0; place = getD xs 1 0; bytes = getD xs 2 0 }) (b .0), b .1)
+
+  -- shell_read_stl
+  pub one-shell-read :
+      {r r′ : ShellStl} → Given (r .number) (r .place) (r .points ∷ r .faces ∷ []) rooms o → Given (r′ .number) (r′ .place) (r′ .points ∷ r′ .faces ∷ []) rooms′ o
+      → (r ≡ r′) × (rooms ≡ rooms′)
+  one-shell-read g h =
+      let b = one-given refl g h in (ap (λ xs. record { number = getD xs 0 0; place = getD xs 1 0; points = getD xs 2 0; faces = getD xs 3 0 }) (b .0), b .1)

@@ -1,0 +1,198 @@
+/* Mends a shell from the mould shop: shellfix FILE.stl
+ *
+ * Reads a binary STL file, repairs it with all options, checks it, and prints what was mended and how many edges and boundary loops it has then. A
+ * refusal is printed in words with its number and place. For a large file each stage is told on standard error. Exit status: 0; 1 for a refusal, or for
+ * a shell that the check does not pass; 2 if the file cannot be read or memory runs out. */
+#include "shell.h"
+#include <errno.h>
+#include <stdio.h>
+#include <stdlib.h>
+#include <string.h>
+
+/* The sine below which the Rust takes a face for degenerate, and the number of facets from which the stages are told. */
+#define THRESHOLD 1e-12
+#define LARGE 100000u
+
+/* What a refusal's number says. */
+static const char *words(uint32_t number) {
+    switch (number) {
+    case SHELL_BAD_LENGTH:
+        return "a list has a wrong length; 0 points, 1 faces, 2 counts";
+    case SHELL_TOO_LARGE:
+        return "too many; 0 points, 1 faces, 2 patches";
+    case SHELL_BAD_SETTING:
+        return "a bad setting; 0 threshold, 1 options";
+    case SHELL_BAD_POINT:
+        return "a coordinate is not a number, infinite or beyond 2^100; the first such corner or point";
+    case SHELL_BAD_CORNER:
+        return "a corner is no point; the first such face";
+    case SHELL_SHORT_ROOM:
+        return "a room is too short; its place in the call's list";
+    case SHELL_CROWDED_EDGE:
+        return "an edge occurs more than twice; its position among the sorted edges";
+    case SHELL_BAD_BOUNDARY:
+        return "the boundary is not simple; the lowest vertex at fault";
+    case SHELL_BAD_FILE:
+        return "not a binary STL file: 84 bytes and 50 for each facet that it counts";
+    default:
+        return "refused";
+    }
+}
+
+/* Whether a call was accepted; if not, says why. */
+static int accepted(const char *call, uint32_t number, uint32_t place) {
+    if (number == SHELL_ACCEPTED)
+        return 1;
+    printf("%s refused, number %u, place %u: %s\n", call, number, place, words(number));
+    return 0;
+}
+
+/* A room of `entries` entries of `size` bytes, all zero. */
+static void *room(size_t entries, size_t size) {
+    void *made = calloc(entries ? entries : 1, size);
+    if (made == NULL) {
+        fprintf(stderr, "shellfix: no memory for %zu entries\n", entries);
+        exit(2);
+    }
+    return made;
+}
+
+/* The bytes of the file, and how many. */
+static uint8_t *read_file(const char *name, size_t *length) {
+    FILE *file = fopen(name, "rb");
+    size_t held = 1 << 16, n = 0, got;
+    uint8_t *bytes = file ? malloc(held) : NULL;
+    while (bytes != NULL && (got = fread(bytes + n, 1, held - n, file)) > 0) {
+        n += got;
+        if (n == held) {
+            uint8_t *more = realloc(bytes, held *= 2);
+            if (more == NULL)
+                free(bytes);
+            bytes = more;
+        }
+    }
+    if (bytes == NULL || ferror(file)) {
+        fprintf(stderr, "shellfix: cannot read %s: %s\n", name, strerror(errno));
+        exit(2);
+    }
+    fclose(file);
+    *length = n;
+    return bytes;
+}
+
+/* A mesh, and whether its stages are told. */
+typedef struct {
+    double *points;
+    uint32_t *faces;
+    size_t point_count, face_count;
+    int large;
+} Mesh;
+
+/* Tells a stage of a large file. */
+static void stage(const Mesh *mesh, const char *what) {
+    if (mesh->large)
+        fprintf(stderr, "shellfix: %s %zu points, %zu faces\n", what, mesh->point_count, mesh->face_count);
+}
+
+/* The mesh of a file's bytes. */
+static int read_mesh(const uint8_t *file, size_t length, Mesh *mesh) {
+    size_t stated = length < 84 ? 0 : (length - 84) / 50;
+    size_t f = stated > SHELL_MOST_FACES ? 0 : stated;
+    double *points = room(SHELL_STL_POINTS_ROOM(f), sizeof *points);
+    uint32_t *faces = room(SHELL_STL_FACES_ROOM(f), sizeof *faces), *work = room(SHELL_STL_WORK_ROOM(f), sizeof *work);
+    ShellStl read = shell_read_stl(file, length, points, SHELL_STL_POINTS_ROOM(f), faces, SHELL_STL_FACES_ROOM(f), work,
+                                   SHELL_STL_WORK_ROOM(f));
+    free(work);
+    *mesh = (Mesh){points, faces, read.points / 3, read.faces / 3, f >= LARGE};
+    return accepted("read", read.number, read.place);
+}
+
+/* The repair of a mesh with all options, and its report. */
+static int mend(const Mesh *mesh, Mesh *mended, uint32_t *report) {
+    size_t p = mesh->point_count, f = mesh->face_count;
+    double *points = room(SHELL_POINTS_ROOM(p, f), sizeof *points);
+    uint32_t *faces = room(SHELL_FACES_ROOM(f), sizeof *faces), *work = room(SHELL_WORK_ROOM(p, f), sizeof *work);
+    ShellRepaired repaired = shell_repair(mesh->points, 3 * p, mesh->faces, 3 * f, THRESHOLD, SHELL_ALL_OPTIONS, points, SHELL_POINTS_ROOM(p, f), faces,
+                                          SHELL_FACES_ROOM(f), report, SHELL_REPORT_ROOM, work, SHELL_WORK_ROOM(p, f));
+    free(work);
+    *mended = (Mesh){points, faces, repaired.points / 3, repaired.faces / 3, mesh->large};
+    return accepted("repair", repaired.number, repaired.place);
+}
+
+/* The report as a line. */
+static int print_report(const uint32_t *report) {
+    uint8_t line[SHELL_LINE_ROOM];
+    ShellLine written = shell_line(report, SHELL_REPORT_ROOM, line, sizeof line);
+    if (!accepted("line", written.number, written.place))
+        return 0;
+    printf("%.*s\n", (int)written.bytes, (const char *)line);
+    return 1;
+}
+
+/* The edge check's answer. */
+static int check(const Mesh *mesh, uint32_t *work, size_t work_length) {
+    ShellCheck sound = shell_check(mesh->point_count, mesh->faces, 3 * mesh->face_count, work, work_length);
+    if (!accepted("check", sound.number, sound.place))
+        return 0;
+    printf("sound: %s\n", sound.yes ? "yes" : "no");
+    return sound.yes == 1;
+}
+
+/* How many edges and boundary loops there are. */
+static int count_edges(const Mesh *mesh, uint32_t *work, size_t work_length) {
+    size_t f = mesh->face_count;
+    uint32_t *edges = room(SHELL_EDGES_ROOM(f), sizeof *edges), *face_edges = room(SHELL_FACE_EDGES_ROOM(f), sizeof *face_edges);
+    uint32_t *loop_vertices = room(SHELL_LOOP_VERTICES_ROOM(f), sizeof *loop_vertices), *loop_ends = room(SHELL_LOOP_ENDS_ROOM(f), sizeof *loop_ends);
+    double *lengths = room(SHELL_LENGTHS_ROOM(f), sizeof *lengths);
+    ShellEdges found = shell_edges(mesh->points, 3 * mesh->point_count, mesh->faces, 3 * f, edges, SHELL_EDGES_ROOM(f), lengths, SHELL_LENGTHS_ROOM(f),
+                                   face_edges, SHELL_FACE_EDGES_ROOM(f), loop_vertices, SHELL_LOOP_VERTICES_ROOM(f), loop_ends, SHELL_LOOP_ENDS_ROOM(f),
+                                   work, work_length);
+    free(edges), free(face_edges), free(loop_vertices), free(loop_ends), free(lengths);
+    if (!accepted("edges", found.number, found.place))
+        return 0;
+    printf("%llu edges, %llu boundary loops\n", (unsigned long long)found.lengths, (unsigned long long)found.loop_ends);
+    return 1;
+}
+
+/* What is said of a mended mesh: the report, the check's answer, and the counts of edges and loops. */
+static int describe(const Mesh *mended, const uint32_t *report) {
+    size_t work_length = SHELL_WORK_ROOM(mended->point_count, mended->face_count);
+    uint32_t *work = room(work_length, sizeof *work);
+    printf("mended: %zu points, %zu faces\n", mended->point_count, mended->face_count);
+    int good = print_report(report);
+    stage(mended, "checking");
+    good = good && check(mended, work, work_length);
+    stage(mended, "listing the edges of");
+    good = good && count_edges(mended, work, work_length);
+    free(work);
+    return good;
+}
+
+/* The mesh of the file, mended and described. */
+static int mend_file(const uint8_t *file, size_t length) {
+    Mesh mesh, mended;
+    uint32_t report[SHELL_REPORT_ROOM] = {0};
+    int good = read_mesh(file, length, &mesh);
+    if (good) {
+        printf("read: %zu points, %zu faces\n", mesh.point_count, mesh.face_count);
+        stage(&mesh, "repairing");
+        good = mend(&mesh, &mended, report) && describe(&mended, report);
+        free(mended.points), free(mended.faces);
+    }
+    free(mesh.points), free(mesh.faces);
+    return good;
+}
+
+int main(int count, char **given) {
+    if (count != 2) {
+        fprintf(stderr, "usage: shellfix FILE.stl\n");
+        return 2;
+    }
+    size_t length;
+    uint8_t *file = read_file(given[1], &length);
+    if (length >= 84 + 50 * (size_t)LARGE)
+        fprintf(stderr, "shellfix: reading %zu bytes\n", length);
+    int good = mend_file(file, length);
+    free(file);
+    return good ? 0 : 1;
+}

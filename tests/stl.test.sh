@@ -1,0 +1,58 @@
+#!/usr/bin/env bash
+# Binary STL: what the call reads of files at the limits, of random ones and of files that other programs wrote is what a reader in Python finds, corner by
+# corner, with every room as it must be; and shellfix mends such a file from disk.
+set -u
+here=$(cd "$(dirname "${BASH_SOURCE[0]}")/.." && pwd)
+room=$(mktemp -d) || exit 1
+trap 'rm -rf "$room"' EXIT
+bash "$here/host/build.sh" "$room" || exit 1
+cd "$room" || exit 1
+for program in corners shellfix; do
+    gcc -std=c11 -Wall -Wextra -Wpedantic -Werror -O2 -g -I. -o "$program" "$here/host/$program.c" libshell.a || exit 1
+done
+
+# Files of the tests' own writer, and those of other programs that are stored.
+python3 "$here/tests/stl.py" make made || exit 1
+cp "$here"/tests/cases/stl/*.stl made/ || exit 1
+./corners made/*.stl >found || exit 1
+python3 "$here/tests/stl.py" expect made/*.stl >wanted || exit 1
+cmp found wanted || exit 1
+[ "$(grep -c '^file' found)" -gt 100 ] || exit 1
+
+# The same shell by the program itself, where it is or can be installed.
+if ! command -v admesh >/dev/null; then
+    apt-get install -y admesh >/dev/null 2>&1
+fi
+if command -v admesh >/dev/null; then
+    python3 "$here/tests/stl.py" ascii text.stl || exit 1
+    admesh --no-check --write-binary-stl=written.stl text.stl >/dev/null || exit 1
+    python3 "$here/tests/stl.py" same text.stl written.stl || exit 1
+    ./corners written.stl >found || exit 1
+    python3 "$here/tests/stl.py" expect written.stl >wanted || exit 1
+    cmp found wanted || exit 1
+else
+    echo "stl: no admesh here, so only its stored file is read"
+fi
+
+# Says what shellfix printed, and its exit status.
+fixed() {
+    ./shellfix "$1" 2>/dev/null
+    echo "exit status $?"
+}
+{
+    fixed made/by-admesh.stl
+    fixed made/by-assimp.stl
+    fixed made/none.stl
+    fixed made/ascii.stl
+    fixed made/one-facet-too-many.stl
+    fixed made/payload-7.stl
+    fixed made/no-such-file.stl
+} >found
+diff found "$here/tests/cases/stl/shellfix.out" || exit 1
+
+if command -v valgrind >/dev/null; then
+    valgrind -q --error-exitcode=9 ./corners made/random-1*.stl made/zeros.stl made/subnormals.stl made/payload-*.stl >/dev/null || exit 1
+    valgrind -q --error-exitcode=9 --leak-check=full --errors-for-leak-kinds=definite ./shellfix made/by-admesh.stl >/dev/null || exit 1
+else
+    echo "stl: no valgrind here, so the rooms' neighbours are not watched"
+fi

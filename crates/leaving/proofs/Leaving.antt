@@ -109,14 +109,14 @@ faces-left {xs} {w} {flags} {n} marked fit f g =
 -- ---- points
 
 -- row i is the coordinates of point i
-point-row : (xs : List Float) (n : ℕ) → 3 * n ≤ length xs → (i : ℕ) → i < n → part xs (3 * i) 3 ≡ coordinates (point (pointsOf (take (3 * n) xs)) i)
+pub point-row : (xs : List Float) (n : ℕ) → 3 * n ≤ length xs → (i : ℕ) → i < n → part xs (3 * i) 3 ≡ coordinates (point (pointsOf (take (3 * n) xs)) i)
 point-row xs n fit i h =
     let l = length-take-le (3 * n) xs fit in
     row-at nan xs i (omega arith)
     ∙ sym (ap coordinates (point-at (take (3 * n) xs) nan i (omega arith)) ∙ rw (getD-take (3 * n) xs (3 * i) nan (omega arith), getD-take (3 * n) xs (3 * i + 1) nan (omega arith), getD-take (3 * n) xs (3 * i + 2) nan (omega arith)))
 
 -- the front of 3n numbers has n points
-length-points-take : (xs : List Float) (n : ℕ) → 3 * n ≤ length xs → length (pointsOf (take (3 * n) xs)) ≡ n
+pub length-points-take : (xs : List Float) (n : ℕ) → 3 * n ≤ length xs → length (pointsOf (take (3 * n) xs)) ≡ n
 length-points-take xs n h = length-points (take (3 * n) xs) ∙ (let e = length-take-le (3 * n) xs h in omega arith)
 
 -- the points at the front are those that stay

@@ -7,13 +7,18 @@ use lib.ListN.{length, getD, take}
 use lib.Ieee.{Float}
 use Rattle.rows.specs.Region.{Only}
 use Rattle.rules.specs.Lists.{below, count, leave}
-use Rattle.rules.specs.Mesh.{Face, facesOf, flatFaces}
+use Rattle.rules.specs.Mesh.{Face, facesOf, flatFaces, pointsOf}
 use Rattle.rules.specs.Refusal.{most-points, most-faces}
 use Rattle.rules.specs.Rooms.{work-room}
+use Rattle.rules.specs.State.{State}
 
 -- the n faces at the front of the room xs
 abbrev pub standing : List ℕ → ℕ → List Face
 standing xs n = facesOf (take (3 * n) xs)
+
+-- the state of a repair: p points and n faces at the front of their rooms, and a report
+abbrev pub stateOf : List Float → ℕ → List ℕ → ℕ → List ℕ → State
+stateOf ps p xs n report = record { points = pointsOf (take (3 * p) ps); faces = standing xs n; report = report }
 
 -- n faces stand at the front of the room xs, their corners are of the P points, and the work room is there
 pub record FacesStand (P : ℕ) (xs : List ℕ) (n : ℕ) (w : List ℕ) : Type 0 where

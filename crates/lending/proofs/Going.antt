@@ -5,6 +5,7 @@ use Prim.Native.Nat.{ℕ, _+_, _*_, _-_, _^_, _≤_, _<_}
 use native.Mathlib.Omega.{arith}
 use lib.ListN.{getD, replicate}
 use lib.Ieee.{Float, nan}
+use Rattle.leaving.specs.Pass.{stateOf}
 use Rattle.rows.specs.Region.{OnlyOf, Only}
 use Rattle.rows.proofs.Regions.{only-none, only-both, only-more}
 use Rattle.rules.specs.Repair.{optional, bit, passes}
@@ -19,7 +20,7 @@ use Rattle.rules.specs.Pass6 as six
 use Rattle.split_bowtie_vertices.specs.Splits.{SplitAsks}
 use Rattle.drop_isolated_vertices.specs.Unused.{UnusedAsks}
 use Rattle.passes.specs.declared.Passed.{Passed}
-use Rattle.passes.specs.Passing.{stateOf, PassGives}
+use Rattle.passes.specs.Passing.{PassGives}
 use Rattle.lending.specs.declared.Report.{Report}
 use Rattle.lending.specs.Reports.{empty, added, countsOf, CountsBelow}
 use Rattle.lending.specs.Mended.{TurnsGive}

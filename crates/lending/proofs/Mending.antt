@@ -6,13 +6,13 @@ use native.Mathlib.Omega.{arith}
 use lib.ListN.{length, getD, take, replicate}
 use lib.Seq.{getD-take, take-all}
 use lib.Ieee.{Float, nan}
+use Rattle.leaving.specs.Pass.{stateOf}
 use Rattle.rows.specs.Region.{RowAsks, RowGives}
 use Rattle.rows.proofs.Regions.{only-both, only-more}
 use Rattle.rules.specs.Mesh.{pointsOf, facesOf}
 use Rattle.rules.specs.Repair.{passes, repaired}
 use Rattle.rules.specs.State.{start}
 use Rattle.split_bowtie_vertices.specs.Splits.{SplitAsks}
-use Rattle.passes.specs.Passing.{stateOf}
 use Rattle.lending.specs.declared.Mended.{Mended}
 use Rattle.lending.specs.Mended.{TurnsGive, MendAsks, MendGives}
 

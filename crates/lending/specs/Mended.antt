@@ -4,12 +4,12 @@ use mathlib.Core.List.{List}
 use Prim.Native.Nat.{ℕ, _+_, _*_, _/_, _^_, _≤_}
 use lib.ListN.{length, replicate}
 use lib.Ieee.{Float, nan}
+use Rattle.leaving.specs.Pass.{stateOf}
 use Rattle.rows.specs.Region.{OnlyOf, Only}
 use Rattle.rules.specs.Mesh.{pointsOf, facesOf}
 use Rattle.rules.specs.Rooms.{work-room}
 use Rattle.rules.specs.Repair.{passes, repaired}
 use Rattle.refuse.specs.Accepted.{Accepted}
-use Rattle.passes.specs.Passing.{stateOf}
 use Rattle.lending.specs.declared.Mended.{Mended}
 use Rattle.lending.specs.Reports.{countsOf, CountsBelow}
 

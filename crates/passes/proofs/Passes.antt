@@ -7,7 +7,7 @@ use native.Mathlib.Omega.{arith}
 use lib.Dec.{ltb}
 use lib.ListN.{length, take}
 use lib.Ieee.{Float}
-use Rattle.leaving.specs.Pass.{standing, PassAsks, LeaveGives}
+use Rattle.leaving.specs.Pass.{standing, PassAsks, LeaveGives, stateOf}
 use Rattle.rules.specs.Mesh.{Face, pointsOf, facesOf}
 use Rattle.rules.specs.Repair.{optional}
 use Rattle.rules.specs.Rooms.{work-room}
@@ -25,7 +25,7 @@ use Rattle.rules.proofs.Turning.{oriented-turned}
 use Rattle.splitting.proofs.Reports.{more-none}
 use Rattle.orient_consistently.specs.Walked.{OrientGives}
 use Rattle.split_bowtie_vertices.specs.Splits.{SplitAsks}
-use Rattle.passes.specs.Passing.{stateOf, PassGives}
+use Rattle.passes.specs.Passing.{PassGives}
 use Rattle.passes.proofs.Standing.{corners-inside, inside-corners}
 use Rattle.passes.proofs.Steps.{unchanged, off, reads, read, step-left, step-after}
 

@@ -4,20 +4,20 @@ use mathlib.Core.Bool.{true, false}
 use mathlib.Core.List.{List, []}
 use Prim.Native.Nat.{ℕ, _+_, _*_, _-_, _≤_, _<_}
 use native.Mathlib.Omega.{arith}
-use lib.ListN.{length, getD, take}
-use lib.Seq.{length-take-le}
+use lib.ListN.{length, getD}
 use lib.Ieee.{Float}
-use Rattle.leaving.specs.Pass.{standing}
+use Rattle.leaving.proofs.Leaving.{length-points-take}
+use Rattle.leaving.specs.Pass.{standing, stateOf}
 use Rattle.rules.specs.Mesh.{pointsOf, facesOf}
 use Rattle.rules.specs.Repair.{optional}
 use Rattle.rules.specs.Rooms.{work-room}
 use Rattle.rules.specs.State.{State, more, vertices-split, points-added, isolated}
 use Rattle.rules.specs.Pass5.{pass5}
 use Rattle.rules.specs.Pass6.{pass6, number}
-use Rattle.rules.proofs.Flat.{faces-flat, points-flat, length-points}
+use Rattle.rules.proofs.Flat.{faces-flat, points-flat}
 use Rattle.rules.proofs.Once.{Inside}
 use Rattle.rules.proofs.Output.{pass6-inside}
-use Rattle.passes.specs.Passing.{stateOf, PassGives}
+use Rattle.passes.specs.Passing.{PassGives}
 use Rattle.split_bowtie_vertices.specs.declared.Split.{Split}
 use Rattle.split_bowtie_vertices.specs.Splits.{SplitAsks, SplitGives}
 use Rattle.drop_isolated_vertices.specs.Unused.{UnusedAsks, UnusedGives}
@@ -26,17 +26,13 @@ use Rattle.splitting.proofs.Reports.{more-none}
 use Rattle.passes.proofs.Standing.{corners-inside, inside-corners}
 use Rattle.passes.proofs.Steps.{unchanged, off}
 
--- p points at the front are p
-pub length-standing-points : (ps : List Float) (p : ℕ) → 3 * p ≤ length ps → length (pointsOf (take (3 * p) ps)) ≡ p
-length-standing-points ps p h = length-points (take (3 * p) ps) ∙ (let e = length-take-le (3 * p) ps h in omega arith)
-
 -- corners inside, from a state that is what a pass makes
 inside-by :
     (ps : List Float) (p : ℕ) (xs : List ℕ) (n : ℕ) (report : List ℕ) (m : State) → 3 * p ≤ length ps → 3 * n ≤ length xs → stateOf ps p xs n report ≡ m
     → Inside (length (m .points)) (m .faces) → (i : ℕ) → i < 3 * n → getD xs i 0 < p
 inside-by ps p xs n report m hp hn e inside =
     inside-corners xs n hn p
-    (subst (λ k. Inside k (standing xs n)) (length-standing-points ps p hp) (subst (λ t. Inside (length (t .points)) (t .faces)) (sym e) inside))
+    (subst (λ k. Inside k (standing xs n)) (length-points-take ps p hp) (subst (λ t. Inside (length (t .points)) (t .faces)) (sym e) inside))
 
 module _ {ps : List Float} {p : ℕ} {xs : List ℕ} {n : ℕ} {w : List ℕ} (a : SplitAsks ps p xs n w) where
   -- pass 5 that is off
@@ -74,7 +70,7 @@ module _ {ps : List Float} {p : ℕ} {xs : List ℕ} {n : ℕ} {w : List ℕ} (a
 module _ {ps : List Float} {p : ℕ} {xs : List ℕ} {n : ℕ} {w : List ℕ} (a : UnusedAsks ps p xs n w) where
   -- the corners are points that stand
   used-inside : (report : List ℕ) → Inside (length (stateOf ps p xs n report .points)) (standing xs n)
-  used-inside report = rw (length-standing-points ps p (a .points-fit)) (corners-inside xs n (a .fit) p (a .inside))
+  used-inside report = rw (length-points-take ps p (a .points-fit)) (corners-inside xs n (a .fit) p (a .inside))
 
   -- pass 6 that is off
   pub off6 : PassGives (optional false pass6) (more isolated 0) 0 p (2 * p) ps p xs n w ps xs w (unchanged p n)

@@ -10,7 +10,7 @@ use lib.Seq.{length-take-le}
 use lib.Ieee.{Float}
 use Rattle.rows.specs.Region.{Only}
 use Rattle.rows.proofs.Regions.{only-none, only-both}
-use Rattle.leaving.specs.Pass.{PassAsks, LeaveGives}
+use Rattle.leaving.specs.Pass.{PassAsks, LeaveGives, stateOf}
 use Rattle.leaving.proofs.Standing.{dropped-state, stands-left}
 use Rattle.rules.specs.Mesh.{pointsOf}
 use Rattle.rules.specs.Repair.{optional, bit}
@@ -18,7 +18,7 @@ use Rattle.rules.specs.Rooms.{work-room}
 use Rattle.rules.specs.State.{State, Count, more, dropped}
 use Rattle.split_bowtie_vertices.specs.Splits.{SplitAsks}
 use Rattle.passes.specs.declared.Passed.{Passed}
-use Rattle.passes.specs.Passing.{stateOf, PassGives}
+use Rattle.passes.specs.Passing.{PassGives}
 
 -- an option that is set
 pub bit-set : (k o : ℕ) → o / 2 ^ k % 2 ≡ 1 → bit k o ≡ true

@@ -2,17 +2,12 @@
 use mathlib.Core.Path.{_≡_}
 use mathlib.Core.List.{List}
 use Prim.Native.Nat.{ℕ, _+_, _*_, _≤_, _<_}
-use lib.ListN.{getD, take}
+use lib.ListN.{getD}
 use lib.Ieee.{Float, nan}
 use Rattle.rows.specs.Region.{OnlyOf, Only}
-use Rattle.leaving.specs.Pass.{standing}
-use Rattle.rules.specs.Mesh.{pointsOf}
+use Rattle.leaving.specs.Pass.{stateOf}
 use Rattle.rules.specs.State.{State}
 use Rattle.passes.specs.declared.Passed.{Passed}
-
--- the state of a repair: p points and n faces at the front of their rooms, and a report
-abbrev pub stateOf : List Float → ℕ → List ℕ → ℕ → List ℕ → State
-stateOf ps p xs n report = record { points = pointsOf (take (3 * p) ps); faces = standing xs n; report = report }
 
 -- A pass on p points and n faces: what stands then is what the rule makes of what stood, with the report as `after` leaves it.
 -- From `least` to `most` points stand, and none beyond `most` was touched; of the work room `scratch` entries were.

@@ -26,7 +26,7 @@ use Rattle.lending.specs.declared.Mended.{Mended}
 use Rattle.repair.specs.declared.Repaired.the-variants as repaired-as
 use Rattle.lending.specs.Mended.{MendAsks, MendGives}
 use Rattle.repair.specs.Answers.{roomsOf, outcomeOf, ReportAsks, ReportGives}
-use Rattle.passes.proofs.Rooms.{length-standing-points}
+use Rattle.leaving.proofs.Leaving.{length-points-take}
 
 -- the bounds of what is cleared: P and F, the ends of the answers, the lengths of the rooms
 pub record Sizes (P F p f points-room faces-room report-room work : ℕ) : Type 0 where
@@ -126,7 +126,7 @@ module _ (points : List Float) (faces : List ℕ) (s : Float) (o : ℕ) (ps : Li
       entries-are : 3 * r .points ∷ 3 * r .faces ∷ 10 ∷ [] ≡ entries
       entries-are =
           let z = sizes in
-          let p : r .points ≡ length (m .points) = sym (length-standing-points ps₁ (r .points) (omega (arith, z))) ∙ ap (λ t. length (t .points)) (g .state) in
+          let p : r .points ≡ length (m .points) = sym (length-points-take ps₁ (r .points) (omega (arith, z))) ∙ ap (λ t. length (t .points)) (g .state) in
           let f : r .faces ≡ length (m .faces) = sym (length-faces-take xs₁ (r .faces) (omega (arith, z))) ∙ ap (λ t. length (t .faces)) (g .state) in
           ap₂ (λ i j. 3 * i ∷ 3 * j ∷ 10 ∷ []) p f
 

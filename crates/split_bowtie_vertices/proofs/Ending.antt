@@ -7,6 +7,8 @@ use lib.Dec.{ltb}
 use lib.Ieee.{Float}
 use lib.ListN.{length, getD, take}
 use lib.Seq.{getD-take, length-take-le, ext-getD}
+use Rattle.leaving.proofs.Leaving.{length-points-take}
+use Rattle.leaving.specs.Pass.{stateOf}
 use Rattle.rows.proofs.Regions.{only-both, only-more}
 use Rattle.rules.specs.Lists.{below, count}
 use Rattle.rules.specs.Mesh.{face, facesOf, flatPoints, flatFaces, renamed}
@@ -23,11 +25,11 @@ use Rattle.rules.proofs.Splitting.{length-map-below}
 use Rattle.splitting.specs.Corners.{cornerAt, extras, base, goalOf}
 use Rattle.splitting.proofs.Goals.{base-least, faces-are, points-many, report-is}
 use Rattle.corner_numbers.specs.Numbers.{SortAsks, SortGives, newBy}
-use Rattle.split_bowtie_vertices.specs.Splits.{Rows, AllAsks, AllGives, RenameAsks, RenameGives, SplitAsks, SplitGives, stateOf}
+use Rattle.split_bowtie_vertices.specs.Splits.{Rows, AllAsks, AllGives, RenameAsks, RenameGives, SplitAsks, SplitGives}
 use Rattle.split_bowtie_vertices.specs.declared.Split.{Split}
 use Rattle.split_bowtie_vertices.proofs.Places.{base-most, all-places}
 use Rattle.split_bowtie_vertices.proofs.Renamed.{corner-made, corner-within, leader-row, new-is}
-use Rattle.split_bowtie_vertices.proofs.Copied.{points-long, points-flat}
+use Rattle.split_bowtie_vertices.proofs.Copied.{points-flat}
 
 module _ {ps : List Float} {P : ℕ} {xs : List ℕ} {n : ℕ} {w : List ℕ} (p : SplitAsks ps P xs n w) where
   -- the corners of the faces
@@ -116,7 +118,7 @@ module _ {ps : List Float} {P : ℕ} {xs : List ℕ} {n : ℕ} {w : List ℕ} (p
           m = stateOf ps P xs n R
 
           many : length (m .points) ≡ P
-          many = points-long ps P fit-points
+          many = length-points-take ps P fit-points
 
           in-points : Inside (length (m .points)) (m .faces)
           in-points = subst (λ k. Inside k (facesOf ys)) (sym many) inside

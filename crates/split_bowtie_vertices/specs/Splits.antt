@@ -8,12 +8,12 @@ use lib.ListN.{length, getD, take}
 use lib.Dec.{ltb}
 use Rattle.rows.specs.Region.{part, OnlyOf, Only, Holds}
 use Rattle.rules.specs.Lists.{below, count, each}
-use Rattle.rules.specs.Mesh.{facesOf, pointsOf, flatPoints, flatFaces}
-use Rattle.rules.specs.State.{State, more, vertices-split, points-added}
+use Rattle.rules.specs.Mesh.{facesOf, flatPoints, flatFaces}
+use Rattle.rules.specs.State.{more, vertices-split, points-added}
 use Rattle.rules.specs.Rooms.{work-room}
 use Rattle.rules.specs.Pass5.{pass5}
 use Rattle.flood.specs.Answers.{leaderOf}
-use Rattle.leaving.specs.Pass.{standing, FacesStand}
+use Rattle.leaving.specs.Pass.{FacesStand, stateOf}
 use Rattle.splitting.specs.Corners.{joinedAt, cornersAt, extras, numberAt, base}
 use Rattle.corner_numbers.specs.Numbers.{NewAsks, newBy}
 use Rattle.split_bowtie_vertices.specs.declared.Split.{Split}
@@ -91,10 +91,6 @@ pub record RenameGives (xs w : List ℕ) (leads numbers n : ℕ) (xs′ : List �
 pub record SplitAsks (ps : List Float) (P : ℕ) (xs : List ℕ) (n : ℕ) (w : List ℕ) : Type 0 where
   pub stand : FacesStand P xs n w
   pub room : 3 * (P + 3 * n) ≤ length ps
-
--- the state before the pass, with a report R
-abbrev pub stateOf : List Float → ℕ → List ℕ → ℕ → List ℕ → State
-stateOf ps P xs n R = record { points = pointsOf (take (3 * P) ps); faces = standing xs n; report = R }
 
 -- the points, the faces and the report are those of the rule, whatever the report was before; corners are below the new number of points
 pub record SplitGives (P : ℕ) (ps : List Float) (xs : List ℕ) (n : ℕ) (w : List ℕ) (ps′ : List Float) (xs′ w′ : List ℕ) (r : Split) : Type 0 where

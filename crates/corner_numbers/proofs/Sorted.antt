@@ -3,19 +3,13 @@ use mathlib.Core.Path.{_≡_, refl, sym, ap, _∙_}
 use mathlib.Core.Bool.{Bool, true, false, cond}
 use mathlib.Core.List.{List, [], _∷_}
 use Prim.Native.Nat.{ℕ, zero, suc, _+_, _*_, _%_, _≤_, _<_}
-use native.Mathlib.Omega.{arith}
 use lib.ListN.{length, getD}
-use lib.Seq.{ext-getD}
 use lib.Dec.{eqb}
-use Rattle.rows.specs.Region.{part, Holds}
 use Rattle.rows.specs.Filter as rows-filter
 use Rattle.rows.specs.Filter.{keep}
 use Rattle.sorting.specs.Groups.{having, sortedBy, keyIn}
-use Rattle.rows.proofs.Regions.{length-part, getD-part}
 use Rattle.rules.specs.Lists.{below, filter, each}
 use Rattle.rules.specs.Mesh.{facesOf}
-use Rattle.rules.proofs.Lists.{length-below}
-use Rattle.rules.proofs.Rising.{getD-below}
 use Rattle.table.proofs.Ids.{three-faces}
 use Rattle.splitting.specs.Corners.{cornersAt}
 use Rattle.splitting.proofs.AllAtOnce.{each-last}
@@ -30,13 +24,6 @@ same-filter p (x ∷ xs) = go (p x) (same-filter p xs)
     go : (b : Bool) → rows-filter.filter p xs ≡ filter p xs → keep b x (rows-filter.filter p xs) ≡ cond b (x ∷ filter p xs) (filter p xs)
     go true e = ap (λ l. x ∷ l) e
     go false e = e
-
--- a region of the numbers in line
-pub part-below : (w : List ℕ) (a n : ℕ) → a + n ≤ length w → Holds a n (λ i. i) w → part w a n ≡ below n
-part-below w a n h p =
-    let l = length-part w a n h in
-    let b = length-below n in
-    ext-getD 0 (part w a n) (below n) (l ∙ sym b) (λ i k. let j : i < n = omega arith in getD-part w a n i j ∙ p .each i j ∙ sym (getD-below n i j))
 
 -- the corners with one key are those at the point
 having-is : (xs : List ℕ) → length xs % 3 ≡ 0 → (k : ℕ) → having (keyIn xs) k (below (length xs)) ≡ cornersAt (facesOf xs) k

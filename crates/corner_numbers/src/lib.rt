@@ -4,28 +4,11 @@
 //
 //     0              n             the point at each corner
 //     n              10n + 2 + P   the rows of crates/corner_groups; the first member of each corner's group is at 10n + 2 + P, bins are at 6n + 1
-//     11n + 2 + P    n             0, 1, .., n - 1
+//     11n + 2 + P    n             free
 //     12n + 2 + P    n             the corners, point after point, those of one point in face order
 //     13n + 2 + P    n             the number of the group that each corner leads
 ghost use mathlib.Core.Path.{_≡_};
-ghost use Prim.Native.Nat.{ℕ, _+_, _^_, _≤_, _<_};
-ghost use lib.ListN.{length};
-ghost use Rattle.rows.specs.Region.{Only, Holds};
 ghost use Rattle.corner_numbers.specs.Numbers.{SortAsks, SortGives, EndAsks, EndGives, extraBy, ExtraAsks, RunAsks, RunGives, ledBy, aloneBy, newBy, NewAsks, AloneAsks};
-
-// Writes 0, 1, .., n - 1 to the n entries from `from` on.
-fn number(work: &mut [u32], from: usize, n: usize)
-    requires { ⌜ from + n ≤ length (now work) ⌝ }
-    requires { ⌜ n < 2 ^ 32 ⌝ }
-    ensures { λ _. ⌜ Only from n (now (work .entry)) (now (work .exit)) ⌝ }
-    ensures { λ _. ⌜ Holds from n (λ (i : ℕ). i) (now (work .exit)) ⌝ }
-{
-    let mut i = 0;
-    while i < n {
-        work[from + i] = i as u32;
-        i += 1;
-    }
-}
 
 // Writes the point at each corner, the first member of its group, and the corners sorted by their points.
 pub fn sort_corners(work: &mut [u32], faces: &[u32], points: usize)
@@ -33,11 +16,9 @@ pub fn sort_corners(work: &mut [u32], faces: &[u32], points: usize)
     ensures { λ _. ⌜ SortGives (now (work .entry)) (now (faces .entry)) points (now (work .exit)) ⌝ }
 {
     let n = faces.len();
-    let ids = 11 * n + 2 + points;
     rows::copy_row(faces, work, n);
     corner_groups::lead_corners(work, faces, points, n);
-    number(work, ids, n);
-    sorting::sort(work, ids, n, 0, 6 * n + 1, points, ids + n);
+    sorting::order(work, n, 0, 6 * n + 1, points, 12 * n + 2 + points);
 }
 
 // The place behind the run of corners at v that begins at the place `begin` of the n sorted ones.

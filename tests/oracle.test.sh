@@ -27,6 +27,7 @@ for cases in "$here/tests/cases" "$here/../shared/cases/open"; do
     [ ! -d "$cases" ] || "$oracle" --recorded "$cases/lib.cases.bin" "$cases/lib.answers.bin" || exit 1
 done
 
+"$oracle" --planted 150 || exit 1
 "$oracle" --large 1000000 || exit 1
 
 "$oracle" --seed 1 >"$room/one" 2>&1 &

@@ -33,7 +33,7 @@ pub fn scanned(faces: usize, random: &mut Random) -> Mesh {
 }
 
 /// The mesh as a call takes it, with dirty rooms; where the options are odd the work room is clean.
-fn asked(call: Call, points: &[f64], faces: &[u32], options: u32) -> Case {
+pub fn asked(call: Call, points: &[f64], faces: &[u32], options: u32) -> Case {
     let mut case = Case::new(call);
     case.point_count = points.len() as u64 / 3;
     case.points = if call == Call::Check { vec![] } else { points.to_vec() };

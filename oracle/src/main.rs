@@ -1,5 +1,5 @@
 //! Compares the library's calls with the Rust: `oracle [--seed N] [--cases N] [--call NAME] [--show N]`, `oracle --self-test`,
-//! `oracle --time CALL FACES [SHAPE [WAY]]`, `oracle --shapes`, `oracle --write SHAPE FACES FILE`, `oracle --large FACES`,
+//! `oracle --time CALL FACES [SHAPE [WAY]]`, `oracle --shapes`, `oracle --write SHAPE FACES FILE`, `oracle --large FACES`, `oracle --planted MESHES`,
 //! `oracle --recorded CASES ANSWERS`.
 
 mod case;
@@ -14,6 +14,7 @@ mod large;
 mod lent;
 mod meshes;
 mod places;
+mod planted;
 mod print;
 mod random;
 mod recorded;
@@ -58,12 +59,13 @@ fn main() -> ExitCode {
         ["--shapes"] => time::shapes(),
         ["--write", shape, faces, file] => write::run(shape, faces.parse().expect("a number of faces"), file),
         ["--large", faces] => large::run(faces.parse().expect("a number of faces")),
+        ["--planted", meshes] => planted::run(meshes.parse().expect("a number of meshes")),
         ["--recorded", cases, answers] => recorded::run(cases, answers),
         _ => match settings(&words) {
             Some(settings) => compare_all(&settings),
             None => {
                 eprintln!(
-                    "usage: oracle [--seed N] [--cases N] [--call NAME] [--show N] | --self-test | --time CALL FACES [SHAPE [WAY]] | --shapes | --write SHAPE FACES FILE | --large FACES | --recorded CASES ANSWERS"
+                    "usage: oracle [--seed N] [--cases N] [--call NAME] [--show N] | --self-test | --time CALL FACES [SHAPE [WAY]] | --shapes | --write SHAPE FACES FILE | --large FACES | --planted MESHES | --recorded CASES ANSWERS"
                 );
                 ExitCode::from(2)
             }

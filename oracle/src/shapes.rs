@@ -54,7 +54,11 @@ fn scan(faces: usize) -> Mesh {
 
 /// The same, with its points and faces in any order.
 fn numbered(faces: usize) -> Mesh {
-    let (mut mesh, mut random) = (scan(faces), Random::new(2));
+    anyhow(scan(faces), &mut Random::new(2))
+}
+
+/// The mesh with its points and faces in any order.
+pub fn anyhow(mut mesh: Mesh, random: &mut Random) -> Mesh {
     let mut new: Vec<u32> = (0..mesh.points.len() as u32).collect();
     for i in (1..new.len()).rev() {
         new.swap(i, random.below(i + 1));

@@ -1,7 +1,7 @@
 // Writes what each function of `rows` and of `sorting` makes of small rows. The file stdout says what it must be.
 ghost use mathlib.Core.Path.{_≡_};
 ghost use lib.ListN.{length};
-ghost use Rattle.sorting.specs.Sort.{TriplesAsks};
+ghost use Rattle.sorting.specs.Sort.{SortAsks};
 ghost use Rattle.sorting.specs.Order.{OrderTriplesAsks};
 
 // A u32 as a u64.
@@ -52,7 +52,7 @@ fn show_points(row: &[f64]) {
 // Six ids, three columns of keys below 3, three bins, and room for two rows of ids.
 fn keyed() -> [u32; 39]
     ensures { λ r. ⌜ 39 ≡ length r ⌝ }
-    ensures { λ r. ⌜ TriplesAsks r 0 6 6 12 18 24 3 27 33 ⌝ }
+    ensures { λ r. ⌜ SortAsks r 0 6 18 24 3 33 ⌝ }
     ensures { λ r. ⌜ OrderTriplesAsks r 6 6 12 18 24 3 27 33 ⌝ }
 {
     [
@@ -105,21 +105,7 @@ fn by_one() {
     show(&work);
 }
 
-// The ids by the second key and the third.
-fn by_two() {
-    let mut work = keyed();
-    sorting::sort_pairs(&mut work, 0, 6, 12, 18, 24, 3, 33, 27);
-    show(&work);
-}
-
-// The ids by all three keys.
-fn by_three() {
-    let mut work = keyed();
-    sorting::sort_triples(&mut work, 0, 6, 6, 12, 18, 24, 3, 27, 33);
-    show(&work);
-}
-
-// The numbers 0 .. 5 by one key, by two and by three: the same orders, with no row of ids.
+// The numbers 0 .. 5 by one key, by two and by three.
 fn by_number() {
     let mut one = keyed();
     sorting::order(&mut one, 6, 18, 24, 3, 33);
@@ -173,8 +159,6 @@ fn points(points: &mut [f64], work: &[u32], to: &mut [f64])
 
 fn main() {
     by_one();
-    by_two();
-    by_three();
     by_number();
     let mut row = [1, 2, 3, 4, 5, 6, 7, 8, 9, 10, 11, 12];
     regions(&mut row);

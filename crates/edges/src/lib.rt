@@ -89,7 +89,7 @@ fn list(
     listing::list_lengths(points, faces, edges, m, lengths);
     listing::list_face_edges(work, faces, 0, sides);
     let found = loops::list_loops(work, faces, count, next, next + count, vertices, ends);
-    rows::clear(work, 0, 16 * count + 64 * (faces.len() / 3) + 64);
+    wiping::wipe(work, 0, 16 * count + 64 * (faces.len() / 3) + 64);
     found
 }
 

@@ -61,8 +61,8 @@ pub fn repair(
     let b = 3 * mended.faces;
     let counts = mended.report;
     rows::clear_points(points_room, a, 3 * (p + 3 * n) - a);
-    rows::clear(faces_room, b, 3 * n - b);
+    wiping::wipe(faces_room, b, 3 * n - b);
     write_report(report, counts);
-    rows::clear(work, 0, 16 * p + 64 * n + 64);
+    wiping::wipe(work, 0, 16 * p + 64 * n + 64);
     Repaired::Done(a, b)
 }

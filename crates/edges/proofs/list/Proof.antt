@@ -34,32 +34,32 @@ add-list-loops c = search needs
 list-loops-requires : tie.Need-list-loops-requires
 list-loops-requires c κs = loops-asks (c .before .before .before .before .before .before .before .before .before .before .before .before .before .before .before .before .before .before .before .before .before .before .before .before .before .before .pre)
 
-mul-clear : tie.Need-mul-clear
-mul-clear c =
+mul-wipe : tie.Need-mul-wipe
+mul-wipe c =
     let at-loops = c .before .before .before .before .before .before .before in
     let start = at-loops .before .before .before .before .before .before .before .before .before .before .before .before .before .before .before .before .before .before .before .before .before .before .before .before .before .before .before in
     omega (arith, sizes (start .pre))
 
-mul-clear-2 : tie.Need-mul-clear-2
-mul-clear-2 c =
+mul-wipe-2 : tie.Need-mul-wipe-2
+mul-wipe-2 c =
     let at-loops = c .before .before .before .before .before .before .before in
     let start = at-loops .before .before .before .before .before .before .before .before .before .before .before .before .before .before .before .before .before .before .before .before .before .before .before .before .before .before .before in
     omega (arith, sizes (start .pre))
 
-add-clear : tie.Need-add-clear
-add-clear c =
+add-wipe : tie.Need-add-wipe
+add-wipe c =
     let at-loops = c .before .before .before .before .before .before .before in
     let start = at-loops .before .before .before .before .before .before .before .before .before .before .before .before .before .before .before .before .before .before .before .before .before .before .before .before .before .before .before in
     omega (arith, sizes (start .pre))
 
-add-clear-2 : tie.Need-add-clear-2
-add-clear-2 c =
+add-wipe-2 : tie.Need-add-wipe-2
+add-wipe-2 c =
     let at-loops = c .before .before .before .before .before .before .before in
     let start = at-loops .before .before .before .before .before .before .before .before .before .before .before .before .before .before .before .before .before .before .before .before .before .before .before .before .before .before .before in
     omega (arith, sizes (start .pre))
 
-clear-requires : tie.Need-clear-requires
-clear-requires c κs =
+wipe-requires : tie.Need-wipe-requires
+wipe-requires c κs =
     let o = c .before .before .before .before .before .before .before in
     let f = o .before .before .before .before .before .before in
     let l = f .before .before .before .before .before in
@@ -91,7 +91,7 @@ returns c =
     let f = o .before .before .before .before .before .before in
     let l = f .before .before .before .before .before in
     let e = l .before .before .before .before .before in
-    all-done (e .before .before .before .before .before .before .before .before .before .before .before .pre) (e .list-edges .ensures) (l .list-lengths .ensures) (f .list-face-edges .ensures) (o .list-loops .ensures) (t .clear .ensures .0) (t .clear .ensures .1)
+    all-done (e .before .before .before .before .before .before .before .before .before .before .before .pre) (e .list-edges .ensures) (l .list-lengths .ensures) (f .list-face-edges .ensures) (o .list-loops .ensures) (t .wipe .ensures .0) (t .wipe .ensures .1)
 
 pub list-spec : {M : Type 1} → statement M
 list-spec =
@@ -106,11 +106,11 @@ list-spec =
     list-face-edges-requires
     add-list-loops
     list-loops-requires
-    mul-clear
-    mul-clear-2
-    add-clear
-    add-clear-2
-    clear-requires
+    mul-wipe
+    mul-wipe-2
+    add-wipe
+    add-wipe-2
+    wipe-requires
     same-length
     same-length-2
     same-length-3

@@ -1,0 +1,50 @@
+// Regions of a lent row made zero, block after block: a block is read first, and written only where something stands in it. Reading costs half of writing,
+// and a page that was never written stays with the system.
+ghost use Prim.Native.Nat.{_+_, _≤_, _<_};
+ghost use lib.ListN.{length};
+ghost use Rattle.rows.specs.Region.{Only, Filled};
+ghost use Rattle.wiping.specs.Blocks.{BlockGives, AnyGives};
+
+// The entries of a block.
+const BLOCK: usize = 1024;
+
+// How many of the `rest` entries the next block takes.
+fn block(rest: usize) -> usize
+    ensures { λ r. ⌜ BlockGives rest r ⌝ }
+{
+    if rest < BLOCK {
+        return rest;
+    }
+    BLOCK
+}
+
+// The bits that are set in any of the n entries from `from` on.
+fn any(work: &[u32], from: usize, n: usize) -> u32
+    requires { ⌜ from + n ≤ length (now work) ⌝ }
+    ensures { λ r. ⌜ AnyGives (now (work .entry)) from n r ⌝ }
+{
+    let mut x: u32 = 0;
+    let mut i = 0;
+    while i < n {
+        x = x | work[from + i];
+        i += 1;
+    }
+    x
+}
+
+// Makes each of the n entries from `from` on 0.
+pub fn wipe(work: &mut [u32], from: usize, n: usize)
+    requires { ⌜ from + n ≤ length (now work) ⌝ }
+    ensures { λ _. ⌜ Only from n (now (work .entry)) (now (work .exit)) ⌝ }
+    ensures { λ _. ⌜ Filled from n 0 (now (work .exit)) ⌝ }
+{
+    let mut i = 0;
+    while i < n {
+        let at = from + i;
+        let m = block(n - i);
+        if any(work, at, m) != 0 {
+            rows::clear(work, at, m);
+        }
+        i += m;
+    }
+}

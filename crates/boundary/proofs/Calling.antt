@@ -25,7 +25,7 @@ use Rattle.refuse.specs.declared.Verdict.{Verdict}
 use Rattle.refuse.specs.declared.Verdict.the-variants.{Fine, Refused}
 use Rattle.table.specs.Table.{TableAsks, TableGives}
 use Rattle.boundary.specs.Rows.{BoundaryAsks, BoundaryGives}
-use Rattle.boundary.proofs.Zeros.{restored}
+use Rattle.wiping.proofs.Zeros.{restored}
 
 -- ---- verdicts
 

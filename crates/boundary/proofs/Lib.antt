@@ -10,8 +10,6 @@ pub mod Tracing
 pub mod Faults
 -- `Onward` has where the boundary goes on, in the words of the rules.
 pub mod Onward
--- `Zeros` has that a room of zeros, once cleared again, is as it was.
-pub mod Zeros
 -- `Ending` has the verdict.
 pub mod Ending
 -- `Calling` has what the edge call needs of it.

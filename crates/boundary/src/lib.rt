@@ -16,27 +16,10 @@
 use refuse::Verdict;
 ghost use mathlib.Core.Path.{_≡_};
 ghost use Prim.Native.Nat.{_+_, _≤_, _<_};
-ghost use lib.Dec.{eqb};
-ghost use lib.ListN.{length, take};
-ghost use Rattle.rules.specs.Lists.{all};
+ghost use lib.ListN.{length};
 ghost use Rattle.rules.specs.Mesh.{facesOf};
 ghost use Rattle.table.specs.Entries.{stepAt};
 ghost use Rattle.boundary.specs.Rows.{FirstOf, long, uneven, alone, AloneAsks, AddAsks, AddGives, TraceAsks, TraceGives, BoundaryAsks, BoundaryGives};
-
-// Whether the first n entries are all 0.
-pub fn is_zero(work: &[u32], n: usize) -> bool
-    requires { ⌜ n ≤ length (now work) ⌝ }
-    ensures { λ r. ⌜ r ≡ all (eqb 0) (take n (now (work .entry))) ⌝ }
-{
-    let mut i = 0;
-    while i < n {
-        if work[i] != 0 {
-            return false;
-        }
-        i += 1;
-    }
-    true
-}
 
 // The first of the m runs that has more than two entries, or m: the runs begin where the row `starts` says, which has one entry more.
 fn crowded(work: &[u32], starts: usize, m: usize) -> usize

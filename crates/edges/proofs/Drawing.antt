@@ -17,7 +17,7 @@ use Rattle.refuse.specs.declared.Verdict.{Verdict}
 use Rattle.refuse.specs.declared.Verdict.the-variants.{Fine, Refused}
 use Rattle.table.specs.Table.{TableAsks, TableGives}
 use Rattle.boundary.specs.Rows.{BoundaryAsks, BoundaryGives}
-use Rattle.boundary.proofs.Zeros.{restored}
+use Rattle.wiping.proofs.Zeros.{restored}
 use Rattle.edges.specs.declared.Drawn.{Drawn}
 use Rattle.edges.specs.declared.Drawn.the-variants as drawn
 use Rattle.edges.specs.Steps.{DrawAsks, judged, checkOf, Standing, Prepared, DrawGives, PrepareGives}

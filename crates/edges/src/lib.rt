@@ -48,7 +48,7 @@ fn prepare(work: &mut [u32], faces: &[u32], count: usize) -> Drawn
     ensures { λ r. ⌜ PrepareGives (now (work .entry)) (now (faces .entry)) count (now (work .exit)) r ⌝ }
 {
     let taken = 5 * faces.len() + 1 + 4 * count;
-    if boundary::is_zero(work, taken) {
+    if wiping::is_zero(work, taken) {
         match draw(work, faces, count) {
             Drawn::Ready(m) => {
                 return Drawn::Ready(m);

@@ -1,8 +1,11 @@
 // Regions of a lent row made zero, block after block: a block is read first, and written only where something stands in it. Reading costs half of writing,
 // and a page that was never written stays with the system.
+ghost use mathlib.Core.Path.{_≡_};
 ghost use Prim.Native.Nat.{_+_, _≤_, _<_};
-ghost use lib.ListN.{length};
+ghost use lib.Dec.{eqb};
+ghost use lib.ListN.{length, take};
 ghost use Rattle.rows.specs.Region.{Only, Filled};
+ghost use Rattle.rules.specs.Lists.{all};
 ghost use Rattle.wiping.specs.Blocks.{BlockGives, AnyGives};
 
 // The entries of a block.
@@ -30,6 +33,22 @@ fn any(work: &[u32], from: usize, n: usize) -> u32
         i += 1;
     }
     x
+}
+
+// Whether the first n entries are all 0.
+pub fn is_zero(work: &[u32], n: usize) -> bool
+    requires { ⌜ n ≤ length (now work) ⌝ }
+    ensures { λ r. ⌜ r ≡ all (eqb 0) (take n (now (work .entry))) ⌝ }
+{
+    let mut i = 0;
+    while i < n {
+        let m = block(n - i);
+        if any(work, i, m) != 0 {
+            return false;
+        }
+        i += m;
+    }
+    true
 }
 
 // Makes each of the n entries from `from` on 0.

@@ -1,12 +1,11 @@
--- A room of zeros, once cleared again, is as it was. Assumes nothing.
+-- A room of zeros: what a walk over it by blocks knows, and that it is as it was once it is cleared again. Assumes nothing.
 use mathlib.Core.Path.{_≡_, refl, sym, ap, _∙_, subst}
-use mathlib.Core.Bool.{Bool, true, false, not}
+use mathlib.Core.Bool.{Bool, true, false}
 use mathlib.Core.List.{List}
-use Prim.Native.Nat.{ℕ, _≤_, _<_}
+use Prim.Native.Nat.{ℕ, _+_, _-_, _≤_, _<_}
 use native.Mathlib.Nat.{zero-add}
 use native.Mathlib.Omega.{arith}
 use native.Mathlib.Decide.{decLt}
-use borrow.Author.Tests.{eq-eqb}
 use lib.ListN.{length, getD, take}
 use lib.Seq.{ext-getD, length-take-le, getD-take}
 use lib.Dec.{T, eqb, eqb→eq, eqb-refl}
@@ -15,15 +14,8 @@ use Rattle.rows.specs.Region.{Only, Filled, Out.above}
 use Rattle.rules.specs.Lists.{all}
 use Rattle.rules.proofs.Rising.{all-at, all-from}
 use Rattle.rules.proofs.Members.{all-elim, all-intro}
-use Rattle.refuse.proofs.Scans.{Clean}
-
--- the entry at j is not 0
-abbrev pub filled-at : List ℕ → ℕ → Bool
-filled-at w j = not (eqb 0 (getD w j 0))
-
--- a 0 is 0
-pub zero-at : (x : ℕ) → x ≡ 0 → not (eqb 0 x) ≡ false
-zero-at x e = rw (eq-eqb 0 x (sym e))
+use Rattle.wiping.specs.Blocks.{BlockGives, AnyGives}
+use Rattle.wiping.proofs.Blocks.{Wiped, leaves}
 
 module _ (w : List ℕ) (n : ℕ) (h : n ≤ length w) where
   -- of a room of zeros each entry is 0
@@ -41,21 +33,21 @@ module _ (w : List ℕ) (n : ℕ) (h : n ≤ length w) where
       (all-from (λ x. T (eqb 0 x)) 0 (take n w)
       (λ j k. let l : j < n = omega (arith, length-take-le n w h) in rw (getD-take n w j 0 l, f j l) (eqb-refl 0))))
 
-  -- where one is not 0, it is none
-  pub not-zero : (j : ℕ) → j < n → (getD w j 0 ≡ 0 → ⊥) → false ≡ all (eqb 0) (take n w)
-  not-zero j l f = go (all (eqb 0) (take n w)) refl
+  -- so is one of which all blocks were without a bit
+  pub all-zero : {i : ℕ} → Wiped w 0 n w i → n ≤ i → true ≡ all (eqb 0) (take n w)
+  all-zero v l = sym (each-zero (λ j k. ap (λ a. getD w a 0) (sym (zero-add j)) ∙ v .zeros .each j (omega arith)))
+
+  -- one block more without a bit
+  pub still : {i m r : ℕ} → Wiped w 0 n w i → BlockGives (n - i) m → i < n → AnyGives w i m r → r ≡ 0 → Wiped w 0 n w (i + m)
+  still {i} {m} {r} v b l a = leaves v b l (subst (λ k. AnyGives w k m r) (sym (zero-add i)) a)
+
+  -- a block with a bit is in none
+  pub not-zero : {i m r : ℕ} → AnyGives w i m r → i + m ≤ n → (r ≡ 0 → ⊥) → false ≡ all (eqb 0) (take n w)
+  not-zero {i} {m} {r} a l f = go (all (eqb 0) (take n w)) refl
     where
       go : (b : Bool) → all (eqb 0) (take n w) ≡ b → false ≡ b
-      go true e = absurd (f (zero-each e j l))
+      go true e = absurd (f (a .none (record { each = λ k q. zero-each e (i + k) (omega arith) })))
       go false e = refl
-
-  -- a scan that has met no other entry
-  pub all-zero : {i : ℕ} → Clean (filled-at w) n i → n ≤ i → true ≡ all (eqb 0) (take n w)
-  all-zero v l = sym (each-zero (λ j k. go j (eqb 0 (getD w j 0)) refl (v .none j (omega arith))))
-    where
-      go : (j : ℕ) (b : Bool) → eqb 0 (getD w j 0) ≡ b → not b ≡ false → getD w j 0 ≡ 0
-      go j true e f = sym (eqb→eq 0 (getD w j 0) (subst T (sym e) tt))
-      go j false e f = absurd (subst T f tt)
 
   -- whatever is written to a room of zeros, once it is cleared it is as it was
   pub restored : {w′ : List ℕ} → all (eqb 0) (take n w) ≡ true → Only 0 n w w′ → Filled 0 n 0 w′ → w′ ≡ w

@@ -60,7 +60,7 @@ pub fn repair(
     let a = 3 * mended.points;
     let b = 3 * mended.faces;
     let counts = mended.report;
-    rows::clear_points(points_room, a, 3 * (p + 3 * n) - a);
+    wiping::wipe_points(points_room, a, 3 * (p + 3 * n) - a);
     wiping::wipe(faces_room, b, 3 * n - b);
     write_report(report, counts);
     wiping::wipe(work, 0, 16 * p + 64 * n + 64);

@@ -34,12 +34,12 @@ module _ (w : List ℕ) (n : ℕ) (h : n ≤ length w) where
       (λ j k. let l : j < n = omega (arith, length-take-le n w h) in rw (getD-take n w j 0 l, f j l) (eqb-refl 0))))
 
   -- so is one of which all blocks were without a bit
-  pub all-zero : {i : ℕ} → Wiped w 0 n w i → n ≤ i → true ≡ all (eqb 0) (take n w)
+  pub all-zero : {i : ℕ} → Wiped 0 0 w 0 n w i → n ≤ i → true ≡ all (eqb 0) (take n w)
   all-zero v l = sym (each-zero (λ j k. ap (λ a. getD w a 0) (sym (zero-add j)) ∙ v .zeros .each j (omega arith)))
 
   -- one block more without a bit
-  pub still : {i m r : ℕ} → Wiped w 0 n w i → BlockGives (n - i) m → i < n → AnyGives w i m r → r ≡ 0 → Wiped w 0 n w (i + m)
-  still {i} {m} {r} v b l a = leaves v b l (subst (λ k. AnyGives w k m r) (sym (zero-add i)) a)
+  pub still : {i m r : ℕ} → Wiped 0 0 w 0 n w i → BlockGives (n - i) m → i < n → AnyGives w i m r → r ≡ 0 → Wiped 0 0 w 0 n w (i + m)
+  still {i} {m} v b l a e = leaves v b l (subst (λ k. Filled k m 0 w) (sym (zero-add i)) (a .clean e))
 
   -- a block with a bit is in none
   pub not-zero : {i m r : ℕ} → AnyGives w i m r → i + m ≤ n → (r ≡ 0 → ⊥) → false ≡ all (eqb 0) (take n w)

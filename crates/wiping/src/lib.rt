@@ -1,10 +1,11 @@
 // Regions of a lent row made zero, block after block: a block is read first, and written only where something stands in it. Reading costs half of writing,
 // and a page that was never written stays with the system.
 ghost use mathlib.Core.Path.{_≡_};
-ghost use Prim.Native.Nat.{_+_, _≤_, _<_};
+ghost use Prim.Native.Nat.{ℕ, _+_, _≤_, _<_};
 ghost use lib.Dec.{eqb};
 ghost use lib.ListN.{length, take};
-ghost use Rattle.rows.specs.Region.{Only, Filled};
+ghost use lib.Ieee.{nan};
+ghost use Rattle.rows.specs.Region.{OnlyOf, HoldsOf, Only, Filled, zero64};
 ghost use Rattle.rules.specs.Lists.{all};
 ghost use Rattle.wiping.specs.Blocks.{BlockGives, AnyGives};
 
@@ -63,6 +64,47 @@ pub fn wipe(work: &mut [u32], from: usize, n: usize)
         let m = block(n - i);
         if any(work, at, m) != 0 {
             rows::clear(work, at, m);
+        }
+        i += m;
+    }
+}
+
+// 0 for +0 alone: the bits of a number, and 1 for what is none.
+fn bits(x: f64) -> u64
+    ensures { λ r. ⌜ (r ≡ 0 → x ≡ zero64) ⌝ }
+{
+    if x != x {
+        return 1;
+    }
+    f64::to_bits(x)
+}
+
+// The bits that are set in any of the n entries from `from` on.
+fn any_bits(points: &[f64], from: usize, n: usize) -> u64
+    requires { ⌜ from + n ≤ length (now points) ⌝ }
+    ensures { λ r. ⌜ (r ≡ 0 → HoldsOf nan from n (λ (i : ℕ). zero64) (now (points .entry))) ⌝ }
+{
+    let mut x: u64 = 0;
+    let mut i = 0;
+    while i < n {
+        x = x | bits(points[from + i]);
+        i += 1;
+    }
+    x
+}
+
+// Makes each of the n entries from `from` on +0.
+pub fn wipe_points(points: &mut [f64], from: usize, n: usize)
+    requires { ⌜ from + n ≤ length (now points) ⌝ }
+    ensures { λ _. ⌜ OnlyOf nan from n (now (points .entry)) (now (points .exit)) ⌝ }
+    ensures { λ _. ⌜ HoldsOf nan from n (λ (i : ℕ). zero64) (now (points .exit)) ⌝ }
+{
+    let mut i = 0;
+    while i < n {
+        let at = from + i;
+        let m = block(n - i);
+        if any_bits(points, at, m) != 0 {
+            rows::clear_points(points, at, m);
         }
         i += m;
     }

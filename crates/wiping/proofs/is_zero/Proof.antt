@@ -7,7 +7,7 @@ use Rattle.wiping.proofs.is_zero.Statement.{statement}
 use Rattle.wiping.proofs.is_zero.Tie as tie
 
 abbrev Inv-loop : tie.InvT-loop
-Inv-loop work n i₀ i = Wiped work 0 n work i
+Inv-loop work n i₀ i = Wiped 0 0 work 0 n work i
 
 abbrev μ-loop : tie.MeasureT-loop
 μ-loop work n i₀ i = n - i

@@ -9,7 +9,7 @@ use Rattle.wiping.proofs.wipe.Statement.{statement}
 use Rattle.wiping.proofs.wipe.Tie as tie
 
 abbrev Inv-loop : tie.InvT-loop
-Inv-loop work₀ from n i₀ work i = Wiped work₀ from n work i
+Inv-loop work₀ from n i₀ work i = Wiped 0 0 work₀ from n work i
 
 abbrev μ-loop : tie.MeasureT-loop
 μ-loop work₀ from n i₀ work i = n - i
@@ -55,7 +55,7 @@ loop-again c =
     let t = b .before in
     ⊎-elim
     (λ w. rw (w .5) (clears (t .before .loop .inv) (b .block .ensures) (t .loop-test .taken) (w .2 .ensures .0) (w .2 .ensures .1)))
-    (λ w. rw (w .1) (leaves (t .before .loop .inv) (b .block .ensures) (t .loop-test .taken) (a .any .ensures) (w .0 .left)))
+    (λ w. rw (w .1) (leaves (t .before .loop .inv) (b .block .ensures) (t .loop-test .taken) (a .any .ensures .clean (w .0 .left))))
     (c .if1 .came)
 
 same-length : tie.Need-same-length Inv-loop μ-loop

@@ -1,0 +1,59 @@
+-- `wiping::any_bits` meets its contract. The invariant: where x has no bit, the first i entries of the region are +0.
+-- Assumes nothing.
+use mathlib.Core.Path.{_≡_}
+use Prim.Native.Nat.{_-_}
+use native.Mathlib.Omega.{arith}
+use Rattle.wiping.proofs.Patterns.{Bitless, begin, again}
+use Rattle.wiping.proofs.any_bits.Statement.{statement}
+use Rattle.wiping.proofs.any_bits.Tie as tie
+
+abbrev Inv-loop : tie.InvT-loop
+Inv-loop points from n x₀ i₀ x i = Bitless points from n x i
+
+abbrev μ-loop : tie.MeasureT-loop
+μ-loop points from n x₀ i₀ x i = n - i
+
+loop-holds : tie.Need-loop-holds Inv-loop μ-loop
+loop-holds c = begin _ _ _
+
+add-bits : tie.Need-add-bits Inv-loop μ-loop
+add-bits c = omega arith
+
+mul-bits : tie.Need-mul-bits Inv-loop μ-loop
+mul-bits c = omega arith
+
+shared-slice-read-bits : tie.Need-shared-slice-read-bits Inv-loop μ-loop
+shared-slice-read-bits c = omega arith
+
+bits-requires : tie.Need-bits-requires Inv-loop μ-loop
+bits-requires c κs = tt
+
+add-i : tie.Need-add-i Inv-loop μ-loop
+add-i c = omega arith
+
+loop-less : tie.Need-loop-less Inv-loop μ-loop
+loop-less c = omega arith
+
+loop-again : tie.Need-loop-again Inv-loop μ-loop
+loop-again c = again (c .before .before .before .loop .inv) (c .before .before .loop-test .taken) (c .bits .ensures)
+
+returns : tie.Need-returns Inv-loop μ-loop
+returns c =
+    let e : c .before .loop .i ≡ c .before .before .before .args .n = omega arith in
+    rw (← e) (c .before .loop .inv .clean)
+
+pub any-bits-spec : {M : Type 1} → statement M
+any-bits-spec =
+    tie.close
+    (tie.spec
+    Inv-loop
+    μ-loop
+    loop-holds
+    add-bits
+    mul-bits
+    shared-slice-read-bits
+    bits-requires
+    add-i
+    loop-less
+    loop-again
+    returns)

@@ -71,6 +71,6 @@ pub fn check(count: usize, faces: &[u32], work: &mut [u32]) -> Checked
         }
     }
     let answer = sound(count, faces, work);
-    rows::clear(work, 0, 16 * count + 64 * (faces.len() / 3) + 64);
+    wiping::wipe(work, 0, 16 * count + 64 * (faces.len() / 3) + 64);
     Checked::Done(answer)
 }

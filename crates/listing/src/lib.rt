@@ -24,7 +24,7 @@ pub fn list_edges(work: &[u32], faces: &[u32], at: usize, m: usize, edges: &mut 
     ensures { λ _. ⌜ ((q : EdgesAsks (now (work .entry)) (now (faces .entry)) at m (now (edges .entry))) → ListGives q (now (edges .exit))) ⌝ }
 {
     put_edges(work, faces, at, m, edges);
-    rows::clear(edges, 2 * m, 2 * faces.len() - 2 * m);
+    wiping::wipe(edges, 2 * m, 2 * faces.len() - 2 * m);
 }
 
 // Writes the length of each of m edges whose ends stand in `edges`.
@@ -45,7 +45,7 @@ pub fn list_lengths(points: &[f64], faces: &[u32], edges: &[u32], m: usize, leng
     ensures { λ _. ⌜ ListLengthsGives (now (points .entry)) (now (faces .entry)) (now (lengths .entry)) (now (lengths .exit)) ⌝ }
 {
     put_lengths(points, edges, m, lengths);
-    rows::clear_points(lengths, m, faces.len() - m);
+    wiping::wipe_points(lengths, m, faces.len() - m);
 }
 
 // Lists for each face the positions of its edges (1,2), (2,0), (0,1) among the unique edges: the runs of its steps 1, 2 and 0.

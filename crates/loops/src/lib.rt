@@ -113,7 +113,7 @@ pub fn list_loops(
     ensures { λ r. ⌜ LoopsGives (now (work .entry)) (now (faces .entry)) points next spare (now (vertices .entry)) (now (ends .entry)) (now (work .exit)) (now (vertices .exit)) (now (ends .exit)) (r .vertices) (r .ends) ⌝ }
 {
     let found = trace(work, points, next, spare, vertices, ends);
-    rows::clear(vertices, found.vertices, faces.len() - found.vertices);
-    rows::clear(ends, found.ends, faces.len() - found.ends);
+    wiping::wipe(vertices, found.vertices, faces.len() - found.vertices);
+    wiping::wipe(ends, found.ends, faces.len() - found.ends);
     found
 }

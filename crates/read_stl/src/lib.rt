@@ -123,6 +123,6 @@ pub fn read_stl(file: &[u8], points: &mut [f64], faces: &mut [u32], work: &mut [
     triples(n, work, faces);
     let p = rows::retain_points(points, work, 5 * n, n);
     rows::clear_points(points, 3 * p, 3 * n - 3 * p);
-    rows::clear(work, 0, 64 * count + 64);
+    wiping::wipe(work, 0, 64 * count + 64);
     Read::Done(3 * p, n)
 }

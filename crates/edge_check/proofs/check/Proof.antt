@@ -23,32 +23,32 @@ sound-requires c κs =
     let s = t .before .before .before .before .before .args in
     is-accepted (s .count) (s .faces .now) (s .work .now) _ (t .before .before .check-check .ensures) (t .enum-told .given .1)
 
-mul-clear : tie.Need-mul-clear
-mul-clear c =
+mul-wipe : tie.Need-mul-wipe
+mul-wipe c =
     let t = c .before .before .before .before .before in
     let s = t .before .before .before .before .before .args in
     omega (arith, (is-accepted (s .count) (s .faces .now) (s .work .now) _ (t .before .before .check-check .ensures) (t .enum-told .given .1)) .input)
 
-mul-clear-2 : tie.Need-mul-clear-2
-mul-clear-2 c =
+mul-wipe-2 : tie.Need-mul-wipe-2
+mul-wipe-2 c =
     let t = c .before .before .before .before .before in
     let s = t .before .before .before .before .before .args in
     omega (arith, (is-accepted (s .count) (s .faces .now) (s .work .now) _ (t .before .before .check-check .ensures) (t .enum-told .given .1)) .input)
 
-add-clear : tie.Need-add-clear
-add-clear c =
+add-wipe : tie.Need-add-wipe
+add-wipe c =
     let t = c .before .before .before .before .before in
     let s = t .before .before .before .before .before .args in
     omega (arith, (is-accepted (s .count) (s .faces .now) (s .work .now) _ (t .before .before .check-check .ensures) (t .enum-told .given .1)) .input)
 
-add-clear-2 : tie.Need-add-clear-2
-add-clear-2 c =
+add-wipe-2 : tie.Need-add-wipe-2
+add-wipe-2 c =
     let t = c .before .before .before .before .before in
     let s = t .before .before .before .before .before .args in
     omega (arith, (is-accepted (s .count) (s .faces .now) (s .work .now) _ (t .before .before .check-check .ensures) (t .enum-told .given .1)) .input)
 
-clear-requires : tie.Need-clear-requires
-clear-requires c κs =
+wipe-requires : tie.Need-wipe-requires
+wipe-requires c κs =
     let t = c .before .before .before .before .before in
     omega (arith, still-fits _ _ _ _ (t .before .before .check-check .ensures) (t .enum-told .given .1) (c .before .before .before .sound .ensures))
 
@@ -58,7 +58,7 @@ same-length c = search needs
 returns-2 : tie.Need-returns-2
 returns-2 c =
     let t = c .before .before .before .before .before .before .before .before in
-    let g = c .before .before .clear .ensures in
+    let g = c .before .before .wipe .ensures in
     is-done _ _ _ _ (t .before .before .check-check .ensures) (t .enum-told .given .1) (c .before .before .before .before .before .before .sound .ensures) (g .0) (g .1)
 
 pub check-spec : {M : Type 1} → statement M
@@ -70,10 +70,10 @@ check-spec =
     enum-known-number
     returns
     sound-requires
-    mul-clear
-    mul-clear-2
-    add-clear
-    add-clear-2
-    clear-requires
+    mul-wipe
+    mul-wipe-2
+    add-wipe
+    add-wipe-2
+    wipe-requires
     same-length
     returns-2)

@@ -8,26 +8,26 @@ use Rattle.listing.proofs.list_edges.Tie as tie
 put-edges-requires : tie.Need-put-edges-requires
 put-edges-requires c κs = search needs
 
-mul-clear : tie.Need-mul-clear
-mul-clear c =
+mul-wipe : tie.Need-mul-wipe
+mul-wipe c =
     let p = c .before .before .before .before .before .before .before .before .pre in
     omega (arith, fewer p, p .room)
 
-mul-clear-2 : tie.Need-mul-clear-2
-mul-clear-2 c = search needs
+mul-wipe-2 : tie.Need-mul-wipe-2
+mul-wipe-2 c = search needs
 
-mul-clear-3 : tie.Need-mul-clear-3
-mul-clear-3 c =
+mul-wipe-3 : tie.Need-mul-wipe-3
+mul-wipe-3 c =
     let p = c .before .before .before .before .before .before .before .before .pre in
     omega (arith, fewer p, p .room)
 
-sub-clear : tie.Need-sub-clear
-sub-clear c =
+sub-wipe : tie.Need-sub-wipe
+sub-wipe c =
     let p = c .before .before .before .before .before .before .before .before .pre in
     omega (arith, fewer p, p .room)
 
-clear-requires : tie.Need-clear-requires
-clear-requires c κs =
+wipe-requires : tie.Need-wipe-requires
+wipe-requires c κs =
     let at-put-edges = c .before .before .before in
     rest-fits (at-put-edges .before .before .before .before .before .pre) (at-put-edges .put-edges .ensures)
 
@@ -36,19 +36,19 @@ same-length c = search needs
 
 returns : tie.Need-returns
 returns c =
-    let at-clear = c .before .before in
-    let at-put-edges = at-clear .before .before .before .before in
-    λ q. room-done q (at-put-edges .put-edges .ensures) (at-clear .clear .ensures .0) (at-clear .clear .ensures .1)
+    let at-wipe = c .before .before in
+    let at-put-edges = at-wipe .before .before .before .before in
+    λ q. room-done q (at-put-edges .put-edges .ensures) (at-wipe .wipe .ensures .0) (at-wipe .wipe .ensures .1)
 
 pub list-edges-spec : {M : Type 1} → statement M
 list-edges-spec =
     tie.close
     (tie.spec
     put-edges-requires
-    mul-clear
-    mul-clear-2
-    mul-clear-3
-    sub-clear
-    clear-requires
+    mul-wipe
+    mul-wipe-2
+    mul-wipe-3
+    sub-wipe
+    wipe-requires
     same-length
     returns)

@@ -7,22 +7,22 @@ use Rattle.listing.proofs.list_lengths.Tie as tie
 put-lengths-requires : tie.Need-put-lengths-requires
 put-lengths-requires c κs = lengths-asks (c .before .before .before .before .before .pre)
 
-sub-clear-points : tie.Need-sub-clear-points
-sub-clear-points c = search needs
+sub-wipe-points : tie.Need-sub-wipe-points
+sub-wipe-points c = search needs
 
-clear-points-requires : tie.Need-clear-points-requires
-clear-points-requires c κs = search needs
+wipe-points-requires : tie.Need-wipe-points-requires
+wipe-points-requires c κs = search needs
 
 same-length : tie.Need-same-length
 same-length c = search needs
 
 returns : tie.Need-returns
 returns c =
-    let at-clear = c .before .before in
-    let at-put = at-clear .before .before .before .before in
-    room-done (at-put .before .before .before .before .before .before .pre) (at-put .put-lengths .ensures) (at-clear .clear-points .ensures .0) (at-clear .clear-points .ensures .1)
+    let at-wipe = c .before .before in
+    let at-put = at-wipe .before .before .before .before in
+    room-done (at-put .before .before .before .before .before .before .pre) (at-put .put-lengths .ensures) (at-wipe .wipe-points .ensures .0) (at-wipe .wipe-points .ensures .1)
 
 pub list-lengths-spec : {M : Type 1} → statement M
 list-lengths-spec =
     tie.close
-    (tie.spec put-lengths-requires sub-clear-points clear-points-requires same-length returns)
+    (tie.spec put-lengths-requires sub-wipe-points wipe-points-requires same-length returns)

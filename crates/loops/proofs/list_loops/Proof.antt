@@ -8,23 +8,23 @@ use Rattle.loops.proofs.list_loops.Tie as tie
 trace-requires : tie.Need-trace-requires
 trace-requires c κs = trace-asks (c .before .before .before .before .before .before .before .pre)
 
-sub-clear : tie.Need-sub-clear
-sub-clear c =
+sub-wipe : tie.Need-sub-wipe
+sub-wipe c =
     let t = c .before .before .before .before .before .before .before .before in
     omega (arith, fits (t .before .before .before .before .before .before .before .before .pre) (t .trace .ensures) .0)
 
-clear-requires : tie.Need-clear-requires
-clear-requires c κs =
+wipe-requires : tie.Need-wipe-requires
+wipe-requires c κs =
     let t = c .before .before .before .before .before .before .before .before in
     fits (t .before .before .before .before .before .before .before .before .pre) (t .trace .ensures) .2
 
-sub-clear-2 : tie.Need-sub-clear-2
-sub-clear-2 c =
+sub-wipe-2 : tie.Need-sub-wipe-2
+sub-wipe-2 c =
     let t = c .before .before .before .before .before .before .before .before .before .before .before .before .before in
     omega (arith, fits (t .before .before .before .before .before .before .before .before .pre) (t .trace .ensures) .1)
 
-clear-requires-2 : tie.Need-clear-requires-2
-clear-requires-2 c κs =
+wipe-requires-2 : tie.Need-wipe-requires-2
+wipe-requires-2 c κs =
     let t = c .before .before .before .before .before .before .before .before .before .before .before .before .before in
     fits (t .before .before .before .before .before .before .before .before .pre) (t .trace .ensures) .3
 
@@ -42,17 +42,17 @@ returns c =
     let u = c .before .before in
     let r = u .before .before .before .before .before in
     let t = r .before .before .before .before .before .before .before .before .before in
-    done (t .before .before .before .before .before .before .before .before .pre) (t .trace .ensures) (r .clear .ensures .0) (r .clear .ensures .1) (u .clear2 .ensures .0) (u .clear2 .ensures .1)
+    done (t .before .before .before .before .before .before .before .before .pre) (t .trace .ensures) (r .wipe .ensures .0) (r .wipe .ensures .1) (u .wipe2 .ensures .0) (u .wipe2 .ensures .1)
 
 pub list-loops-spec : {M : Type 1} → statement M
 list-loops-spec =
     tie.close
     (tie.spec
     trace-requires
-    sub-clear
-    clear-requires
-    sub-clear-2
-    clear-requires-2
+    sub-wipe
+    wipe-requires
+    sub-wipe-2
+    wipe-requires-2
     same-length
     same-length-2
     same-length-3

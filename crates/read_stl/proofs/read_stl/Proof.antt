@@ -205,8 +205,8 @@ clear-points-requires c κs =
     let start = at-stl-check .before .before .before .before .before in
     omega (arith, sizes-after (start .args .file .now) (start .args .points .now) (start .args .faces .now) (start .args .work .now) _ (at-stl-check .stl-check .ensures) (at-enum-told .enum-told .given .1) (at-u32-at .u32-at .result) (at-u32-at .u32-at .ensures) (at-keys .keys .ensures) (at-equal-rows .equal-rows .ensures) (at-flags .flags .ensures) (at-number-kept .number-kept .ensures) (at-corners .corners .ensures) (at-retain-points .retain-points .ensures))
 
-mul-clear : tie.Need-mul-clear
-mul-clear c =
+mul-wipe : tie.Need-mul-wipe
+mul-wipe c =
     let at-clear-points = c .before .before .before in
     let at-retain-points = at-clear-points .before .before .before .before in
     let at-triples = at-retain-points .before .before .before .before .before in
@@ -221,8 +221,8 @@ mul-clear c =
     let start = at-stl-check .before .before .before .before .before in
     omega (arith, sizes-after (start .args .file .now) (start .args .points .now) (start .args .faces .now) (start .args .work .now) _ (at-stl-check .stl-check .ensures) (at-enum-told .enum-told .given .1) (at-u32-at .u32-at .result) (at-u32-at .u32-at .ensures) (at-keys .keys .ensures) (at-equal-rows .equal-rows .ensures) (at-flags .flags .ensures) (at-number-kept .number-kept .ensures) (at-corners .corners .ensures) (at-retain-points .retain-points .ensures))
 
-add-clear : tie.Need-add-clear
-add-clear c =
+add-wipe : tie.Need-add-wipe
+add-wipe c =
     let at-clear-points = c .before .before .before in
     let at-retain-points = at-clear-points .before .before .before .before in
     let at-triples = at-retain-points .before .before .before .before .before in
@@ -237,8 +237,8 @@ add-clear c =
     let start = at-stl-check .before .before .before .before .before in
     omega (arith, sizes-after (start .args .file .now) (start .args .points .now) (start .args .faces .now) (start .args .work .now) _ (at-stl-check .stl-check .ensures) (at-enum-told .enum-told .given .1) (at-u32-at .u32-at .result) (at-u32-at .u32-at .ensures) (at-keys .keys .ensures) (at-equal-rows .equal-rows .ensures) (at-flags .flags .ensures) (at-number-kept .number-kept .ensures) (at-corners .corners .ensures) (at-retain-points .retain-points .ensures))
 
-clear-requires : tie.Need-clear-requires
-clear-requires c κs =
+wipe-requires : tie.Need-wipe-requires
+wipe-requires c κs =
     let at-clear-points = c .before .before .before in
     let at-retain-points = at-clear-points .before .before .before .before in
     let at-triples = at-retain-points .before .before .before .before .before in
@@ -255,8 +255,8 @@ clear-requires c κs =
 
 mul-t13 : tie.Need-mul-t13
 mul-t13 c =
-    let at-clear = c .before .before in
-    let at-clear-points = at-clear .before .before .before .before in
+    let at-wipe = c .before .before in
+    let at-clear-points = at-wipe .before .before .before .before in
     let at-retain-points = at-clear-points .before .before .before .before in
     let at-triples = at-retain-points .before .before .before .before .before in
     let at-number-kept = at-triples .before .before .before .before .before in
@@ -272,8 +272,8 @@ mul-t13 c =
 
 same-length : tie.Need-same-length
 same-length c =
-    let at-clear = c .before .before in
-    let at-clear-points = at-clear .before .before .before .before in
+    let at-wipe = c .before .before in
+    let at-clear-points = at-wipe .before .before .before .before in
     let at-retain-points = at-clear-points .before .before .before .before in
     let at-triples = at-retain-points .before .before .before .before .before in
     let at-number-kept = at-triples .before .before .before .before .before in
@@ -287,8 +287,8 @@ same-length-2 c = search needs
 
 same-length-3 : tie.Need-same-length-3
 same-length-3 c =
-    let at-clear = c .before .before in
-    let at-clear-points = at-clear .before .before .before .before in
+    let at-wipe = c .before .before in
+    let at-clear-points = at-wipe .before .before .before .before in
     let at-retain-points = at-clear-points .before .before .before .before in
     let at-triples = at-retain-points .before .before .before .before .before in
     let at-number-kept = at-triples .before .before .before .before .before in
@@ -296,12 +296,12 @@ same-length-3 c =
     let at-equal-rows = at-flags .before .before .before .before in
     let at-corners = at-equal-rows .before .before .before .before in
     let at-keys = at-corners .before .before .before .before in
-    at-clear .clear .ensures .0 .long ∙ (at-number-kept .number-kept .ensures .only .long ∙ (at-flags .flags .ensures .only .long ∙ (at-equal-rows .equal-rows .ensures .only .long ∙ at-keys .keys .ensures .only .long)))
+    at-wipe .wipe .ensures .0 .long ∙ (at-number-kept .number-kept .ensures .only .long ∙ (at-flags .flags .ensures .only .long ∙ (at-equal-rows .equal-rows .ensures .only .long ∙ at-keys .keys .ensures .only .long)))
 
 returns-2 : tie.Need-returns-2
 returns-2 c =
-    let at-clear = c .before .before in
-    let at-clear-points = at-clear .before .before .before .before in
+    let at-wipe = c .before .before in
+    let at-clear-points = at-wipe .before .before .before .before in
     let at-retain-points = at-clear-points .before .before .before .before in
     let at-triples = at-retain-points .before .before .before .before .before in
     let at-number-kept = at-triples .before .before .before .before .before in
@@ -313,7 +313,7 @@ returns-2 c =
     let at-enum-told = at-u32-at .before in
     let at-stl-check = at-enum-told .before .before in
     let start = at-stl-check .before .before .before .before .before in
-    is-done (start .args .file .now) (start .args .points .now) (start .args .faces .now) (start .args .work .now) _ (at-stl-check .stl-check .ensures) (at-enum-told .enum-told .given .1) (at-u32-at .u32-at .result) (at-u32-at .u32-at .ensures) (at-keys .keys .ensures) (at-equal-rows .equal-rows .ensures) (at-flags .flags .ensures) (at-number-kept .number-kept .ensures) (at-corners .corners .ensures) (at-retain-points .retain-points .ensures) (at-triples .triples .ensures) (at-clear-points .clear-points .ensures .0) (at-clear-points .clear-points .ensures .1) (at-clear .clear .ensures .0) (at-clear .clear .ensures .1)
+    is-done (start .args .file .now) (start .args .points .now) (start .args .faces .now) (start .args .work .now) _ (at-stl-check .stl-check .ensures) (at-enum-told .enum-told .given .1) (at-u32-at .u32-at .result) (at-u32-at .u32-at .ensures) (at-keys .keys .ensures) (at-equal-rows .equal-rows .ensures) (at-flags .flags .ensures) (at-number-kept .number-kept .ensures) (at-corners .corners .ensures) (at-retain-points .retain-points .ensures) (at-triples .triples .ensures) (at-clear-points .clear-points .ensures .0) (at-clear-points .clear-points .ensures .1) (at-wipe .wipe .ensures .0) (at-wipe .wipe .ensures .1)
 
 pub read-stl-spec : {M : Type 1} → statement M
 read-stl-spec =
@@ -344,9 +344,9 @@ read-stl-spec =
     mul-clear-points-3
     sub-clear-points
     clear-points-requires
-    mul-clear
-    add-clear
-    clear-requires
+    mul-wipe
+    add-wipe
+    wipe-requires
     mul-t13
     same-length
     same-length-2

@@ -24,7 +24,7 @@ blank from to l h t =
     rw e at (pass-many (to - from) t (λ j p q. h j p (omega arith)))
 
 -- whether or not a crowded edge was met
-blank-told : {c : ℕ → ℕ} {P : ℕ} {t : State} (from to : ℕ) → from ≤ to → ((j : ℕ) → from ≤ j → j < to → (c (2 * j) ≡ 0) × (c (2 * j + 1) ≡ 0)) → Told c P from t → Told c P to t
+pub blank-told : {c : ℕ → ℕ} {P : ℕ} {t : State} (from to : ℕ) → from ≤ to → ((j : ℕ) → from ≤ j → j < to → (c (2 * j) ≡ 0) × (c (2 * j + 1) ≡ 0)) → Told c P from t → Told c P to t
 blank-told from to l h w = record { going = λ z. blank from to l h (w .going z); met = w .met }
 
 -- a crowded edge is met once for all

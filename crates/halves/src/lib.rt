@@ -202,7 +202,7 @@ fn crowds(v: u64, u: u64, users: u64) -> bool
 }
 
 // Takes in the key k, of which there are n half entries, b of them even.
-fn visit(points: u64, k: u64, n: u64, b: u64, t: State) -> State
+pub fn visit(points: u64, k: u64, n: u64, b: u64, t: State) -> State
     requires { ⌜ VisitAsks points k n b t ⌝ }
     ensures { λ r. ⌜ VisitGives points k n b t r ⌝ }
 {

@@ -126,7 +126,7 @@ fn runs(
         let e = ends[j] as usize;
         let to = from + points;
         widen(buffer, s, e - s, 2 * from, entries);
-        r = halves::walk(entries, 0, e - s, from, to, points, r);
+        r = short_runs::walk(entries, 0, e - s, from, to, points, r);
         from = to;
         s = e;
         j += 1;

@@ -278,13 +278,46 @@ fn large(points: u64, faces: &[u32]) -> Verdict
     halves::judge(points, t)
 }
 
-// The verdict of the edge call on 7 and 8: up to 4096 faces with a small buffer.
+// The verdict of all keys, with buffers of 672 KB.
+fn middle(points: u64, faces: &[u32]) -> Verdict
+    requires { ⌜ Faces points (now faces) ⌝ }
+    ensures { λ r. ⌜ Right (halves (now (faces .entry)) points (length (now (faces .entry)))) points r ⌝ }
+{
+    let mut ends = [0u32; 16384];
+    let mut counts = [0u32; 16384];
+    let mut buffer = [0u32; 131072];
+    let mut entries = [0u64; 4096];
+    let t = all(
+        points,
+        faces,
+        &mut ends,
+        &mut buffer,
+        &mut counts,
+        &mut entries,
+    );
+    if t.crowd {
+        return halves::judge(points, t);
+    }
+    // This is never so, as in `large`.
+    if points < t.bad {
+        return middle(points, faces);
+    }
+    halves::judge(points, t)
+}
+
+// The verdict of the edge call on 7 and 8: up to 4096 faces with a small buffer, up to 65536 corners of 32768 points with larger
+// ones.
 pub fn decide(points: u64, faces: &[u32]) -> Verdict
     requires { ⌜ Faces points (now faces) ⌝ }
     ensures { λ r. ⌜ Right (halves (now (faces .entry)) points (length (now (faces .entry)))) points r ⌝ }
 {
     if faces.len() <= 12288 {
         return halves::decide(points, faces);
+    }
+    if faces.len() <= 65536 {
+        if points <= 32768 {
+            return middle(points, faces);
+        }
     }
     large(points, faces)
 }

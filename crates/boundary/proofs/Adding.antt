@@ -1,5 +1,5 @@
 -- What one more boundary edge makes of the rows. Assumes nothing.
-use mathlib.Core.Path.{_≡_, refl, sym, ap, _∙_}
+use mathlib.Core.Path.{_≡_, sym, ap, _∙_}
 use mathlib.Core.Bool.{Bool, false}
 use mathlib.Core.List.{List, [], _∷_, _++_, append-nil}
 use Prim.Native.Nat.{ℕ, _+_, _*_, _≤_, _<_}
@@ -16,6 +16,7 @@ use Rattle.rules.specs.Steps.{Step, step}
 use Rattle.rules.proofs.Lists.{filter-append, filter-cons}
 use Rattle.rules.proofs.Counting.{count-append, count-one, count-not}
 use Rattle.boundary.specs.Rows.{onward, Counted, AddAsks, AddGives}
+use Rattle.boundary.proofs.Alike.{empty}
 
 -- ---- a list with one more at its end
 
@@ -29,14 +30,14 @@ module _ {A : Type 0} (p : A → Bool) (b : List A) (s : A) where
   count-stays e = omega (arith, count-append p b (s ∷ []), count-not p s e)
 
   -- so what passes is as before
-  pub filter-stays : p s ≡ false → filter p (b ++ (s ∷ [])) ≡ filter p b
+  filter-stays : p s ≡ false → filter p (b ++ (s ∷ [])) ≡ filter p b
   filter-stays e = filter-append p b (s ∷ []) ∙ ap (λ l. filter p b ++ l) none ∙ append-nil (filter p b)
     where
       none : filter p (s ∷ []) ≡ []
       none = unfold filter in (rw e)
 
   -- where it passes, it is the last
-  pub filter-more : T (p s) → filter p (b ++ (s ∷ [])) ≡ filter p b ++ (s ∷ [])
+  filter-more : T (p s) → filter p (b ++ (s ∷ [])) ≡ filter p b ++ (s ∷ [])
   filter-more t = filter-append p b (s ∷ []) ∙ ap (λ l. filter p b ++ l) one
     where
       one : filter p (s ∷ []) ≡ s ∷ []
@@ -46,10 +47,6 @@ module _ {A : Type 0} (p : A → Bool) (b : List A) (s : A) where
   filter-one : T (p s) → count p b ≡ 0 → filter p (b ++ (s ∷ [])) ≡ s ∷ []
   unfolding count
   filter-one t z = filter-more t ∙ ap (λ l. l ++ (s ∷ [])) (empty (filter p b) z)
-    where
-      empty : (xs : List A) → length xs ≡ 0 → xs ≡ []
-      empty [] e = refl
-      empty (x ∷ xs) e = absurd (omega arith)
 
 -- the boundary goes on from v along a first edge there
 onward-new : (P : ℕ) (b : List Step) (v u : ℕ) → count (λ s. eqb (s .from) v) b ≡ 0 → onward P (b ++ (step v u ∷ [])) v ≡ u

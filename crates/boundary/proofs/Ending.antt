@@ -63,10 +63,9 @@ module _ {w xs : List ℕ} {P at m row : ℕ} (p : BoundaryAsks w xs P at m row)
       both = only-both (only-more (omega arith) (omega arith) o₁) (only-more (omega arith) (omega arith) o₂)
 
       -- they say what is so of no edges
-      pub trace-asks : TraceAsks w₂ xs P at row
+      pub trace-asks : TraceAsks w₂ xs P at m row
       trace-asks =
           record {
-            m = m;
             points = p .points;
             tabled = tabled-kept both (p .apart) (p .tabled);
             fit = omega (arith, p .fit, both .long);

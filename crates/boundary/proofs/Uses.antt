@@ -7,7 +7,7 @@ use native.Mathlib.Omega.{arith}
 use native.Mathlib.Decide.{decLt}
 use borrow.Author.Tests.{lt-ltb, le-ltb}
 use lib.ListN.{length, getD, length-map}
-use lib.Dec.{eqb, ltb}
+use lib.Dec.{ltb}
 use Rattle.rows.specs.Region.{part}
 use Rattle.rows.proofs.Regions.{length-part}
 use Rattle.rules.specs.Mesh.{facesOf}
@@ -19,10 +19,9 @@ use Rattle.rules.proofs.Firsts.{none-at-fault, at-fault}
 use Rattle.table.specs.Entries.{stepAt, keysOf}
 use Rattle.table.specs.Table.{Tabled, runOf}
 use Rattle.table.proofs.Ids.{edges-keys}
-use Rattle.table.proofs.Places.{none, placed, run-in, run-number, key-at, start-least, last-start}
-use Rattle.table.proofs.Handing.{AtRun, at-run}
-use Rattle.table.proofs.Theorems.{beginning, runs-fit, edge-count, users-row}
-use Rattle.boundary.specs.Rows.{FirstOf, long, alone, AloneAsks}
+use Rattle.table.proofs.Places.{none, placed, run-in, run-number, key-at, starts-rise, start-least, last-start}
+use Rattle.table.proofs.Theorems.{beginning, entry, begins-is, runs-fit, edge-count, users-row}
+use Rattle.boundary.specs.Rows.{FirstOf, long}
 
 -- more than two lie between a and b
 more-than-two : (k a b c : ℕ) → k ≡ c - a → c ≡ b → ltb 2 k ≡ ltb (a + 2) b
@@ -90,17 +89,14 @@ module _ {w xs : List ℕ} {P at m : ℕ} (t : Tabled w xs P false at m) where
             ∙ sym (key-at (t .asks) (t .table) (q .0) (p .0) (q .1) (q .2) (q .3)) ∙ ap (λ k. edge (stepAt (facesOf xs) k)) (p .2);
       }
 
-  -- the edge of an entry occurs once where its run has one entry
-  pub alone-is :
-      (i : ℕ) → i < length xs
-      → eqb (getD w (at + 4 * length xs + getD w (at + 2 * length xs + i) 0 + 1) 0 - getD w (at + 4 * length xs + getD w (at + 2 * length xs + i) 0) 0) 1
-      ≡ alone (facesOf xs) (stepAt (facesOf xs) i)
-  alone-is i h =
-      let a = at-entry i h in
-      let r = getD w (at + 2 * length xs + i) 0 in
-      ap (λ k. eqb (k - beginning t r) 1) (sym (after-is r)) ∙ ap (λ k. eqb k 1) (sym (run-length r (a .here)))
-      ∙ ap (λ e. eqb (length (users (facesOf xs) e)) 1) (a .key)
+  -- the first entry of run r is along edge r
+  pub first-along : (r : ℕ) → r < m → edge (stepAt (facesOf xs) (entry t (beginning t r))) ≡ getD (edges P (facesOf xs)) r none
+  first-along r h =
+      let k : r < length (keysOf false P (facesOf xs)) = omega (arith, t .count) in
+      let s = starts-rise false P (facesOf xs) r k in
+      let b = begins-is t r (omega arith) in
+      key-at (t .asks) (t .table) r (beginning t r) k (omega arith) (omega arith) ∙ ap (λ es. getD es r none) (edges-keys P (facesOf xs))
 
--- what the read of entry i's run asks
-pub alone-bounds : {w xs : List ℕ} {at i : ℕ} (p : AloneAsks w xs at i) → AtRun w xs at (p .m) (getD w (at + 2 * length xs + i) 0)
-alone-bounds {w} {xs} {at} {i} p = at-run (p .tabled) (getD w (at + 2 * length xs + i) 0) (at-entry (p .tabled) i (p .here) .here)
+  -- edge r occurs as often as run r has entries, as the code reads it
+  pub often-is : (r : ℕ) → r < m → length (users (facesOf xs) (getD (edges P (facesOf xs)) r none)) ≡ getD w (at + 4 * length xs + r + 1) 0 - getD w (at + 4 * length xs + r) 0
+  often-is r h = run-length r h ∙ ap (λ k. k - beginning t r) (after-is r)

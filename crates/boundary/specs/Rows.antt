@@ -8,7 +8,7 @@ use lib.Dec.{eqb, leb, ltb}
 use Rattle.rows.specs.Region.{Apart, Only, Holds}
 use Rattle.rules.specs.Lists.{filter, count, each}
 use Rattle.rules.specs.Mesh.{Face, facesOf}
-use Rattle.rules.specs.Steps.{Step, step, steps, edge, users}
+use Rattle.rules.specs.Steps.{Step, step, edge, same, users, edges}
 use Rattle.rules.specs.Refusal.{decided}
 use Rattle.rules.specs.Edges.{no7, no8, boundary}
 use Rattle.refuse.specs.Verdicts.{checkOf}
@@ -34,9 +34,9 @@ uneven w begins ends v = not (eqb (getD w (begins + v) 0) (getD w (ends + v) 0) 
 abbrev pub alone : List Face → Step → Bool
 alone fs s = eqb (length (users fs (edge s))) 1
 
--- the boundary edges among the first i steps
-unfoldable pub boundaryTo : List Face → ℕ → List Step
-boundaryTo fs i = filter (alone fs) (take i (each steps fs))
+-- the boundary edges along the first r of the different edges
+unfoldable pub boundaryTo : ℕ → List Face → ℕ → List Step
+boundaryTo P fs r = each (λ e. filter (λ s. same e (edge s)) (boundary fs)) (take r (edges P fs))
 
 -- where the boundary b goes on from v: the rules' `next`, but P where no edge begins at v
 unfoldable pub onward : ℕ → List Step → ℕ → ℕ
@@ -47,13 +47,6 @@ pub record Counted (P row : ℕ) (b : List Step) (w : List ℕ) : Type 0 where
   pub begins : Holds row P (λ v. count (λ s. eqb (s .from) v) b) w
   pub ends : Holds (row + P) P (λ v. count (λ s. eqb (s .to) v) b) w
   pub next : (v : ℕ) → v < P → count (λ s. eqb (s .from) v) b ≤ 1 → getD w (row + 2 * P + v) 0 ≡ onward P b v
-
--- entry i of some table of the undirected edges
-pub record AloneAsks (w xs : List ℕ) (at i : ℕ) : Type 0 where
-  pub P : ℕ
-  pub m : ℕ
-  pub tabled : Tabled w xs P false at m
-  pub here : i < length xs
 
 -- an edge from v to u, and room for one more
 pub record AddAsks (w : List ℕ) (P row v u : ℕ) : Type 0 where
@@ -69,9 +62,8 @@ pub record AddGives (w : List ℕ) (P row v u : ℕ) (w′ : List ℕ) : Type 0 
   pub only : Only row (3 * P) w w′
   pub counted : (b : List Step) → Counted P row b w → Counted P row (b ++ (step v u ∷ [])) w′
 
--- a table, and apart from it rows that say what is so of no edges
-pub record TraceAsks (w xs : List ℕ) (P at row : ℕ) : Type 0 where
-  pub m : ℕ
+-- a table with m runs, and apart from it rows that say what is so of no edges
+pub record TraceAsks (w xs : List ℕ) (P at m row : ℕ) : Type 0 where
   pub points : P < 2 ^ 32
   pub tabled : Tabled w xs P false at m
   pub fit : row + 3 * P ≤ length w

@@ -17,9 +17,7 @@ use refuse::Verdict;
 ghost use mathlib.Core.Path.{_≡_};
 ghost use Prim.Native.Nat.{_+_, _≤_, _<_};
 ghost use lib.ListN.{length};
-ghost use Rattle.rules.specs.Mesh.{facesOf};
-ghost use Rattle.table.specs.Entries.{stepAt};
-ghost use Rattle.boundary.specs.Rows.{FirstOf, long, uneven, alone, AloneAsks, AddAsks, AddGives, TraceAsks, TraceGives, BoundaryAsks, BoundaryGives};
+ghost use Rattle.boundary.specs.Rows.{FirstOf, long, uneven, AddAsks, AddGives, TraceAsks, TraceGives, BoundaryAsks, BoundaryGives};
 
 // The first of the m runs that has more than two entries, or m: the runs begin where the row `starts` says, which has one entry more.
 fn crowded(work: &[u32], starts: usize, m: usize) -> usize
@@ -38,18 +36,6 @@ fn crowded(work: &[u32], starts: usize, m: usize) -> usize
     m
 }
 
-// Whether the edge of entry i occurs once: its run has one entry.
-fn alone(work: &[u32], faces: &[u32], at: usize, i: usize) -> bool
-    requires { ⌜ AloneAsks (now work) (now faces) at i ⌝ }
-    ensures { λ r. ⌜ r ≡ alone (facesOf (now (faces .entry))) (stepAt (facesOf (now (faces .entry))) i) ⌝ }
-{
-    let n = faces.len();
-    let r = work[at + 2 * n + i] as usize;
-    let from = work[at + 4 * n + r];
-    let to = work[at + 4 * n + r + 1];
-    to - from == 1
-}
-
 // Counts the boundary edge from v to u at both ends, and notes where it ends.
 fn add(work: &mut [u32], count: usize, row: usize, v: usize, u: usize)
     requires { ⌜ AddAsks (now work) count row v u ⌝ }
@@ -60,19 +46,23 @@ fn add(work: &mut [u32], count: usize, row: usize, v: usize, u: usize)
     work[row + 2 * count + v] = u as u32;
 }
 
-// Counts all boundary edges: those that occur once, in the direction of their face.
-fn trace(work: &mut [u32], faces: &[u32], count: usize, at: usize, row: usize)
-    requires { ⌜ TraceAsks (now work) (now faces) count at row ⌝ }
+// Counts all boundary edges, in the direction of their face: an edge occurs once where its run has one entry, and the runs are met in order.
+fn trace(work: &mut [u32], faces: &[u32], count: usize, at: usize, m: usize, row: usize)
+    requires { ⌜ TraceAsks (now work) (now faces) count at m row ⌝ }
     ensures { λ _. ⌜ TraceGives (now (work .entry)) (now (faces .entry)) count at row (now (work .exit)) ⌝ }
 {
-    let n = faces.len();
-    let mut i = 0;
-    while i < n {
-        if alone(work, faces, at, i) {
-            let j = table::after(i);
-            add(work, count, row, faces[i] as usize, faces[j] as usize);
+    let order = at + 3 * faces.len();
+    let starts = at + 4 * faces.len();
+    let mut r = 0;
+    while r < m {
+        let from = work[starts + r] as usize;
+        let to = work[starts + r + 1] as usize;
+        if to - from == 1 {
+            let id = work[order + from] as usize;
+            let j = table::after(id);
+            add(work, count, row, faces[id] as usize, faces[j] as usize);
         }
-        i += 1;
+        r += 1;
     }
 }
 
@@ -114,7 +104,7 @@ pub fn boundary(
     }
     rows::clear(work, row, 2 * count);
     rows::fill(work, row + 2 * count, count, count as u32);
-    trace(work, faces, count, at, row);
+    trace(work, faces, count, at, m, row);
     let v = uneven(work, count, row);
     if v < count {
         return Verdict::Refused(8, v);

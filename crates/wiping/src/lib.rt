@@ -1,5 +1,5 @@
-// Regions of a lent row made zero, block after block: a block is read first, and written only where something stands in it. Reading costs half of writing,
-// and a page that was never written stays with the system.
+// Regions of a lent row made zero, block after block: a block is read first, and written only where something stands in it. A room that is zero already
+// stays unwritten, and a page that was never written stays with the system.
 ghost use mathlib.Core.Path.{_≡_};
 ghost use Prim.Native.Nat.{ℕ, _+_, _≤_, _<_};
 ghost use lib.Dec.{eqb};

@@ -38,11 +38,11 @@ module _ (w : List ℕ) (n : ℕ) (h : n ≤ length w) where
   all-zero v l = sym (each-zero (λ j k. ap (λ a. getD w a 0) (sym (zero-add j)) ∙ v .zeros .each j (omega arith)))
 
   -- one block more without a bit
-  pub still : {i m r : ℕ} → Wiped 0 0 w 0 n w i → BlockGives (n - i) m → i < n → AnyGives w i m r → r ≡ 0 → Wiped 0 0 w 0 n w (i + m)
+  pub still : {i m r : ℕ} → Wiped 0 0 w 0 n w i → BlockGives (n - i) m → i < n → AnyGives 0 0 w i m r → r ≡ 0 → Wiped 0 0 w 0 n w (i + m)
   still {i} {m} v b l a e = leaves v b l (subst (λ k. Filled k m 0 w) (sym (zero-add i)) (a .clean e))
 
   -- a block with a bit is in none
-  pub not-zero : {i m r : ℕ} → AnyGives w i m r → i + m ≤ n → (r ≡ 0 → ⊥) → false ≡ all (eqb 0) (take n w)
+  pub not-zero : {i m r : ℕ} → AnyGives 0 0 w i m r → i + m ≤ n → (r ≡ 0 → ⊥) → false ≡ all (eqb 0) (take n w)
   not-zero {i} {m} {r} a l f = go (all (eqb 0) (take n w)) refl
     where
       go : (b : Bool) → all (eqb 0) (take n w) ≡ b → false ≡ b

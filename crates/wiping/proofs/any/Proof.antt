@@ -1,56 +1,34 @@
--- `wiping::any` meets its contract. The invariant: x has the bits of the first i entries of the region.
--- Assumes nothing.
-use mathlib.Core.Path.{_≡_}
-use Prim.Native.Nat.{_-_, _≤_}
-use native.Mathlib.Omega.{arith}
-use Rattle.wiping.specs.Blocks.{AnyGives}
-use Rattle.wiping.proofs.Blocks.{any-none, any-more}
+-- `wiping::any` meets its contract: four quarters, and what is left behind them. Assumes nothing.
+use Rattle.wiping.proofs.Blocks.{any-rest}
+use borrow.Author.Needs.{needs}
 use Rattle.wiping.proofs.any.Statement.{statement}
 use Rattle.wiping.proofs.any.Tie as tie
 
-abbrev Inv-loop : tie.InvT-loop
-Inv-loop work from n x₀ i₀ x i = (i ≤ n) × AnyGives work from i x
+mul-taken : tie.Need-mul-taken
+mul-taken c = search needs
 
-abbrev μ-loop : tie.MeasureT-loop
-μ-loop work from n x₀ i₀ x i = n - i
+any-in-four-requires : tie.Need-any-in-four-requires
+any-in-four-requires c κs = search needs
 
-loop-holds : tie.Need-loop-holds Inv-loop μ-loop
-loop-holds c = (omega arith, any-none _ _)
+add-any-in-line : tie.Need-add-any-in-line
+add-any-in-line c = search needs
 
-add-x : tie.Need-add-x Inv-loop μ-loop
-add-x c = omega arith
+sub-any-in-line : tie.Need-sub-any-in-line
+sub-any-in-line c = search needs
 
-mul-x : tie.Need-mul-x Inv-loop μ-loop
-mul-x c = omega arith
+any-in-line-requires : tie.Need-any-in-line-requires
+any-in-line-requires c κs = search needs
 
-shared-slice-read-x : tie.Need-shared-slice-read-x Inv-loop μ-loop
-shared-slice-read-x c = omega arith
-
-add-i : tie.Need-add-i Inv-loop μ-loop
-add-i c = omega arith
-
-loop-less : tie.Need-loop-less Inv-loop μ-loop
-loop-less c = omega arith
-
-loop-again : tie.Need-loop-again Inv-loop μ-loop
-loop-again c = (omega arith, any-more (c .before .before .loop .inv .1))
-
-returns : tie.Need-returns Inv-loop μ-loop
-returns c =
-    let e : c .before .loop .i ≡ c .before .before .args .n = omega arith in
-    rw (← e) (c .before .loop .inv .1)
+returns : tie.Need-returns
+returns c = any-rest (c .before .any-in-four .ensures) (c .any-in-line .ensures)
 
 pub any-spec : {M : Type 1} → statement M
 any-spec =
     tie.close
     (tie.spec
-    Inv-loop
-    μ-loop
-    loop-holds
-    add-x
-    mul-x
-    shared-slice-read-x
-    add-i
-    loop-less
-    loop-again
+    mul-taken
+    any-in-four-requires
+    add-any-in-line
+    sub-any-in-line
+    any-in-line-requires
     returns)

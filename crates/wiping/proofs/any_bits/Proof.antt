@@ -1,59 +1,34 @@
--- `wiping::any_bits` meets its contract. The invariant: where x has no bit, the first i entries of the region are +0.
--- Assumes nothing.
-use mathlib.Core.Path.{_≡_}
-use Prim.Native.Nat.{_-_}
-use native.Mathlib.Omega.{arith}
-use Rattle.wiping.proofs.Patterns.{Bitless, begin, again}
+-- `wiping::any_bits` meets its contract: four quarters, and what is left behind them. Assumes nothing.
+use Rattle.wiping.proofs.Blocks.{any-rest}
+use borrow.Author.Needs.{needs}
 use Rattle.wiping.proofs.any_bits.Statement.{statement}
 use Rattle.wiping.proofs.any_bits.Tie as tie
 
-abbrev Inv-loop : tie.InvT-loop
-Inv-loop points from n x₀ i₀ x i = Bitless points from n x i
+mul-taken : tie.Need-mul-taken
+mul-taken c = search needs
 
-abbrev μ-loop : tie.MeasureT-loop
-μ-loop points from n x₀ i₀ x i = n - i
+bits-in-four-requires : tie.Need-bits-in-four-requires
+bits-in-four-requires c κs = search needs
 
-loop-holds : tie.Need-loop-holds Inv-loop μ-loop
-loop-holds c = begin _ _ _
+add-bits-in-line : tie.Need-add-bits-in-line
+add-bits-in-line c = search needs
 
-add-bits : tie.Need-add-bits Inv-loop μ-loop
-add-bits c = omega arith
+sub-bits-in-line : tie.Need-sub-bits-in-line
+sub-bits-in-line c = search needs
 
-mul-bits : tie.Need-mul-bits Inv-loop μ-loop
-mul-bits c = omega arith
+bits-in-line-requires : tie.Need-bits-in-line-requires
+bits-in-line-requires c κs = search needs
 
-shared-slice-read-bits : tie.Need-shared-slice-read-bits Inv-loop μ-loop
-shared-slice-read-bits c = omega arith
-
-bits-requires : tie.Need-bits-requires Inv-loop μ-loop
-bits-requires c κs = tt
-
-add-i : tie.Need-add-i Inv-loop μ-loop
-add-i c = omega arith
-
-loop-less : tie.Need-loop-less Inv-loop μ-loop
-loop-less c = omega arith
-
-loop-again : tie.Need-loop-again Inv-loop μ-loop
-loop-again c = again (c .before .before .before .loop .inv) (c .before .before .loop-test .taken) (c .bits .ensures)
-
-returns : tie.Need-returns Inv-loop μ-loop
-returns c =
-    let e : c .before .loop .i ≡ c .before .before .before .args .n = omega arith in
-    rw (← e) (c .before .loop .inv .clean)
+returns : tie.Need-returns
+returns c = any-rest (c .before .bits-in-four .ensures) (c .bits-in-line .ensures)
 
 pub any-bits-spec : {M : Type 1} → statement M
 any-bits-spec =
     tie.close
     (tie.spec
-    Inv-loop
-    μ-loop
-    loop-holds
-    add-bits
-    mul-bits
-    shared-slice-read-bits
-    bits-requires
-    add-i
-    loop-less
-    loop-again
+    mul-taken
+    bits-in-four-requires
+    add-bits-in-line
+    sub-bits-in-line
+    bits-in-line-requires
     returns)

@@ -57,7 +57,7 @@ loop-again c =
     let t = b .before in
     ⊎-elim
     (λ w. rw (w .5) (clears (t .before .loop .inv) (b .block .ensures) (t .loop-test .taken) (w .2 .ensures .0) (w .2 .ensures .1)))
-    (λ w. rw (w .1) (leaves (t .before .loop .inv) (b .block .ensures) (t .loop-test .taken) (a .any-bits .ensures (w .0 .left))))
+    (λ w. rw (w .1) (leaves (t .before .loop .inv) (b .block .ensures) (t .loop-test .taken) (a .any-bits .ensures .clean (w .0 .left))))
     (c .if1 .came)
 
 same-length : tie.Need-same-length Inv-loop μ-loop

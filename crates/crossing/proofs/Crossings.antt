@@ -10,10 +10,10 @@ use lib.Dec.{eqb}
 use lib.ListN.{length, getD}
 use Rattle.rows.specs.Region.{part, Out.below}
 use Rattle.rows.proofs.Regions.{only-both, only-more}
-use Rattle.rules.specs.Lists.{through}
+use Rattle.rules.specs.Lists.{filter, through}
 use Rattle.rules.specs.Mesh.{facesOf, face, exchanged}
 use Rattle.rules.specs.Steps.{Step, step, steps, edge, opposite, walks, users, edges}
-use Rattle.rules.specs.Pass4.{remark, across}
+use Rattle.rules.specs.Pass4.{remark, meet, across}
 use Rattle.rules.proofs.Rising.{All, all-imp}
 use Rattle.rules.proofs.Flat.{face-in}
 use Rattle.table.specs.Entries.{stepAt, keysOf}
@@ -26,11 +26,13 @@ use Rattle.orienting.proofs.Turns.{users-turned, edge-opposite}
 use Rattle.orienting.proofs.Reached.{Along, across-is}
 use Rattle.orienting.proofs.Room.{remark-sound}
 use Rattle.orienting.proofs.Users.{users-walk}
-use Rattle.reaching.specs.Walking.{walkOf}
+use Rattle.reaching.specs.Walking.{walkOf, facesIn, RunAsks, MeetRunGives}
 use Rattle.reaching.proofs.Reading.{turned-at}
 use Rattle.reaching.proofs.Visiting.{ready-as}
-use Rattle.crossing.specs.Crossing.{Crossed, SettleAsks, SettleGives, WhoAsks, disagreeing, MarkAsks, MarkGives, CrossAsks, CrossGives, ThreeAsks, ThreeGives, FaceAsks, FaceGives}
-use Rattle.crossing.proofs.Keeping.{Later, later-both, later-reach, later-remark, later-to, going-kept}
+use Rattle.crossing.specs.Crossing.{Crossed, SettleAsks, SettleGives, WhoAsks, disagreeing, MarkAsks, MarkGives, ManyAsks, CrossAsks, CrossGives, ThreeAsks, ThreeGives, FaceAsks, FaceGives}
+use Rattle.crossing.proofs.Keeping.{Later, later-both, later-reach, later-remark, later-meets, later-to, going-kept}
+use Rattle.crossing.proofs.Settling.{settle-bounds, from, to, run-asks, faces-are}
+use Rattle.crossing.proofs.Settling as settling
 
 -- ---- the run of an entry
 
@@ -46,8 +48,6 @@ module _ {w xs : List ℕ} {P at m : ℕ} (t : Tabled w xs P false at m) (id : �
       ap (λ i. edge (stepAt (facesOf xs) i)) (sym (j .2)) ∙ key-at (t .asks) (t .table) (r .0) (j .0) (r .1) (r .2) (r .3)
       in
       (omega (arith, e, r .1, t .count), ap (λ q. getD (edges P (facesOf xs)) q none) e ∙ ap (λ es. getD es (r .0) none) (sym (edges-keys P (facesOf xs))) ∙ sym k)
-
--- ---- cross
 
 -- what the code reads
 pub record Bounds (w xs : List ℕ) (n id : ℕ) : Type 0 where
@@ -72,6 +72,70 @@ noted {w} {xs} {n} {r} x y c = go (decLe x y)
     go (no h) =
         let e : edge (step x y) ≡ opposite (step x y) = unfold edge opposite in ap₂ (λ a b. step a b) (omega arith) (omega arith) in
         rw (lt-leb x y (omega arith)) (c .down ∙ ap l e)
+
+-- the users of an edge are those of the faces as they were
+users-are : (xs : List ℕ) (n : ℕ) (w : List ℕ) (s : Step) → users (walkOf (facesOf xs) n w .faces) (edge s) ≡ users (facesOf xs) (edge s)
+unfolding walkOf
+users-are xs n w s = users-turned (part w 3 n) (facesOf xs) (edge s)
+
+-- ---- cross_many
+
+module _ {w xs : List ℕ} {n j r x y : ℕ} (p : ManyAsks w xs n j r x y) where
+  -- the users are along the step
+  all-along : All (Along (step x y) (walkOf (facesOf xs) n w)) (users (walkOf (facesOf xs) n w .faces) (edge (step x y)))
+  all-along =
+      let v = walkOf (facesOf xs) n w in
+      let a = p .settle .going .ready .sound .flags in
+      let b = p .settle .going .ready .sound .whole in
+      all-imp (λ i. (i < length (v .faces)) × ((walks (face (v .faces) i) (step x y) || walks (face (v .faces) i) (opposite (step x y))) ≡ true)) (Along (step x y) v)
+      (λ i h. (omega (arith, h .0), h .0, h .1)) (users (v .faces) (edge (step x y))) (users-walk (v .faces) (step x y))
+
+  module _ {w₁ : List ℕ} (h : SettleGives w xs n r x y w₁) where
+    -- the number may be read
+    pub who-asks : WhoAsks w₁ n r
+    who-asks = record { few = p .settle .going .ready .fits .few; fit = omega (arith, p .settle .going .ready .fits .fit, h .only .long); here = h .few }
+
+    -- and the mark set
+    pub mark-asks : MarkAsks w₁ n j
+    mark-asks = record { few = p .settle .going .ready .fits .few; fit = omega (arith, p .settle .going .ready .fits .fit, h .only .long); here = p .here }
+
+    module _ {known : ℕ} (e : known ≡ disagreeing w₁ n r x y) {w₂ : List ℕ} (m : MarkGives w₁ n j known w₂) where
+      -- the rule's crossing
+      walk-is : walkOf (facesOf xs) n w₂ ≡ across j (walkOf (facesOf xs) n w) (step x y)
+      walk-is =
+          let us = users (facesOf xs) (edge (step x y)) in
+          let k : known ≡ lone (n + 1) (through (reach (step x y)) (walkOf (facesOf xs) n w) us .faces) (opposite (step x y)) us =
+          e ∙ noted x y (h .crossed) ∙ ap (λ v. lone (n + 1) (v .faces) (opposite (step x y)) us) (h .walk)
+          in
+          m .walk (facesOf xs)
+          ∙ ap₂ (λ c v. remark (not (other j c)) v) k (h .walk)
+          ∙ sym (across-is (n + 1) j (walkOf (facesOf xs) n w) (step x y) us (omega (arith, p .here)) (p .seen) (users-are xs n w (step x y)) (rw (users-are xs n w (step x y)) at all-along))
+
+      -- a mark changes no face
+      marked-later : Later (walkOf (facesOf xs) n w₁) (walkOf (facesOf xs) n w₂)
+      marked-later = later-to (later-remark (not (other j known)) (walkOf (facesOf xs) n w₁)) (m .walk (facesOf xs))
+
+      -- face j stays visited
+      still : getD (walkOf (facesOf xs) n w₂ .visited) j false ≡ true
+      still =
+          let a : Later (walkOf (facesOf xs) n w) (walkOf (facesOf xs) n w₁) = later-to (later-reach (step x y) (walkOf (facesOf xs) n w) (users (facesOf xs) (edge (step x y)))) (h .walk) in
+          later-both a marked-later .stay j (p .seen) .0
+
+      -- face j has crossed
+      pub cross-gives : CrossGives w xs n j x y w₂
+      cross-gives =
+          let g = h .going in
+          record {
+            only = only-both (h .only) (only-more (omega arith) (omega arith) (m .only));
+            going =
+                going-kept marked-later g
+                (ready-as (g .ready) (m .only .long) (omega (arith, m .only .same 0 (below (omega arith)), g .ready .top)) (m .walk (facesOf xs)) (remark-sound (g .ready .sound) (not (other j known))))
+                (only-more (omega arith) (omega arith) (m .only));
+            walk = walk-is;
+            stay = still;
+          }
+
+-- ---- cross
 
 module _ {w xs : List ℕ} {n j id x y : ℕ} (p : CrossAsks w xs n j id x y) where
   -- they hold
@@ -99,64 +163,30 @@ module _ {w xs : List ℕ} {n j id x y : ℕ} (p : CrossAsks w xs n j id x y) wh
       let k = run-of (p .going .tabled) id (omega (arith, u)) in
       record { going = p .going; here = k .0; along = k .1 ∙ p .along }
 
-  -- the users are along the step
-  all-along : All (Along (step x y) (walkOf (facesOf xs) n w)) (users (walkOf (facesOf xs) n w .faces) (edge (step x y)))
-  all-along =
+  -- what it reads of the run
+  pub run-bounds : settling.Bounds w xs n r
+  run-bounds = settle-bounds settle-asks
+
+  -- so it may be gone through
+  pub meet-asks : RunAsks w xs n (from settle-asks) (to settle-asks)
+  meet-asks = run-asks settle-asks
+
+  -- or the edge may be crossed by what is noted
+  pub many-asks : ManyAsks w xs n j r x y
+  many-asks = record { settle = settle-asks; here = p .here; seen = p .seen }
+
+  -- face j has met the users of the edge
+  pub meet-gives : {w′ : List ℕ} → MeetRunGives w xs n j (from settle-asks) (to settle-asks) x y w′ → CrossGives w xs n j x y w′
+  unfolding across
+  meet-gives g =
       let v = walkOf (facesOf xs) n w in
-      let a = p .going .ready .sound .flags in
-      let b = p .going .ready .sound .whole in
-      all-imp (λ i. (i < length (v .faces)) × ((walks (face (v .faces) i) (step x y) || walks (face (v .faces) i) (opposite (step x y))) ≡ true)) (Along (step x y) v)
-      (λ i h. (omega (arith, h .0), h .0, h .1)) (users (v .faces) (edge (step x y))) (users-walk (v .faces) (step x y))
-
-  -- and are those of the faces as they were
-  users-are : users (walkOf (facesOf xs) n w .faces) (edge (step x y)) ≡ users (facesOf xs) (edge (step x y))
-  unfolding walkOf
-  users-are = users-turned (part w 3 n) (facesOf xs) (edge (step x y))
-
-  module _ {w₁ : List ℕ} (h : SettleGives w xs n r x y w₁) where
-    -- the number may be read
-    pub who-asks : WhoAsks w₁ n r
-    who-asks = record { few = p .going .ready .fits .few; fit = omega (arith, p .going .ready .fits .fit, h .only .long); here = h .few }
-
-    -- and the mark set
-    pub mark-asks : MarkAsks w₁ n j
-    mark-asks = record { few = p .going .ready .fits .few; fit = omega (arith, p .going .ready .fits .fit, h .only .long); here = p .here }
-
-    module _ {known : ℕ} (e : known ≡ disagreeing w₁ n r x y) {w₂ : List ℕ} (m : MarkGives w₁ n j known w₂) where
-      -- the rule's crossing
-      walk-is : walkOf (facesOf xs) n w₂ ≡ across j (walkOf (facesOf xs) n w) (step x y)
-      walk-is =
-          let us = users (facesOf xs) (edge (step x y)) in
-          let k : known ≡ lone (n + 1) (through (reach (step x y)) (walkOf (facesOf xs) n w) us .faces) (opposite (step x y)) us =
-          e ∙ noted x y (h .crossed) ∙ ap (λ v. lone (n + 1) (v .faces) (opposite (step x y)) us) (h .walk)
-          in
-          m .walk (facesOf xs)
-          ∙ ap₂ (λ c v. remark (not (other j c)) v) k (h .walk)
-          ∙ sym (across-is (n + 1) j (walkOf (facesOf xs) n w) (step x y) us (omega (arith, p .here)) (p .seen) users-are (rw users-are at all-along))
-
-      -- a mark changes no face
-      marked-later : Later (walkOf (facesOf xs) n w₁) (walkOf (facesOf xs) n w₂)
-      marked-later = later-to (later-remark (not (other j known)) (walkOf (facesOf xs) n w₁)) (m .walk (facesOf xs))
-
-      -- face j stays visited
-      still : getD (walkOf (facesOf xs) n w₂ .visited) j false ≡ true
-      still =
-          let a : Later (walkOf (facesOf xs) n w) (walkOf (facesOf xs) n w₁) = later-to (later-reach (step x y) (walkOf (facesOf xs) n w) (users (facesOf xs) (edge (step x y)))) (h .walk) in
-          later-both a marked-later .stay j (p .seen) .0
-
-      -- face j has crossed
-      pub cross-gives : CrossGives w xs n j x y w₂
-      cross-gives =
-          let g = h .going in
-          record {
-            only = only-both (h .only) (only-more (omega arith) (omega arith) (m .only));
-            going =
-                going-kept marked-later g
-                (ready-as (g .ready) (m .only .long) (omega (arith, m .only .same 0 (below (omega arith)), g .ready .top)) (m .walk (facesOf xs)) (remark-sound (g .ready .sound) (not (other j known))))
-                (only-more (omega arith) (omega arith) (m .only));
-            walk = walk-is;
-            stay = still;
-          }
+      let later = later-to (later-meets (step x y) v (filter (λ i. not (eqb i j)) (facesIn w (from settle-asks) (to settle-asks)))) (g .walk) in
+      record {
+        only = only-more (omega arith) (omega arith) (g .only);
+        going = going-kept later (p .going) (g .ready) (g .only);
+        walk = g .walk ∙ ap (λ us. through (meet (step x y)) v (filter (λ i. not (eqb i j)) us)) (faces-are settle-asks ∙ sym (users-are xs n w (step x y)));
+        stay = later .stay j (p .seen) .0;
+      }
 
 -- ---- cross_three
 

@@ -10,13 +10,14 @@ use Rattle.rows.proofs.Regions.{part-eq}
 use Rattle.rules.specs.Lists.{filter, through}
 use Rattle.rules.specs.Mesh.{Face, facesOf, face}
 use Rattle.rules.specs.Steps.{Step, walks, opposite, users}
-use Rattle.rules.specs.Pass4.{Walk, remark}
+use Rattle.rules.specs.Pass4.{Walk, remark, meet}
 use Rattle.rules.proofs.Rising.{All, all-imp}
 use Rattle.table.proofs.Places.{tabled-kept}
 use Rattle.orienting.specs.Reaching.{reach, sole, lone}
 use Rattle.orienting.proofs.Reached.{stays}
 use Rattle.reaching.specs.Walking.{stackOf, walkOf, Ready}
 use Rattle.reaching.proofs.Reading.{stack-same}
+use Rattle.reaching.proofs.Neighbours.{meet-new, meet-seen}
 use Rattle.crossing.specs.Crossing.{Crossed, Going}
 
 -- a later walk: visited faces stay visited and as they are
@@ -35,6 +36,20 @@ later-reach s v ms = record { stay = λ i h. stays s i v ms h }
 pub later-remark : (a : Bool) (v : Walk) → Later v (remark a v)
 unfolding remark
 later-remark a v = record { stay = λ i h. (h, refl) }
+
+-- a face was met
+later-meet : (s : Step) (v : Walk) (i : ℕ) → Later v (meet s v i)
+later-meet s v i = go (getD (v .visited) i false) refl
+  where
+    go : (b : Bool) → getD (v .visited) i false ≡ b → Later v (meet s v i)
+    go true e = rw (← meet-seen s v i e) (later-remark (walks (face (v .faces) i) (opposite s)) v)
+    go false e = rw (← meet-new s v i e) (unfold through in later-reach s v (i ∷ []))
+
+-- faces were met
+pub later-meets : (s : Step) (v : Walk) (ms : List ℕ) → Later v (through (meet s) v ms)
+unfolding through
+later-meets s v [] = record { stay = λ i h. (h, refl) }
+later-meets s v (m ∷ ms) = later-both (later-meet s v m) (later-meets s (meet s v m) ms)
 
 -- an equal walk
 pub later-as : {v w : Walk} → w ≡ v → Later v w

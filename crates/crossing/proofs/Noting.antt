@@ -1,22 +1,20 @@
 -- Who disagrees is noted of an edge, and read again; the component is marked. Assumes nothing.
-use mathlib.Core.Path.{_≡_, sym, ap, _∙_}
-use mathlib.Core.Bool.{not, or-false, or-true}
+use mathlib.Core.Path.{_≡_, sym, _∙_}
+use mathlib.Core.Bool.{not, or-false}
 use mathlib.Core.List.{List}
 use Prim.Native.Nat.{ℕ, suc, _+_, _*_, _≤_, _<_}
 use native.Mathlib.Omega.{arith}
 use native.Mathlib.Numerals.{add-one}
 use borrow.Author.Tests.{eq-eqb, ne-eqb, le-leb, lt-leb}
-use lib.Dec.{eqb}
 use lib.ListN.{length, getD, set, length-set}
 use lib.Seq.{getD-set-same, getD-set-other}
-use Rattle.rows.specs.Region.{part}
-use Rattle.rows.proofs.Regions.{part-eq, only-none, only-both, only-set}
+use Rattle.rows.proofs.Regions.{only-none, only-both, only-set}
 use Rattle.rules.specs.Mesh.{facesOf}
 use Rattle.rules.specs.Steps.{step}
 use Rattle.rules.specs.Pass4.{remark}
 use Rattle.orienting.specs.Reaching.{other, lone}
-use Rattle.reaching.specs.Walking.{stackOf, walkOf, facesIn}
-use Rattle.reaching.proofs.Reading.{stack-same}
+use Rattle.reaching.specs.Walking.{walkOf, facesIn}
+use Rattle.reaching.proofs.Neighbours.{marked}
 use Rattle.crossing.specs.Crossing.{NoteAsks, NoteGives, WhoAsks, disagreeing, MarkAsks, MarkGives}
 
 -- ---- note
@@ -98,20 +96,9 @@ module _ {w : List ℕ} {n j known : ℕ} (p : MarkAsks w n j) where
 
   -- another
   pub mark-other : (known ≡ 0 → ⊥) → (known ≡ j + 1 → ⊥) → MarkGives w n j known (set w 2 1)
-  unfolding other remark walkOf
+  unfolding other
   mark-other z e =
-      let l = length-set w 2 1 in
       record {
         only = only-set w 2 1 (omega arith) (omega arith);
-        walk = λ fs.
-            let s : part (set w 2 1) 3 n ≡ part w 3 n =
-            part-eq (set w 2 1) w 3 3 n (omega (arith, p .fit)) (omega (arith, p .fit)) (λ i q. getD-set-other w 2 (3 + i) 1 0 (λ y. absurd (omega arith)))
-            in
-            let top : getD (set w 2 1) 0 0 ≡ getD w 0 0 = getD-set-other w 2 0 1 0 (λ y. absurd (omega arith)) in
-            let k : stackOf (set w 2 1) (3 + n) (getD (set w 2 1) 0 0) ≡ stackOf w (3 + n) (getD w 0 0) =
-            ap (stackOf (set w 2 1) (3 + n)) top ∙ stack-same w (set w 2 1) (3 + n) (getD w 0 0) (λ i q. getD-set-other w 2 (3 + n + i) 1 0 (λ y. absurd (omega arith)))
-            in
-            let x : getD (set w 2 1) 1 0 ≡ getD w 1 0 = getD-set-other w 2 1 1 0 (λ y. absurd (omega arith)) in
-            let m : getD (set w 2 1) 2 0 ≡ 1 = getD-set-same w 2 1 0 (omega (arith, p .fit)) in
-            rw (s, k, x, m, ne-eqb known 0 z, ne-eqb known (suc j) (λ q. e (q ∙ sym (add-one j))), or-true (not (eqb (getD w 2 0) 0)));
+        walk = λ fs. rw (ne-eqb known 0 z, ne-eqb known (suc j) (λ q. e (q ∙ sym (add-one j)))) (marked fs n w (omega (arith, p .fit)));
       }

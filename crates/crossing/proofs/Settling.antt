@@ -53,13 +53,13 @@ module _ {w xs : List ℕ} {n r x y : ℕ} (p : SettleAsks w xs n r x y) where
       }
 
   -- the run's places
-  abbrev order : ℕ
+  abbrev pub order : ℕ
   order = 3 + 11 * n + 3 * length xs
 
-  abbrev from : ℕ
+  abbrev pub from : ℕ
   from = order + getD w (3 + 11 * n + 4 * length xs + r) 0
 
-  abbrev to : ℕ
+  abbrev pub to : ℕ
   to = order + getD w (3 + 11 * n + 4 * length xs + (r + 1)) 0
 
   -- its entries are entries of faces
@@ -78,7 +78,7 @@ module _ {w xs : List ℕ} {n r x y : ℕ} (p : SettleAsks w xs n r x y) where
       record { ready = p .going .ready; rising = omega (arith, u); behind = omega arith; inside = omega (arith, u); entries = entry-in }
 
   -- and of the users of the edge
-  faces-are : facesIn w from to ≡ users (facesOf xs) (edge (step x y))
+  pub faces-are : facesIn w from to ≡ users (facesOf xs) (edge (step x y))
   faces-are =
       let u = settle-bounds in
       let e : to - from ≡ getD w (3 + 11 * n + 4 * length xs + (r + 1)) 0 - getD w (3 + 11 * n + 4 * length xs + r) 0 = omega arith in

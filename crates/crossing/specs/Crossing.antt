@@ -79,6 +79,12 @@ pub record MarkGives (w : List ℕ) (n j known : ℕ) (w′ : List ℕ) : Type 0
   pub only : Only 2 1 w w′
   pub walk : (fs : List Face) → walkOf fs n w′ ≡ remark (not (other j known)) (walkOf fs n w)
 
+-- face j is visited, and the step from x to y is along edge r
+pub record ManyAsks (w xs : List ℕ) (n j r x y : ℕ) : Type 0 where
+  pub settle : SettleAsks w xs n r x y
+  pub here : j < n
+  pub seen : getD (walkOf (facesOf xs) n w .visited) j false ≡ true
+
 -- face j is visited, and the step from x to y is along the edge of entry `id`
 pub record CrossAsks (w xs : List ℕ) (n j id x y : ℕ) : Type 0 where
   pub going : Going w xs n

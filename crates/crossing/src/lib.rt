@@ -1,5 +1,6 @@
-// Face after face crosses its edges in the walk of pass 4 of document 01. An edge is gone through in full only when it is first crossed: then all
-// its users are visited, none of them changes again, and for each way across it one number tells which users disagree.
+// Face after face crosses its edges in the walk of pass 4 of document 01. An edge of at most two entries is gone through each time. Another is only
+// when it is first crossed: then all its users are visited, none of them changes again, and for each way across it one number tells which users
+// disagree.
 //
 // The rows, for n faces; those before 3 + 2n are of `reaching`:
 //
@@ -8,7 +9,7 @@
 //     3 + 11n       15n + 1 + P     the undirected table of the faces, see `table`
 ghost use mathlib.Core.Path.{_≡_};
 ghost use Prim.Native.Nat.{min, max};
-ghost use Rattle.crossing.specs.Crossing.{NoteAsks, NoteGives, SettleAsks, SettleGives, WhoAsks, disagreeing, MarkAsks, MarkGives, CrossAsks, CrossGives, ThreeAsks, ThreeGives, FaceAsks, FaceGives};
+ghost use Rattle.crossing.specs.Crossing.{NoteAsks, NoteGives, SettleAsks, SettleGives, WhoAsks, disagreeing, MarkAsks, MarkGives, ManyAsks, CrossAsks, CrossGives, ThreeAsks, ThreeGives, FaceAsks, FaceGives};
 
 // The lower of two.
 fn lower(x: u32, y: u32) -> u32
@@ -94,15 +95,31 @@ fn mark(work: &mut [u32], n: usize, j: usize, known: u32)
     }
 }
 
+// Face j crosses edge r, which may have many users, by the step from x to y: what is noted tells whether to mark.
+fn cross_many(work: &mut [u32], faces: &[u32], n: usize, j: usize, r: usize, x: u32, y: u32)
+    requires { ⌜ ManyAsks (now work) (now faces) n j r x y ⌝ }
+    ensures { λ _. ⌜ CrossGives (now (work .entry)) (now (faces .entry)) n j x y (now (work .exit)) ⌝ }
+{
+    open(work, faces, n, r, x, y);
+    let known = who(work, n, r, x, y);
+    mark(work, n, j, known);
+}
+
 // Face j crosses the edge of entry `id` by the step from x to y.
 fn cross(work: &mut [u32], faces: &[u32], n: usize, j: usize, id: usize, x: u32, y: u32)
     requires { ⌜ CrossAsks (now work) (now faces) n j id x y ⌝ }
     ensures { λ _. ⌜ CrossGives (now (work .entry)) (now (faces .entry)) n j x y (now (work .exit)) ⌝ }
 {
     let r = work[3 + 11 * n + 2 * faces.len() + id] as usize;
-    open(work, faces, n, r, x, y);
-    let known = who(work, n, r, x, y);
-    mark(work, n, j, known);
+    let order = 3 + 11 * n + 3 * faces.len();
+    let starts = 3 + 11 * n + 4 * faces.len();
+    let from = order + work[starts + r] as usize;
+    let to = order + work[starts + (r + 1)] as usize;
+    if to - from <= 2 {
+        reaching::meet_run(work, faces, n, j, from, to, x, y);
+    } else {
+        cross_many(work, faces, n, j, r, x, y);
+    }
 }
 
 // Face j crosses its edges, with corners a, b and c as it stands; `first` and `last` are the entries of its first and its last step.

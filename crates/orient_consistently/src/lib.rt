@@ -1,6 +1,6 @@
-// Orientation, the first half of pass 4 of document 01, in linear time: an edge is gone through in full only when it is first crossed. Then all
-// its users are visited, none of them changes again, and for each way across it one number tells which users disagree: 0 for none, 1 + i for
-// face i alone, n + 1 for several.
+// Orientation, the first half of pass 4 of document 01, in linear time: an edge of more than two entries is gone through in full only when it is
+// first crossed. Then all its users are visited, none of them changes again, and for each way across it one number tells which users disagree: 0 for
+// none, 1 + i for face i alone, n + 1 for several.
 //
 // The work room, for n faces and P points; its first 3 + 26n + 1 + P entries are used:
 //

@@ -6,10 +6,10 @@ use Prim.Native.Nat.{ℕ, zero, suc, _+_, _-_, _*_, _/_, _≤_, _<_}
 use lib.Dec.{eqb}
 use lib.ListN.{length, getD}
 use Rattle.rows.specs.Region.{part, Only}
-use Rattle.rules.specs.Lists.{through}
+use Rattle.rules.specs.Lists.{filter, through}
 use Rattle.rules.specs.Mesh.{Face, facesOf, face}
 use Rattle.rules.specs.Steps.{Step, step, walks}
-use Rattle.rules.specs.Pass4.{Walk, visit}
+use Rattle.rules.specs.Pass4.{Walk, visit, meet}
 use Rattle.orienting.specs.Reaching.{reach, sole, turnedBy}
 use Rattle.orienting.proofs.Room.{Sound}
 
@@ -91,6 +91,18 @@ pub record ReachRunGives (w xs : List ℕ) (n from to x y : ℕ) (w′ : List �
   pub only : Only 0 (3 + 2 * n) w w′
   pub ready : Ready w′ xs n
   pub walk : walkOf (facesOf xs) n w′ ≡ through (reach (step x y)) (walkOf (facesOf xs) n w) (facesIn w from to)
+
+-- face j, which crosses by the step from x to y, has met face i, unless that is itself
+pub record MeetGives (w xs : List ℕ) (n j i x y : ℕ) (w′ : List ℕ) : Type 0 where
+  pub only : Only 0 (3 + 2 * n) w w′
+  pub ready : Ready w′ xs n
+  pub walk : walkOf (facesOf xs) n w′ ≡ through (meet (step x y)) (walkOf (facesOf xs) n w) (filter (λ k. not (eqb k j)) (i ∷ []))
+
+-- it has met the faces of a run
+pub record MeetRunGives (w xs : List ℕ) (n j from to x y : ℕ) (w′ : List ℕ) : Type 0 where
+  pub only : Only 0 (3 + 2 * n) w w′
+  pub ready : Ready w′ xs n
+  pub walk : walkOf (facesOf xs) n w′ ≡ through (meet (step x y)) (walkOf (facesOf xs) n w) (filter (λ k. not (eqb k j)) (facesIn w from to))
 
 -- what is known once face i is met: nothing new if it makes the step t
 abbrev pub met : List Face → ℕ → Step → ℕ → ℕ → ℕ

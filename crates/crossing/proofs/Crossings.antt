@@ -1,10 +1,10 @@
 -- One face crosses its edges. Assumes nothing.
 use mathlib.Core.Path.{_≡_, sym, ap, ap₂, _∙_}
-use mathlib.Core.Bool.{true, false, not, _||_, cond}
-use mathlib.Core.List.{List}
+use mathlib.Core.Bool.{Bool, true, false, not, _||_, cond}
+use mathlib.Core.List.{List, [], _∷_}
 use Prim.Native.Nat.{ℕ, _+_, _-_, _*_, _%_, _≤_, _<_}
 use native.Mathlib.Omega.{arith}
-use native.Mathlib.Decide.{decLe}
+use native.Mathlib.Decide.{ℕ-discrete, decLe}
 use borrow.Author.Tests.{ne-eqb, le-leb, lt-leb}
 use lib.Dec.{eqb}
 use lib.ListN.{length, getD}
@@ -26,13 +26,11 @@ use Rattle.orienting.proofs.Turns.{users-turned, edge-opposite}
 use Rattle.orienting.proofs.Reached.{Along, across-is}
 use Rattle.orienting.proofs.Room.{remark-sound}
 use Rattle.orienting.proofs.Users.{users-walk}
-use Rattle.reaching.specs.Walking.{walkOf, facesIn, RunAsks, MeetRunGives}
+use Rattle.reaching.specs.Walking.{walkOf, ReachAsks, MeetGives}
 use Rattle.reaching.proofs.Reading.{turned-at}
 use Rattle.reaching.proofs.Visiting.{ready-as}
-use Rattle.crossing.specs.Crossing.{Crossed, SettleAsks, SettleGives, WhoAsks, disagreeing, MarkAsks, MarkGives, ManyAsks, CrossAsks, CrossGives, ThreeAsks, ThreeGives, FaceAsks, FaceGives}
+use Rattle.crossing.specs.Crossing.{Leads, Crossed, SettleAsks, SettleGives, WhoAsks, disagreeing, MarkAsks, MarkGives, ManyAsks, CrossAsks, CrossGives, ThreeAsks, ThreeGives, FaceAsks, FaceGives}
 use Rattle.crossing.proofs.Keeping.{Later, later-both, later-reach, later-remark, later-meets, later-to, going-kept}
-use Rattle.crossing.proofs.Settling.{settle-bounds, from, to, run-asks, faces-are}
-use Rattle.crossing.proofs.Settling as settling
 
 -- ---- the run of an entry
 
@@ -53,9 +51,10 @@ module _ {w xs : List ℕ} {P at m : ℕ} (t : Tabled w xs P false at m) (id : �
 pub record Bounds (w xs : List ℕ) (n id : ℕ) : Type 0 where
   pub few : n ≤ 4194304
   pub long : length xs ≡ 3 * n
-  pub fit : 3 + 11 * n + 5 * length xs + 1 ≤ length w
+  pub fit : 3 + 14 * n + 5 * length xs + 1 ≤ length w
   pub entry : id < 3 * n
-  pub run : getD w (3 + 11 * n + 2 * length xs + id) 0 < 3 * n
+  pub run : getD w (3 + 14 * n + 2 * length xs + id) 0 < 3 * n
+  pub across : getD w (3 + 11 * n + id) 0 ≤ n
 
 -- who disagrees with the step is noted for its way
 noted : {w xs : List ℕ} {n r : ℕ} (x y : ℕ) → Crossed w xs n (edge (step x y)) r
@@ -138,7 +137,12 @@ module _ {w xs : List ℕ} {n j r x y : ℕ} (p : ManyAsks w xs n j r x y) where
 -- ---- cross
 
 module _ {w xs : List ℕ} {n j id x y : ℕ} (p : CrossAsks w xs n j id x y) where
-  -- they hold
+  -- what is noted of the face across is 0 or leads to a face
+  few-across : Dec (getD w (3 + 11 * n + id) 0 ≡ 0) → getD w (3 + 11 * n + id) 0 ≤ n
+  few-across (yes z) = omega arith
+  few-across (no z) = p .going .mated .each id (p .entry) z .few
+
+  -- the bounds hold
   pub cross-bounds : Bounds w xs n id
   cross-bounds =
       let g = p .going in
@@ -149,12 +153,13 @@ module _ {w xs : List ℕ} {n j id x y : ℕ} (p : CrossAsks w xs n j id x y) wh
         long = f .long;
         fit = omega (arith, g .tabled .asks .fit);
         entry = p .entry;
-        run = omega (arith, k .0, at-run (g .tabled) (getD w (3 + 11 * n + 2 * length xs + id) 0) (k .0) .runs, f);
+        run = omega (arith, k .0, at-run (g .tabled) (getD w (3 + 14 * n + 2 * length xs + id) 0) (k .0) .runs, f);
+        across = few-across (ℕ-discrete (getD w (3 + 11 * n + id) 0) 0);
       }
 
   -- the number of the edge
   abbrev r : ℕ
-  r = getD w (3 + 11 * n + 2 * length xs + id) 0
+  r = getD w (3 + 14 * n + 2 * length xs + id) 0
 
   -- so the step is along that edge
   pub settle-asks : SettleAsks w xs n r x y
@@ -163,47 +168,52 @@ module _ {w xs : List ℕ} {n j id x y : ℕ} (p : CrossAsks w xs n j id x y) wh
       let k = run-of (p .going .tabled) id (omega (arith, u)) in
       record { going = p .going; here = k .0; along = k .1 ∙ p .along }
 
-  -- what it reads of the run
-  pub run-bounds : settling.Bounds w xs n r
-  run-bounds = settle-bounds settle-asks
-
-  -- so it may be gone through
-  pub meet-asks : RunAsks w xs n (from settle-asks) (to settle-asks)
-  meet-asks = run-asks settle-asks
-
   -- or the edge may be crossed by what is noted
   pub many-asks : ManyAsks w xs n j r x y
   many-asks = record { settle = settle-asks; here = p .here; seen = p .seen }
 
-  -- face j has met the users of the edge
-  pub meet-gives : {w′ : List ℕ} → MeetRunGives w xs n j (from settle-asks) (to settle-asks) x y w′ → CrossGives w xs n j x y w′
-  unfolding across
-  meet-gives g =
-      let v = walkOf (facesOf xs) n w in
-      let later = later-to (later-meets (step x y) v (filter (λ i. not (eqb i j)) (facesIn w (from settle-asks) (to settle-asks)))) (g .walk) in
-      record {
-        only = only-more (omega arith) (omega arith) (g .only);
-        going = going-kept later (p .going) (g .ready) (g .only);
-        walk = g .walk ∙ ap (λ us. through (meet (step x y)) v (filter (λ i. not (eqb i j)) us)) (faces-are settle-asks ∙ sym (users-are xs n w (step x y)));
-        stay = later .stay j (p .seen) .0;
-      }
+  module _ (z : getD w (3 + 11 * n + id) 0 ≡ 0 → ⊥) where
+    -- the face across
+    leads : Leads xs n id (getD w (3 + 11 * n + id) 0)
+    leads = p .going .mated .each id (p .entry) z
+
+    -- it may be met
+    pub meet-asks : ReachAsks w xs n (getD w (3 + 11 * n + id) 0 - 1)
+    meet-asks = record { ready = p .going .ready; here = omega (arith, leads .few) }
+
+    -- face j has met the users of the edge, as there is none besides
+    pub meet-gives : {w′ : List ℕ} → MeetGives w xs n j (getD w (3 + 11 * n + id) 0 - 1) x y w′ → CrossGives w xs n j x y w′
+    unfolding across
+    meet-gives g =
+        let v = walkOf (facesOf xs) n w in
+        let q : ℕ → Bool = λ i. not (eqb i j) in
+        let later = later-to (later-meets (step x y) v (filter q ((getD w (3 + 11 * n + id) 0 - 1) ∷ []))) (g .walk) in
+        let us : filter q ((getD w (3 + 11 * n + id) 0 - 1) ∷ []) ≡ filter q (users (v .faces) (edge (step x y))) =
+        sym (rw (p .own) at (leads .others)) ∙ ap (λ e. filter q (users (facesOf xs) e)) (p .along) ∙ ap (filter q) (sym (users-are xs n w (step x y)))
+        in
+        record {
+          only = only-more (omega arith) (omega arith) (g .only);
+          going = going-kept later (p .going) (g .ready) (g .only);
+          walk = g .walk ∙ ap (through (meet (step x y)) v) us;
+          stay = later .stay j (p .seen) .0;
+        }
 
 -- ---- cross_three
 
 module _ {w xs : List ℕ} {n j a b c first last : ℕ} (p : ThreeAsks w xs n j a b c first last) where
   -- the first edge
   pub first-asks : CrossAsks w xs n j first a b
-  first-asks = record { going = p .going; here = p .here; seen = p .seen; entry = p .is-first; along = p .along-first }
+  first-asks = record { going = p .going; here = p .here; seen = p .seen; entry = p .is-first; own = p .own-first; along = p .along-first }
 
   module _ {w₁ : List ℕ} (h : CrossGives w xs n j a b w₁) where
     -- the second
     pub second-asks : CrossAsks w₁ xs n j (3 * j + 1) b c
-    second-asks = record { going = h .going; here = p .here; seen = h .stay; entry = omega (arith, p .here); along = p .along-second }
+    second-asks = record { going = h .going; here = p .here; seen = h .stay; entry = omega (arith, p .here); own = omega arith; along = p .along-second }
 
     module _ {w₂ : List ℕ} (k : CrossGives w₁ xs n j b c w₂) where
       -- the last
       pub last-asks : CrossAsks w₂ xs n j last c a
-      last-asks = record { going = k .going; here = p .here; seen = k .stay; entry = p .is-last; along = p .along-last }
+      last-asks = record { going = k .going; here = p .here; seen = k .stay; entry = p .is-last; own = p .own-last; along = p .along-last }
 
       -- all three, in order
       pub three-gives : {w₃ : List ℕ} → CrossGives w₂ xs n j c a w₃ → ThreeGives w xs n j a b c w₃
@@ -279,6 +289,8 @@ module _ {w xs : List ℕ} {n j : ℕ} (p : FaceAsks w xs n j) where
         seen = p .seen;
         is-first = omega (arith, p .here);
         is-last = omega (arith, p .here);
+        own-first = omega arith;
+        own-last = omega arith;
         along-first = ap edge entry-first;
         along-second = ap edge entry-second;
         along-last = ap edge entry-last;
@@ -293,6 +305,8 @@ module _ {w xs : List ℕ} {n j : ℕ} (p : FaceAsks w xs n j) where
         seen = p .seen;
         is-first = omega (arith, p .here);
         is-last = omega (arith, p .here);
+        own-first = omega arith;
+        own-last = omega arith;
         along-first = ap edge entry-last ∙ turned-edge c a;
         along-second = ap edge entry-second ∙ turned-edge b c;
         along-last = ap edge entry-first ∙ turned-edge a b;

@@ -19,6 +19,7 @@ use Rattle.reaching.specs.Walking.{stackOf, walkOf, Ready}
 use Rattle.reaching.proofs.Reading.{stack-same}
 use Rattle.reaching.proofs.Neighbours.{meet-new, meet-seen}
 use Rattle.crossing.specs.Crossing.{Crossed, Going}
+use Rattle.crossing.proofs.Mating.{mated-kept}
 
 -- a later walk: visited faces stay visited and as they are
 pub record Later (v v′ : Walk) : Type 0 where
@@ -116,6 +117,7 @@ module _ {w w′ xs : List ℕ} {n : ℕ} (later : Later (walkOf (facesOf xs) n 
         points = g .points;
         runs = g .runs;
         tabled = tabled-kept o (after (omega arith)) (g .tabled);
+        mated = mated-kept o (omega arith) (g .mated);
         crossed = λ q h z.
             crossed-kept (o .same (3 + 2 * n + 3 * q + 1) (above (omega arith))) (o .same (3 + 2 * n + 3 * q + 2) (above (omega arith)))
             (g .crossed q h (λ e. z (o .same (3 + 2 * n + 3 * q) (above (omega arith)) ∙ e)));

@@ -1,3 +1,5 @@
+-- `Mating` has which face is across an edge of at most two entries.
+pub mod Mating
 -- `Keeping` has what stays known while the walk goes on.
 pub mod Keeping
 -- `Noting` has who disagrees, noted of an edge.

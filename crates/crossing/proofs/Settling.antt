@@ -21,16 +21,17 @@ use Rattle.orienting.proofs.Users.{users-walk}
 use Rattle.reaching.specs.Walking.{walkOf, facesIn, RunAsks, ReachRunGives}
 use Rattle.reaching.proofs.Visiting.{ready-as}
 use Rattle.crossing.specs.Crossing.{Crossed, NoteAsks, NoteGives, SettleAsks, SettleGives}
+use Rattle.crossing.proofs.Mating.{mated-kept}
 use Rattle.crossing.proofs.Keeping.{Later, later-reach, later-to, walk-kept, crossed-kept}
 
 -- what the code reads of run r
 pub record Bounds (w xs : List ℕ) (n r : ℕ) : Type 0 where
   pub few : n ≤ 4194304
   pub long : length xs ≡ 3 * n
-  pub fit : 3 + 11 * n + 5 * length xs + 1 ≤ length w
+  pub fit : 3 + 14 * n + 5 * length xs + 1 ≤ length w
   pub here : r < 3 * n
-  pub rise : getD w (3 + 11 * n + 4 * length xs + r) 0 < getD w (3 + 11 * n + 4 * length xs + (r + 1)) 0
-  pub last : getD w (3 + 11 * n + 4 * length xs + (r + 1)) 0 ≤ length xs
+  pub rise : getD w (3 + 14 * n + 4 * length xs + r) 0 < getD w (3 + 14 * n + 4 * length xs + (r + 1)) 0
+  pub last : getD w (3 + 14 * n + 4 * length xs + (r + 1)) 0 ≤ length xs
 
 module _ {w xs : List ℕ} {n r x y : ℕ} (p : SettleAsks w xs n r x y) where
   -- as many faces as said
@@ -53,14 +54,14 @@ module _ {w xs : List ℕ} {n r x y : ℕ} (p : SettleAsks w xs n r x y) where
       }
 
   -- the run's places
-  abbrev pub order : ℕ
-  order = 3 + 11 * n + 3 * length xs
+  abbrev order : ℕ
+  order = 3 + 14 * n + 3 * length xs
 
-  abbrev pub from : ℕ
-  from = order + getD w (3 + 11 * n + 4 * length xs + r) 0
+  abbrev from : ℕ
+  from = order + getD w (3 + 14 * n + 4 * length xs + r) 0
 
-  abbrev pub to : ℕ
-  to = order + getD w (3 + 11 * n + 4 * length xs + (r + 1)) 0
+  abbrev to : ℕ
+  to = order + getD w (3 + 14 * n + 4 * length xs + (r + 1)) 0
 
   -- its entries are entries of faces
   entry-in : (k : ℕ) → from ≤ k → k < to → getD w k 0 < 3 * n
@@ -78,10 +79,10 @@ module _ {w xs : List ℕ} {n r x y : ℕ} (p : SettleAsks w xs n r x y) where
       record { ready = p .going .ready; rising = omega (arith, u); behind = omega arith; inside = omega (arith, u); entries = entry-in }
 
   -- and of the users of the edge
-  pub faces-are : facesIn w from to ≡ users (facesOf xs) (edge (step x y))
+  faces-are : facesIn w from to ≡ users (facesOf xs) (edge (step x y))
   faces-are =
       let u = settle-bounds in
-      let e : to - from ≡ getD w (3 + 11 * n + 4 * length xs + (r + 1)) 0 - getD w (3 + 11 * n + 4 * length xs + r) 0 = omega arith in
+      let e : to - from ≡ getD w (3 + 14 * n + 4 * length xs + (r + 1)) 0 - getD w (3 + 14 * n + 4 * length xs + r) 0 = omega arith in
       ap (λ m. map (λ id. id / 3) (part w from m)) e ∙ users-row (p .going .tabled) r (p .here) ∙ ap (users (facesOf xs)) (p .along)
 
   -- the users are faces of the walk
@@ -183,6 +184,7 @@ module _ {w xs : List ℕ} {n r x y : ℕ} (p : SettleAsks w xs n r x y) where
               points = p .going .points;
               runs = p .going .runs;
               tabled = tabled-kept only-all (after (omega arith)) (p .going .tabled);
+              mated = mated-kept only-all (omega arith) (p .going .mated);
               crossed = still;
             };
             walk = walk-is;

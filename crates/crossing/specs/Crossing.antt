@@ -3,11 +3,11 @@
 use mathlib.Core.Path.{_≡_}
 use mathlib.Core.Bool.{true, false, not, cond}
 use mathlib.Core.List.{List, [], _∷_}
-use Prim.Native.Nat.{ℕ, _+_, _*_, _≤_, _<_}
-use lib.Dec.{leb}
+use Prim.Native.Nat.{ℕ, _+_, _-_, _*_, _/_, _≤_, _<_}
+use lib.Dec.{eqb, leb}
 use lib.ListN.{length, getD}
 use Rattle.rows.specs.Region.{Only}
-use Rattle.rules.specs.Lists.{through}
+use Rattle.rules.specs.Lists.{filter, through}
 use Rattle.rules.specs.Mesh.{Face, facesOf, face}
 use Rattle.rules.specs.Steps.{Step, step, steps, edge, opposite, users, edges}
 use Rattle.rules.specs.Pass4.{remark, across}
@@ -24,12 +24,41 @@ pub record Crossed (w xs : List ℕ) (n : ℕ) (e : Step) (r : ℕ) : Type 0 whe
   pub up : getD w (3 + 2 * n + 3 * r + 1) 0 ≡ lone (n + 1) (walkOf (facesOf xs) n w .faces) (opposite e) (users (facesOf xs) e)
   pub down : getD w (3 + 2 * n + 3 * r + 2) 0 ≡ lone (n + 1) (walkOf (facesOf xs) n w .faces) e (users (facesOf xs) e)
 
--- a sound walk, the table of the faces as they were, and what is noted of crossed edges
+-- across the edge of entry `id` stands the face before q, and none besides it and the entry's own
+pub record Leads (xs : List ℕ) (n id q : ℕ) : Type 0 where
+  pub few : q ≤ n
+  pub others : filter (λ k. not (eqb k (id / 3))) (users (facesOf xs) (edge (stepAt (facesOf xs) id))) ≡ filter (λ k. not (eqb k (id / 3))) ((q - 1) ∷ [])
+
+-- what is noted of the faces across edges is so
+pub record Mated (w xs : List ℕ) (n : ℕ) : Type 0 where
+  pub each : (id : ℕ) → id < 3 * n → (getD w (3 + 11 * n + id) 0 ≡ 0 → ⊥) → Leads xs n id (getD w (3 + 11 * n + id) 0)
+
+-- the table of the faces, with m runs, and the row of the faces across
+pub record MateAllAsks (w xs : List ℕ) (n m : ℕ) : Type 0 where
+  pub few : n ≤ 4194304
+  pub long : length xs ≡ 3 * n
+  pub points : ℕ
+  pub tabled : Tabled w xs points false (3 + 14 * n) m
+  pub mated : Mated w xs n
+
+-- and r is one of its runs
+pub record MateAsks (w xs : List ℕ) (n r : ℕ) : Type 0 where
+  pub runs : ℕ
+  pub all : MateAllAsks w xs n runs
+  pub here : r < runs
+
+-- more may be noted
+pub record MateGives (w xs : List ℕ) (n : ℕ) (w′ : List ℕ) : Type 0 where
+  pub only : Only (3 + 11 * n) (3 * n) w w′
+  pub mated : Mated w′ xs n
+
+-- a sound walk, the table of the faces as they were, and what is noted of crossed edges and of the faces across
 pub record Going (w xs : List ℕ) (n : ℕ) : Type 0 where
   pub ready : Ready w xs n
   pub points : ℕ
   pub runs : ℕ
-  pub tabled : Tabled w xs points false (3 + 11 * n) runs
+  pub tabled : Tabled w xs points false (3 + 14 * n) runs
+  pub mated : Mated w xs n
   pub crossed : (r : ℕ) → r < runs → (getD w (3 + 2 * n + 3 * r) 0 ≡ 0 → ⊥) → Crossed w xs n (getD (edges points (facesOf xs)) r none) r
 
 -- a run of entries, and the number of an edge
@@ -85,12 +114,13 @@ pub record ManyAsks (w xs : List ℕ) (n j r x y : ℕ) : Type 0 where
   pub here : j < n
   pub seen : getD (walkOf (facesOf xs) n w .visited) j false ≡ true
 
--- face j is visited, and the step from x to y is along the edge of entry `id`
+-- face j is visited, and the step from x to y is along the edge of its entry `id`
 pub record CrossAsks (w xs : List ℕ) (n j id x y : ℕ) : Type 0 where
   pub going : Going w xs n
   pub here : j < n
   pub seen : getD (walkOf (facesOf xs) n w .visited) j false ≡ true
   pub entry : id < 3 * n
+  pub own : id / 3 ≡ j
   pub along : edge (stepAt (facesOf xs) id) ≡ edge (step x y)
 
 -- face j crosses by that step; those visited stay so
@@ -100,13 +130,15 @@ pub record CrossGives (w xs : List ℕ) (n j x y : ℕ) (w′ : List ℕ) : Type
   pub walk : walkOf (facesOf xs) n w′ ≡ across j (walkOf (facesOf xs) n w) (step x y)
   pub stay : getD (walkOf (facesOf xs) n w′ .visited) j false ≡ true
 
--- face j is visited, and entries are under the edges of a, b and c
+-- face j is visited, and its entries are under the edges of a, b and c
 pub record ThreeAsks (w xs : List ℕ) (n j a b c first last : ℕ) : Type 0 where
   pub going : Going w xs n
   pub here : j < n
   pub seen : getD (walkOf (facesOf xs) n w .visited) j false ≡ true
   pub is-first : first < 3 * n
   pub is-last : last < 3 * n
+  pub own-first : first / 3 ≡ j
+  pub own-last : last / 3 ≡ j
   pub along-first : edge (stepAt (facesOf xs) first) ≡ edge (step a b)
   pub along-second : edge (stepAt (facesOf xs) (3 * j + 1)) ≡ edge (step b c)
   pub along-last : edge (stepAt (facesOf xs) last) ≡ edge (step c a)

@@ -1,15 +1,16 @@
-// Face after face crosses its edges in the walk of pass 4 of document 01. An edge of at most two entries is gone through each time. Another is only
-// when it is first crossed: then all its users are visited, none of them changes again, and for each way across it one number tells which users
-// disagree.
+// Face after face crosses its edges in the walk of pass 4 of document 01. Across an edge of at most two entries stands at most one other face, which
+// is noted beforehand. Another edge is gone through in full only when it is first crossed: then all its users are visited, none of them changes
+// again, and for each way across it one number tells which users disagree.
 //
 // The rows, for n faces; those before 3 + 2n are of `reaching`:
 //
 //     3 + 2n        9n      of each edge three numbers, next to each other: whether it was crossed; who disagrees with a step from its lower to its
 //                           higher end, 0 for none, 1 + i for face i alone, n + 1 for several; and who with a step from its higher to its lower end
-//     3 + 11n       15n + 1 + P     the undirected table of the faces, see `table`
+//     3 + 11n       3n      of each entry whose edge has at most two, 1 + the face of the other, or its own face where it is alone; 0 of the others
+//     3 + 14n       15n + 1 + P     the undirected table of the faces, see `table`
 ghost use mathlib.Core.Path.{_≡_};
 ghost use Prim.Native.Nat.{min, max};
-ghost use Rattle.crossing.specs.Crossing.{NoteAsks, NoteGives, SettleAsks, SettleGives, WhoAsks, disagreeing, MarkAsks, MarkGives, ManyAsks, CrossAsks, CrossGives, ThreeAsks, ThreeGives, FaceAsks, FaceGives};
+ghost use Rattle.crossing.specs.Crossing.{MateAsks, MateGives, MateAllAsks, NoteAsks, NoteGives, SettleAsks, SettleGives, WhoAsks, disagreeing, MarkAsks, MarkGives, ManyAsks, CrossAsks, CrossGives, ThreeAsks, ThreeGives, FaceAsks, FaceGives};
 
 // The lower of two.
 fn lower(x: u32, y: u32) -> u32
@@ -23,6 +24,36 @@ fn higher(x: u32, y: u32) -> u32
     ensures { λ r. ⌜ r ≡ max x y ⌝ }
 {
     if x <= y { y } else { x }
+}
+
+// Notes for the entries of run r which face is across, if they are at most two.
+fn mate(work: &mut [u32], faces: &[u32], n: usize, r: usize)
+    requires { ⌜ MateAsks (now work) (now faces) n r ⌝ }
+    ensures { λ _. ⌜ MateGives (now (work .entry)) (now (faces .entry)) n (now (work .exit)) ⌝ }
+{
+    let order = 3 + 14 * n + 3 * faces.len();
+    let starts = 3 + 14 * n + 4 * faces.len();
+    let from = order + work[starts + r] as usize;
+    let to = order + work[starts + (r + 1)] as usize;
+    if to - from > 2 {
+        return;
+    }
+    let a = work[from] as usize;
+    let b = work[to - 1] as usize;
+    work[3 + 11 * n + a] = (b / 3 + 1) as u32;
+    work[3 + 11 * n + b] = (a / 3 + 1) as u32;
+}
+
+// Notes for each entry which face is across, run by run; there are m.
+pub fn mate_all(work: &mut [u32], faces: &[u32], n: usize, m: usize)
+    requires { ⌜ MateAllAsks (now work) (now faces) n m ⌝ }
+    ensures { λ _. ⌜ MateGives (now (work .entry)) (now (faces .entry)) n (now (work .exit)) ⌝ }
+{
+    let mut r = 0;
+    while r < m {
+        mate(work, faces, n, r);
+        r += 1;
+    }
 }
 
 // Notes of edge r, from low to high, who disagrees with a step along it, either way, and that it is crossed. Its entries stand at from .. to.
@@ -52,8 +83,8 @@ fn settle(work: &mut [u32], faces: &[u32], n: usize, r: usize, x: u32, y: u32)
     requires { ⌜ SettleAsks (now work) (now faces) n r x y ⌝ }
     ensures { λ _. ⌜ SettleGives (now (work .entry)) (now (faces .entry)) n r x y (now (work .exit)) ⌝ }
 {
-    let order = 3 + 11 * n + 3 * faces.len();
-    let starts = 3 + 11 * n + 4 * faces.len();
+    let order = 3 + 14 * n + 3 * faces.len();
+    let starts = 3 + 14 * n + 4 * faces.len();
     let from = order + work[starts + r] as usize;
     let to = order + work[starts + (r + 1)] as usize;
     reaching::reach_run(work, faces, n, from, to, x, y);
@@ -105,20 +136,17 @@ fn cross_many(work: &mut [u32], faces: &[u32], n: usize, j: usize, r: usize, x: 
     mark(work, n, j, known);
 }
 
-// Face j crosses the edge of entry `id` by the step from x to y.
+// Face j crosses the edge of its entry `id` by the step from x to y.
 fn cross(work: &mut [u32], faces: &[u32], n: usize, j: usize, id: usize, x: u32, y: u32)
     requires { ⌜ CrossAsks (now work) (now faces) n j id x y ⌝ }
     ensures { λ _. ⌜ CrossGives (now (work .entry)) (now (faces .entry)) n j x y (now (work .exit)) ⌝ }
 {
-    let r = work[3 + 11 * n + 2 * faces.len() + id] as usize;
-    let order = 3 + 11 * n + 3 * faces.len();
-    let starts = 3 + 11 * n + 4 * faces.len();
-    let from = order + work[starts + r] as usize;
-    let to = order + work[starts + (r + 1)] as usize;
-    if to - from <= 2 {
-        reaching::meet_run(work, faces, n, j, from, to, x, y);
-    } else {
+    let across = work[3 + 11 * n + id] as usize;
+    if across == 0 {
+        let r = work[3 + 14 * n + 2 * faces.len() + id] as usize;
         cross_many(work, faces, n, j, r, x, y);
+    } else {
+        reaching::meet(work, faces, n, j, across - 1, x, y);
     }
 }
 

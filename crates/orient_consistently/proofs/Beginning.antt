@@ -150,7 +150,7 @@ unfolding through below
 all-begin {w} {xs} {n} p = record { at-most = omega arith; most = omega arith; only = only-none 0 (3 + 11 * n) w; going = p .going; is = refl }
 
 -- states of 0 change no face
-turned-none : (n : ℕ) (fs : List Face) → turnedBy (replicate n 0) fs ≡ fs
+pub turned-none : (n : ℕ) (fs : List Face) → turnedBy (replicate n 0) fs ≡ fs
 unfolding turnedBy turn
 turned-none zero fs = refl
 turned-none (suc n) [] = refl
@@ -161,6 +161,13 @@ unseen-none : (n : ℕ) → map (λ s. not (eqb s 0)) (replicate n 0) ≡ replic
 unseen-none zero = refl
 unseen-none (suc n) = ap (λ l. false ∷ l) (unseen-none n)
 
+-- states that are cleared
+pub states-cleared : (w : List ℕ) (n : ℕ) → 3 + n ≤ length w → Filled 3 n 0 w → part w 3 n ≡ replicate n 0
+states-cleared w n f z =
+    let l = length-part w 3 n f in
+    ext-getD 0 (part w 3 n) (replicate n 0) (l ∙ sym (length-replicate n 0))
+    (λ i q. let h : i < n = omega arith in getD-part w 3 n i h ∙ z .each i h ∙ sym (getD-replicate n i 0 0 h))
+
 module _ {w₀ xs : List ℕ} {n : ℕ} (f : Fits w₀ xs n) (blank : Filled 0 (3 + 11 * n) 0 w₀) where
   -- each entry is 0
   pub zero-at : (q : ℕ) → q < 3 + 11 * n → getD w₀ q 0 ≡ 0
@@ -170,9 +177,7 @@ module _ {w₀ xs : List ℕ} {n : ℕ} (f : Fits w₀ xs n) (blank : Filled 0 (
   states-none : part w₀ 3 n ≡ replicate n 0
   states-none =
       let g = f .fit in
-      let l = length-part w₀ 3 n (omega arith) in
-      ext-getD 0 (part w₀ 3 n) (replicate n 0) (l ∙ sym (length-replicate n 0))
-      (λ i q. let h : i < n = omega arith in getD-part w₀ 3 n i h ∙ zero-at (3 + i) (omega arith) ∙ sym (getD-replicate n i 0 0 h))
+      states-cleared w₀ n (omega arith) (record { each = λ i h. zero-at (3 + i) (omega arith) })
 
   -- as many faces as said
   pub long-faces : length (facesOf xs) ≡ n

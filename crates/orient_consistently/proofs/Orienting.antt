@@ -5,16 +5,69 @@ use mathlib.Core.List.{List}
 use Prim.Native.Nat.{ℕ, _+_, _*_, _≤_, _<_}
 use native.Mathlib.Omega.{arith}
 use lib.ListN.{length, getD, take}
-use Rattle.rows.specs.Region.{Apart.before, Only, Filled}
+use Rattle.rows.specs.Region.{Apart.before, Apart.after, Only, Filled}
 use Rattle.rows.proofs.Regions.{length-part, getD-part, only-both, only-more, holds-kept}
 use Rattle.rules.specs.Mesh.{flatFaces}
 use Rattle.rules.specs.Rooms.{work-room}
 use Rattle.leaving.specs.Pass.{FacesStand}
-use Rattle.table.specs.Table.{TableAsks, TableGives}
+use Rattle.table.specs.Table.{TableAsks, Tabled, TableGives}
+use Rattle.table.proofs.Places.{tabled-kept}
 use Rattle.table.proofs.Handing.{at-run}
 use Rattle.reaching.specs.Walking.{walkOf, Fits}
-use Rattle.orient_consistently.specs.Walked.{AllAsks, AllGives, TurnAsks, TurnGives, OrientGives}
+use Rattle.crossing.specs.Crossing.{MateAllAsks, MateGives}
+use Rattle.crossing.proofs.Mating.{mated-none}
+use Rattle.orient_consistently.specs.Walked.{LayAsks, LayGives, AllGives, TurnAsks, TurnGives, OrientGives}
 use Rattle.orient_consistently.proofs.Beginning.{zero-at, blank-ready}
+
+-- ---- lay
+
+-- what the code reads
+pub record LayBounds (w : List ℕ) (n : ℕ) : Type 0 where
+  pub few : n ≤ 4194304
+  pub fit : 3 + 14 * n ≤ length w
+
+module _ {w xs : List ℕ} {n m : ℕ} (p : LayAsks w xs n m) where
+  -- they hold
+  pub lay-bounds : LayBounds w n
+  lay-bounds = record { few = p .few; fit = omega (arith, p .tabled .asks .fit) }
+
+  module _ {w₁ : List ℕ} (o : Only 0 (3 + 14 * n) w w₁) (z : Filled 0 (3 + 14 * n) 0 w₁) where
+    -- the table still stands, and nothing is noted
+    pub mates-asks : MateAllAsks w₁ xs n m
+    mates-asks = record { few = p .few; long = p .long; points = p .points; tabled = tabled-kept o (after (omega arith)) (p .tabled); mated = mated-none z }
+
+    module _ {w₂ : List ℕ} (g : MateGives w₁ xs n w₂) where
+      -- the rows of the walk are there
+      fits : Fits w₂ xs n
+      fits = let u = lay-bounds in record { long = p .long; few = p .few; fit = omega (arith, u, o .long, g .only .long) }
+
+      -- they are still 0
+      blank : Filled 0 (3 + 11 * n) 0 w₂
+      blank = holds-kept (g .only) (before (omega arith)) (record { each = λ i h. z .each i (omega arith) })
+
+      -- and so does the table
+      stands : Tabled w₂ xs (p .points) false (3 + 14 * n) m
+      stands = tabled-kept (g .only) (after (omega arith)) (tabled-kept o (after (omega arith)) (p .tabled))
+
+      -- the walk may start
+      pub lay-gives : LayGives w xs n w₂
+      lay-gives =
+          record {
+            only = only-both o (only-more (omega arith) (omega arith) (g .only));
+            all = record {
+              going = record {
+                ready = blank-ready fits blank;
+                points = p .points;
+                runs = m;
+                tabled = stands;
+                mated = g .mated;
+                crossed = λ r h c. absurd (c (zero-at fits blank (3 + 2 * n + 3 * r) (omega (arith, at-run stands r h .runs, p .long))));
+              };
+              blank = blank;
+            };
+          }
+
+-- ---- settle
 
 -- what the code reads
 pub record Bounds (P : ℕ) (xs : List ℕ) (n : ℕ) (w : List ℕ) : Type 0 where
@@ -30,9 +83,9 @@ module _ {P : ℕ} {xs : List ℕ} {n : ℕ} {w : List ℕ} (p : FacesStand P xs
   unfolding work-room
   bounds = record { points = p .points; few = omega (arith, p .few); fit = p .fit; room = p .room; front = length-part xs 0 (3 * n) (omega (arith, p .fit)) }
 
-  module _ {w₁ : List ℕ} (o : Only 0 (3 + 11 * n) w w₁) (z : Filled 0 (3 + 11 * n) 0 w₁) where
+  module _ {w₁ : List ℕ} (o : Only 3 n w w₁) where
     -- a table may be made of the faces
-    pub table-asks : TableAsks w₁ (take (3 * n) xs) P (3 + 11 * n)
+    pub table-asks : TableAsks w₁ (take (3 * n) xs) P (3 + 14 * n)
     table-asks =
         let u = bounds in
         let l = o .long in
@@ -46,49 +99,32 @@ module _ {P : ℕ} {xs : List ℕ} {n : ℕ} {w : List ℕ} (p : FacesStand P xs
               omega (arith, getD-part xs 0 (3 * n) i q, ap (λ j. getD xs j 0) e, p .inside i q);
         }
 
-    module _ {w₂ : List ℕ} {m : ℕ} (t : TableGives w₁ (take (3 * n) xs) P false (3 + 11 * n) w₂ m) where
-      -- the rows of the walk are there
-      pub fits : Fits w₂ (take (3 * n) xs) n
-      fits = let u = bounds in record { long = u .front; few = u .few; fit = omega (arith, u, o .long, t .only .long) }
+    module _ {w₂ : List ℕ} {m : ℕ} (t : TableGives w₁ (take (3 * n) xs) P false (3 + 14 * n) w₂ m) where
+      -- it may be made ready for the walk
+      pub lay-asks : LayAsks w₂ (take (3 * n) xs) n m
+      lay-asks = let u = bounds in record { few = u .few; long = u .front; points = P; tabled = t .tabled }
 
-      -- the rows are still 0
-      pub blank : Filled 0 (3 + 11 * n) 0 w₂
-      blank = holds-kept (t .only) (before (omega arith)) z
-
-      -- the walk may start
-      pub all-asks : AllAsks w₂ (take (3 * n) xs) n
-      all-asks =
-          record {
-            going = record {
-              ready = blank-ready fits blank;
-              points = P;
-              runs = m;
-              tabled = t .tabled;
-              crossed = λ r h c. absurd (c (zero-at fits blank (3 + 2 * n + 3 * r) (omega (arith, at-run (t .tabled) r h .runs, bounds))));
-            };
-            blank = blank;
-          }
-
-      module _ {w₃ : List ℕ} {r : ℕ} (g : AllGives w₂ (take (3 * n) xs) n w₃ r) where
+      module _ {w₃ : List ℕ} (y : LayGives w₂ (take (3 * n) xs) n w₃) {w₄ : List ℕ} {r : ℕ} (g : AllGives w₃ (take (3 * n) xs) n w₄ r) where
         -- the faces may be turned
-        pub turn-asks : TurnAsks xs w₃ n
-        turn-asks = let u = bounds in record { few = u .few; fit = u .fit; room = omega (arith, u, o .long, t .only .long, g .only .long) }
+        pub turn-asks : TurnAsks xs w₄ n
+        turn-asks = let u = bounds in record { few = u .few; fit = u .fit; room = omega (arith, u, o .long, t .only .long, y .only .long, g .only .long) }
 
         -- no more are exchanged than there are
-        pub few-exchanges : getD w₃ 1 0 ≤ n
+        pub few-exchanges : getD w₄ 1 0 ≤ n
         unfolding walkOf
         few-exchanges = omega (arith, g .going .ready .sound .turns)
 
         -- nothing beyond the stated work room is changed
-        pub only-all : Only 0 (work-room P n) w w₃
+        pub only-all : Only 0 (work-room P n) w w₄
         unfolding work-room
         only-all =
             let u = bounds in
             only-both (only-more (omega arith) (omega arith) o)
-            (only-both (only-more (omega arith) (omega (arith, u)) (t .only)) (only-more (omega arith) (omega arith) (g .only)))
+            (only-both (only-more (omega arith) (omega (arith, u)) (t .only))
+            (only-both (only-more (omega arith) (omega arith) (y .only)) (only-more (omega arith) (omega arith) (g .only))))
 
         -- the rule's result
-        pub orient-gives : {xs′ : List ℕ} → TurnGives xs w₃ n xs′ → OrientGives P xs n w xs′ w₃ (getD w₃ 1 0) r
+        pub orient-gives : {xs′ : List ℕ} → TurnGives xs w₄ n xs′ → OrientGives P xs n w xs′ w₄ (getD w₄ 1 0) r
         unfolding walkOf
         orient-gives {xs′} h =
             record {

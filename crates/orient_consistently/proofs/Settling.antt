@@ -5,8 +5,8 @@ use mathlib.Core.List.{List}
 use Prim.Native.Nat.{ℕ, _+_, _*_, _/_}
 use native.Mathlib.Omega.{arith}
 use lib.ListN.{length, take}
-use Rattle.rows.specs.Region.{part, Apart.after, Only, Filled}
-use Rattle.rows.proofs.Regions.{only-none, only-both, only-more}
+use Rattle.rows.specs.Region.{part, Apart.before, Apart.after, Only, Filled}
+use Rattle.rows.proofs.Regions.{only-none, only-both, only-more, holds-kept}
 use Rattle.rules.specs.Mesh.{facesOf, flatFaces}
 use Rattle.rules.specs.Rooms.{work-room}
 use Rattle.rules.proofs.Flat.{faces-flat, flat-faces}
@@ -15,28 +15,33 @@ use Rattle.leaving.specs.Pass.{standing, FacesStand}
 use Rattle.table.specs.Table.{TableGives}
 use Rattle.table.proofs.Places.{tabled-kept}
 use Rattle.orienting.specs.Reaching.{turnedBy}
-use Rattle.reaching.specs.Walking.{walkOf}
 use Rattle.single_use.specs.Single.{SingleAsks}
 use Rattle.single_use.proofs.Calm.{same-faces, no-exchanges, no-marks}
-use Rattle.orient_consistently.specs.Walked.{AllGives, TurnGives, OrientGives}
-use Rattle.orient_consistently.proofs.Beginning.{blank-is}
-use Rattle.orient_consistently.proofs.Orienting.{bounds, fits, blank}
+use Rattle.orient_consistently.specs.Walked.{LayGives, AllGives, TurnGives, OrientGives}
+use Rattle.orient_consistently.proofs.Beginning.{turned-none, states-cleared}
+use Rattle.orient_consistently.proofs.Orienting.{bounds}
 
-module _ {P : ℕ} {xs : List ℕ} {n : ℕ} {w : List ℕ} (p : FacesStand P xs n w) {w₁ : List ℕ} (o : Only 0 (3 + 11 * n) w w₁) (z : Filled 0 (3 + 11 * n) 0 w₁)
-    {w₂ : List ℕ} {m : ℕ} (t : TableGives w₁ (take (3 * n) xs) P false (3 + 11 * n) w₂ m) where
+module _ {P : ℕ} {xs : List ℕ} {n : ℕ} {w : List ℕ} (p : FacesStand P xs n w) {w₁ : List ℕ} (o : Only 3 n w w₁)
+    {w₂ : List ℕ} {m : ℕ} (t : TableGives w₁ (take (3 * n) xs) P false (3 + 14 * n) w₂ m) where
   -- the table may be scanned
-  pub single-asks : SingleAsks w₂ (take (3 * n) xs) 3 (3 + 11 * n) m
+  pub single-asks : SingleAsks w₂ (take (3 * n) xs) 3 (3 + 14 * n) m
   single-asks = record { points = P; tabled = t .tabled; fit = omega (arith, bounds p, o .long, t .only .long) }
 
   -- as many states as faces
   states-long : length (take (3 * n) xs) / 3 ≡ n
   states-long = omega (arith, bounds p)
 
-  module _ (s : Once (turnedBy (part w₂ 3 (length (take (3 * n) xs) / 3)) (facesOf (take (3 * n) xs)))) where
+  module _ (z : Filled 3 n 0 w₁) (s : Once (turnedBy (part w₂ 3 (length (take (3 * n) xs) / 3)) (facesOf (take (3 * n) xs)))) where
     -- no face is exchanged yet
+    unturned : turnedBy (part w₂ 3 n) (standing xs n) ≡ standing xs n
+    unturned =
+        let u = bounds p in
+        ap (λ ss. turnedBy ss (standing xs n)) (states-cleared w₂ n (omega (arith, u, o .long, t .only .long)) (holds-kept (t .only) (before (omega arith)) z))
+        ∙ turned-none n (standing xs n)
+
+    -- so each directed edge is used at most once as it is
     pub once-now : Once (standing xs n)
-    unfolding walkOf
-    once-now = subst Once (ap (λ k. turnedBy (part w₂ 3 k) (standing xs n)) states-long ∙ ap (λ v. v .faces) (blank-is (fits p o z t) (blank p o z t))) s
+    once-now = subst Once (ap (λ k. turnedBy (part w₂ 3 k) (standing xs n)) states-long ∙ unturned) s
 
     -- so the walk would change nothing
     pub calm-gives : OrientGives P xs n w xs w₂ 0 0
@@ -50,23 +55,23 @@ module _ {P : ℕ} {xs : List ℕ} {n : ℕ} {w : List ℕ} (p : FacesStand P xs
           few-exchanges = omega arith;
           few-marks = omega arith;
           only-faces = only-none 0 (3 * n) xs;
-          only-work = only-both (only-more (omega arith) (omega arith) o) (only-more (omega arith) (omega (arith, u)) (t .only));
+          only-work = only-both (only-more (omega arith) (omega (arith, u)) o) (only-more (omega arith) (omega (arith, u)) (t .only));
         }
 
-  module _ {w₃ : List ℕ} {r : ℕ} (g : AllGives w₂ (take (3 * n) xs) n w₃ r) where
+  module _ {w₃ : List ℕ} (y : LayGives w₂ (take (3 * n) xs) n w₃) {w₄ : List ℕ} {r : ℕ} (g : AllGives w₃ (take (3 * n) xs) n w₄ r) where
     -- the table still stands after the walk
-    pub single-asks-after : SingleAsks w₃ (take (3 * n) xs) 3 (3 + 11 * n) m
+    pub single-asks-after : SingleAsks w₄ (take (3 * n) xs) 3 (3 + 14 * n) m
     single-asks-after =
         record {
           points = P;
-          tabled = tabled-kept (g .only) (after (omega arith)) (t .tabled);
-          fit = omega (arith, bounds p, o .long, t .only .long, g .only .long);
+          tabled = tabled-kept (g .only) (after (omega arith)) (tabled-kept (y .only) (after (omega arith)) (t .tabled));
+          fit = omega (arith, bounds p, o .long, t .only .long, y .only .long, g .only .long);
         }
 
     -- what is said of the faces under their states is said of those that are turned
-    pub once-turned : {xs′ : List ℕ} → TurnGives xs w₃ n xs′ → Once (turnedBy (part w₃ 3 (length (take (3 * n) xs) / 3)) (facesOf (take (3 * n) xs))) → Once (standing xs′ n)
+    pub once-turned : {xs′ : List ℕ} → TurnGives xs w₄ n xs′ → Once (turnedBy (part w₄ 3 (length (take (3 * n) xs) / 3)) (facesOf (take (3 * n) xs))) → Once (standing xs′ n)
     once-turned h s =
         subst Once
-        (ap (λ k. turnedBy (part w₃ 3 k) (standing xs n)) states-long
-        ∙ sym (ap facesOf (h .faces) ∙ faces-flat (turnedBy (part w₃ 3 n) (standing xs n))))
+        (ap (λ k. turnedBy (part w₄ 3 k) (standing xs n)) states-long
+        ∙ sym (ap facesOf (h .faces) ∙ faces-flat (turnedBy (part w₄ 3 n) (standing xs n))))
         s

@@ -1,5 +1,6 @@
 -- Components and the whole walk: what the functions ask and give. Definitions only.
 use mathlib.Core.Path.{_≡_}
+use mathlib.Core.Bool.{false}
 use mathlib.Core.List.{List}
 use Prim.Native.Nat.{ℕ, suc, _+_, _*_, _≤_, _<_}
 use lib.ListN.{length, getD, take}
@@ -8,6 +9,7 @@ use Rattle.rules.specs.Mesh.{Face, facesOf, flatFaces}
 use Rattle.rules.specs.Pass4.{Oriented, run, started, begin, oriented}
 use Rattle.rules.specs.Rooms.{work-room}
 use Rattle.leaving.specs.Pass.{standing}
+use Rattle.table.specs.Table.{Tabled}
 use Rattle.orienting.specs.Reaching.{turnedBy}
 use Rattle.reaching.specs.Walking.{walkOf}
 use Rattle.crossing.specs.Crossing.{Going}
@@ -67,6 +69,18 @@ pub record BeginGives (w xs : List ℕ) (n i marks : ℕ) (w′ : List ℕ) (r :
 pub record AllAsks (w xs : List ℕ) (n : ℕ) : Type 0 where
   pub going : Going w xs n
   pub blank : Filled 0 (3 + 11 * n) 0 w
+
+-- the table of the faces, with m runs
+pub record LayAsks (w xs : List ℕ) (n m : ℕ) : Type 0 where
+  pub few : n ≤ 4194304
+  pub long : length xs ≡ 3 * n
+  pub points : ℕ
+  pub tabled : Tabled w xs points false (3 + 14 * n) m
+
+-- the walk may start, and the table still stands
+pub record LayGives (w xs : List ℕ) (n : ℕ) (w′ : List ℕ) : Type 0 where
+  pub only : Only 0 (3 + 14 * n) w w′
+  pub all : AllAsks w′ xs n
 
 -- all components are walked
 pub record AllGives (w xs : List ℕ) (n : ℕ) (w′ : List ℕ) (r : ℕ) : Type 0 where

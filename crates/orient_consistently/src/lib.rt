@@ -1,8 +1,8 @@
-// Orientation, the first half of pass 4 of document 01, in linear time: an edge of more than two entries is gone through in full only when it is
-// first crossed. Then all its users are visited, none of them changes again, and for each way across it one number tells which users disagree: 0 for
-// none, 1 + i for face i alone, n + 1 for several.
+// Orientation, the first half of pass 4 of document 01, in linear time. Across an edge of at most two entries stands at most one other face, which is
+// noted beforehand. Another edge is gone through in full only when it is first crossed: then all its users are visited, none of them changes again,
+// and for each way across it one number tells which users disagree: 0 for none, 1 + i for face i alone, n + 1 for several.
 //
-// The work room, for n faces and P points; its first 3 + 26n + 1 + P entries are used:
+// The work room, for n faces and P points; its first 3 + 29n + 1 + P entries are used:
 //
 //     0             1       how many faces are on the stack
 //     1             1       how many were exchanged
@@ -10,17 +10,27 @@
 //     3             n       the state of each face: 0 unvisited, 1 visited as it was, 2 visited and exchanged
 //     3 + n         n       the stack, its top last
 //     3 + 2n        9n      of each edge whether it was crossed, and who disagrees with a step along it, either way, see `crossing`
-//     3 + 11n       15n + 1 + P     the undirected table, see `table`
+//     3 + 11n       3n      of each entry which face is across, see `crossing`
+//     3 + 14n       15n + 1 + P     the undirected table, see `table`
 ghost use mathlib.Core.Path.{_≡_};
 ghost use mathlib.Core.Bool.{true};
 ghost use Rattle.rules.proofs.Once.{Once};
 ghost use Rattle.leaving.specs.Pass.{standing, FacesStand};
-ghost use Rattle.orient_consistently.specs.Walked.{PopAsks, PopGives, EmptyAsks, EmptyGives, StartAsks, StartGives, BeginAsks, BeginGives, AllAsks, AllGives, TurnAsks, TurnGives, OrientGives};
+ghost use Rattle.orient_consistently.specs.Walked.{LayAsks, LayGives, PopAsks, PopGives, EmptyAsks, EmptyGives, StartAsks, StartGives, BeginAsks, BeginGives, AllAsks, AllGives, TurnAsks, TurnGives, OrientGives};
 
 // How many faces were exchanged, and how many components are at odds.
 pub struct Turned {
     pub reoriented: usize,
     pub components: usize,
+}
+
+// Makes ready for the walk, when the table stands with m runs: the rows before it are cleared, and it is noted which face is across.
+fn lay(work: &mut [u32], faces: &[u32], n: usize, m: usize)
+    requires { ⌜ LayAsks (now work) (now faces) n m ⌝ }
+    ensures { λ _. ⌜ LayGives (now (work .entry)) (now (faces .entry)) n (now (work .exit)) ⌝ }
+{
+    rows::clear(work, 0, 3 + 14 * n);
+    crossing::mate_all(work, faces, n, m);
 }
 
 // Takes a face off the stack, which crosses its edges.
@@ -121,8 +131,8 @@ pub fn settle(faces: &mut [u32], n: usize, count: usize, work: &mut [u32]) -> Se
     ensures { λ r. ⌜ OrientGives count (now (faces .entry)) n (now (work .entry)) (now (faces .exit)) (now (work .exit)) (r .reoriented) (r .components) ⌝ }
     ensures { λ r. ⌜ (r .single ≡ true → Once (standing (now (faces .exit)) n)) ⌝ }
 {
-    let at = 3 + 11 * n;
-    rows::clear(work, 0, at);
+    let at = 3 + 14 * n;
+    rows::clear(work, 3, n);
     let m = table::table(work, &faces[..3 * n], count, false, at);
     if single_use::single(work, &faces[..3 * n], 3, at, m) {
         return Settled {
@@ -131,6 +141,7 @@ pub fn settle(faces: &mut [u32], n: usize, count: usize, work: &mut [u32]) -> Se
             single: true,
         };
     }
+    lay(work, &faces[..3 * n], n, m);
     let components = walk_all(work, &faces[..3 * n], n);
     let single = single_use::single(work, &faces[..3 * n], 3, at, m);
     turn_all(faces, work, n);

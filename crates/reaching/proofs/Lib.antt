@@ -6,5 +6,5 @@ pub mod Visiting
 pub mod Meeting
 -- `Running` has the loops over a run.
 pub mod Running
--- `Neighbours` has a face that meets the users of an edge.
+-- `Neighbours` has a face that meets a user of an edge.
 pub mod Neighbours

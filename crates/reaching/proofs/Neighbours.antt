@@ -1,27 +1,24 @@
--- A face that crosses meets the users of the edge, one after the other. Assumes nothing.
-use mathlib.Core.Path.{_≡_, refl, sym, ap, _∙_}
-use mathlib.Core.Bool.{Bool, true, false, not, cond, or-false, or-true}
-use mathlib.Core.List.{List, [], _∷_, _++_}
-use Prim.Native.Nat.{ℕ, _+_, _-_, _*_, _/_, _≤_, _<_}
+-- A face that crosses meets a user of the edge. Assumes nothing.
+use mathlib.Core.Path.{_≡_, ap, _∙_}
+use mathlib.Core.Bool.{Bool, true, false, not, or-false, or-true}
+use mathlib.Core.List.{List, [], _∷_}
+use Prim.Native.Nat.{ℕ, _+_, _*_, _≤_}
 use native.Mathlib.Omega.{arith}
 use borrow.Author.Tests.{eq-eqb, ne-eqb}
 use lib.Dec.{eqb}
 use lib.ListN.{length, getD, set, length-set}
 use lib.Seq.{getD-set-same, getD-set-other}
-use Rattle.rows.specs.Region.{part, Only, Out.above}
-use Rattle.rows.proofs.Regions.{part-eq, only-none, only-both, only-set}
+use Rattle.rows.specs.Region.{part}
+use Rattle.rows.proofs.Regions.{part-eq, only-none, only-set}
 use Rattle.rules.specs.Lists.{filter, through}
 use Rattle.rules.specs.Mesh.{Face, facesOf, face}
 use Rattle.rules.specs.Steps.{Step, step, opposite, walks}
 use Rattle.rules.specs.Pass4.{Walk, remark, meet}
-use Rattle.rules.proofs.Lists.{filter-append, through-append}
 use Rattle.orienting.specs.Reaching.{reach}
 use Rattle.orienting.proofs.Room.{remark-sound}
-use Rattle.reaching.specs.Walking.{stackOf, walkOf, facesIn, Ready, ReachAsks, ReachGives, RunAsks, MeetGives, MeetRunGives}
+use Rattle.reaching.specs.Walking.{stackOf, walkOf, ReachAsks, ReachGives, MeetGives}
 use Rattle.reaching.proofs.Reading.{stack-same, visited-at}
 use Rattle.reaching.proofs.Visiting.{ready-as}
-use Rattle.reaching.proofs.Meeting.{faces-next}
-use Rattle.reaching.proofs.Running.{Turn, faces-none}
 
 -- ---- the rule for one face
 
@@ -111,70 +108,3 @@ module _ {w xs : List ℕ} {n i : ℕ} (j x y : ℕ) (p : ReachAsks w xs n i) wh
             ready = ready-as r (length-set w 2 1) (omega (arith, getD-set-other w 2 0 1 0 (λ q. absurd (omega arith)), r .top)) m (remark-sound (r .sound) false);
             walk = m ∙ old-is e;
           }
-
--- ---- a run
-
--- the faces up to place k are met
-pub record MeetInv (w₀ xs : List ℕ) (n j from to x y : ℕ) (w : List ℕ) (k : ℕ) : Type 0 where
-  pub at-least : from ≤ k
-  pub at-most : k ≤ to
-  pub only : Only 0 (3 + 2 * n) w₀ w
-  pub ready : Ready w xs n
-  pub walk : walkOf (facesOf xs) n w ≡ through (meet (step x y)) (walkOf (facesOf xs) n w₀) (filter (λ i. not (eqb i j)) (facesIn w₀ from k))
-
--- at first none is
-pub meet-begin : {w xs : List ℕ} {n j from to x y : ℕ} → RunAsks w xs n from to → MeetInv w xs n j from to x y w from
-unfolding through filter
-meet-begin {w} {xs} {n} {j} {from} q =
-    record { at-least = omega arith; at-most = q .rising; only = only-none 0 (3 + 2 * n) w; ready = q .ready; walk = rw (faces-none w from) }
-
--- one more is met
-meets-next : (s : Step) (v : Walk) (j : ℕ) (us : List ℕ) (i : ℕ)
-    → through (meet s) (through (meet s) v (filter (λ k. not (eqb k j)) us)) (filter (λ k. not (eqb k j)) (i ∷ [])) ≡ through (meet s) v (filter (λ k. not (eqb k j)) (us ++ (i ∷ [])))
-meets-next s v j us i =
-    sym (ap (through (meet s) v) (filter-append (λ k. not (eqb k j)) us (i ∷ []))
-    ∙ through-append (meet s) v (filter (λ k. not (eqb k j)) us) (filter (λ k. not (eqb k j)) (i ∷ [])))
-
-module _ {w₀ xs : List ℕ} {n j from to x y : ℕ} {w : List ℕ} {k : ℕ} (q : RunAsks w₀ xs n from to) (v : MeetInv w₀ xs n j from to x y w k) where
-  module _ (h : k < to) where
-    -- the entries are as they were
-    same : getD w k 0 ≡ getD w₀ k 0
-    same = v .only .same k (above (omega (arith, q .behind, v .at-least)))
-
-    -- the bounds of a turn hold
-    pub meet-turn : Turn w n k (getD w k 0 / 3)
-    meet-turn =
-        let e = q .entries k (v .at-least) h in
-        let s = same in
-        record { few = q .ready .fits .few; place = omega (arith, q .inside, v .only .long); entry = omega arith; face = omega arith }
-
-    -- so the face may be met
-    pub meet-ask : ReachAsks w xs n (getD w k 0 / 3)
-    meet-ask = record { ready = v .ready; here = meet-turn .face }
-
-    -- and is
-    pub meet-again : {w′ : List ℕ} → MeetGives w xs n j (getD w k 0 / 3) x y w′ → MeetInv w₀ xs n j from to x y w′ (k + 1)
-    meet-again g =
-        let u = walkOf (facesOf xs) n w₀ in
-        let t : Walk → ℕ → Walk = λ z i. through (meet (step x y)) z (filter (λ m. not (eqb m j)) (i ∷ [])) in
-        record {
-          at-least = omega (arith, v .at-least);
-          at-most = omega arith;
-          only = only-both (v .only) (g .only);
-          ready = g .ready;
-          walk = g .walk
-              ∙ ap (λ z. t z (getD w k 0 / 3)) (v .walk)
-              ∙ ap (λ i. t (through (meet (step x y)) u (filter (λ m. not (eqb m j)) (facesIn w₀ from k))) (i / 3)) same
-              ∙ meets-next (step x y) u j (facesIn w₀ from k) (getD w₀ k 0 / 3)
-              ∙ ap (λ us. through (meet (step x y)) u (filter (λ m. not (eqb m j)) us)) (sym (faces-next w₀ from k (v .at-least) (omega (arith, q .inside))));
-        }
-
-  -- past the last place
-  pub meet-done : to ≤ k → MeetRunGives w₀ xs n j from to x y w
-  meet-done l =
-      let e : k ≡ to = omega (arith, v .at-most) in
-      record {
-        only = v .only;
-        ready = v .ready;
-        walk = v .walk ∙ ap (λ i. through (meet (step x y)) (walkOf (facesOf xs) n w₀) (filter (λ m. not (eqb m j)) (facesIn w₀ from i))) e;
-      }

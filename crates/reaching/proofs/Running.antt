@@ -15,7 +15,7 @@ use Rattle.reaching.specs.Walking.{walkOf, facesIn, Ready, StandsAsks, R
 use Rattle.reaching.proofs.Meeting.{lone-next, faces-next}
 
 -- no entry, no face
-pub faces-none : (w : List ℕ) (from : ℕ) → facesIn w from from ≡ []
+faces-none : (w : List ℕ) (from : ℕ) → facesIn w from from ≡ []
 faces-none w from = let e : from - from ≡ 0 = omega arith in rw e
 
 -- the bounds of a turn

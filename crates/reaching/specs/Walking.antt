@@ -98,12 +98,6 @@ pub record MeetGives (w xs : List ℕ) (n j i x y : ℕ) (w′ : List ℕ) : Typ
   pub ready : Ready w′ xs n
   pub walk : walkOf (facesOf xs) n w′ ≡ through (meet (step x y)) (walkOf (facesOf xs) n w) (filter (λ k. not (eqb k j)) (i ∷ []))
 
--- it has met the faces of a run
-pub record MeetRunGives (w xs : List ℕ) (n j from to x y : ℕ) (w′ : List ℕ) : Type 0 where
-  pub only : Only 0 (3 + 2 * n) w w′
-  pub ready : Ready w′ xs n
-  pub walk : walkOf (facesOf xs) n w′ ≡ through (meet (step x y)) (walkOf (facesOf xs) n w) (filter (λ k. not (eqb k j)) (facesIn w from to))
-
 -- what is known once face i is met: nothing new if it makes the step t
 abbrev pub met : List Face → ℕ → Step → ℕ → ℕ → ℕ
 met fs n t known i = cond (walks (face fs i) t) known (sole (n + 1) known i)

@@ -18,7 +18,7 @@ ghost use Rattle.rows.specs.Region.{part};
 ghost use Rattle.rules.specs.Mesh.{Face, facesOf, face};
 ghost use Rattle.rules.specs.Steps.{step, same, walks};
 ghost use Rattle.orienting.specs.Reaching.{lone, sole};
-ghost use Rattle.reaching.specs.Walking.{walkOf, StandsAsks, VisitAsks, VisitGives, ReachAsks, ReachGives, RunAsks, ReachRunGives, MeetGives, MeetRunGives, met};
+ghost use Rattle.reaching.specs.Walking.{walkOf, StandsAsks, VisitAsks, VisitGives, ReachAsks, ReachGives, RunAsks, ReachRunGives, MeetGives, met};
 
 // Whether the step from x to y is the one from a to b.
 fn is_step(x: u32, y: u32, a: u32, b: u32) -> bool
@@ -100,7 +100,7 @@ pub fn reach_run(work: &mut [u32], faces: &[u32], n: usize, from: usize, to: usi
 
 // Face j, which crosses by the step from x to y, meets face i, if that is another: it is reached, if it is unvisited; else the component is marked,
 // if it does not make the opposite step.
-fn meet(work: &mut [u32], faces: &[u32], n: usize, j: usize, i: usize, x: u32, y: u32)
+pub fn meet(work: &mut [u32], faces: &[u32], n: usize, j: usize, i: usize, x: u32, y: u32)
     requires { ⌜ ReachAsks (now work) (now faces) n i ⌝ }
     ensures { λ _. ⌜ MeetGives (now (work .entry)) (now (faces .entry)) n j i x y (now (work .exit)) ⌝ }
 {
@@ -115,28 +115,6 @@ fn meet(work: &mut [u32], faces: &[u32], n: usize, j: usize, i: usize, x: u32, y
         return;
     }
     work[2] = 1;
-}
-
-// Face j, which crosses by the step from x to y, meets the faces of a run, which is given by its places in the work room.
-pub fn meet_run(
-    work: &mut [u32],
-    faces: &[u32],
-    n: usize,
-    j: usize,
-    from: usize,
-    to: usize,
-    x: u32,
-    y: u32,
-)
-    requires { ⌜ RunAsks (now work) (now faces) n from to ⌝ }
-    ensures { λ _. ⌜ MeetRunGives (now (work .entry)) (now (faces .entry)) n j from to x y (now (work .exit)) ⌝ }
-{
-    let mut k = from;
-    while k < to {
-        let i = work[k] as usize / 3;
-        meet(work, faces, n, j, i, x, y);
-        k += 1;
-    }
 }
 
 // What is known of those that do not make the step from x to y, once face i is met.

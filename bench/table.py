@@ -139,7 +139,7 @@ def targets():
     share = lambda call, shape, size, way: ratio(figure(call, shape, size, way), figure(call, shape, size, "rust"))
     for call in [call for call in ("repair", "edges") if call in only]:
         for shape in [shape for shape in ("scan", "numbered") if shape in names]:
-            for way in WAYS:
+            for way in WAYS if call == "repair" else ["reused", "fresh"]:
                 target(rows, f"{call}, {names[shape]}, {top:,} faces, rooms {way}: a tenth of the Rust's time", 0.1, [(share(call, shape, top, way), "")])
         for way in WAYS:
             every = [(share(call, shape, size, way), f"{what}, {size:,}") for shape, what in shapes for size in sizes]

@@ -21,17 +21,8 @@ use Rattle.orienting.proofs.Users.{users-walk}
 use Rattle.reaching.specs.Walking.{walkOf, facesIn, RunAsks, ReachRunGives}
 use Rattle.reaching.proofs.Visiting.{ready-as}
 use Rattle.crossing.specs.Crossing.{Crossed, NoteAsks, NoteGives, SettleAsks, SettleGives}
-use Rattle.crossing.proofs.Mating.{mated-kept}
+use Rattle.crossing.proofs.Mating.{Bounds, mated-kept}
 use Rattle.crossing.proofs.Keeping.{Later, later-reach, later-to, walk-kept, crossed-kept}
-
--- what the code reads of run r
-pub record Bounds (w xs : List ℕ) (n r : ℕ) : Type 0 where
-  pub few : n ≤ 4194304
-  pub long : length xs ≡ 3 * n
-  pub fit : 3 + 14 * n + 5 * length xs + 1 ≤ length w
-  pub here : r < 3 * n
-  pub rise : getD w (3 + 14 * n + 4 * length xs + r) 0 < getD w (3 + 14 * n + 4 * length xs + (r + 1)) 0
-  pub last : getD w (3 + 14 * n + 4 * length xs + (r + 1)) 0 ≤ length xs
 
 module _ {w xs : List ℕ} {n r x y : ℕ} (p : SettleAsks w xs n r x y) where
   -- as many faces as said

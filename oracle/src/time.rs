@@ -11,7 +11,7 @@ use std::process::ExitCode;
 const RUNS: usize = 5;
 
 /// After so many milliseconds of runs no further one is begun.
-const LONG: f64 = 30_000.0;
+const LONG: f64 = 45_000.0;
 
 /// How often the report line is written in one run: one is too short to time.
 pub const LINES: usize = 10_000;

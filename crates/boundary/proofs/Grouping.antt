@@ -2,7 +2,7 @@
 use mathlib.Core.Path.{_≡_, refl, sym, ap, _∙_, subst}
 use mathlib.Core.Bool.{Bool, true, false, cond}
 use mathlib.Core.List.{List, [], _∷_, _++_, List·Memᴰ}
-use Prim.Native.Nat.{suc, _+_, _*_, _≤_}
+use Prim.Native.Nat.{_+_, _*_, _≤_}
 use native.Mathlib.Omega.{arith}
 use lib.ListN.{length}
 use lib.Dec.{T}
@@ -11,25 +11,14 @@ use Rattle.rules.specs.Steps.{Step, same}
 use Rattle.rules.proofs.Lists.{filter-cons}
 use Rattle.rules.proofs.Rising.{All}
 use Rattle.rules.proofs.Members.{all-in}
-use Rattle.rules.proofs.Counting.{count-append, count-zero}
+use Rattle.rules.proofs.Counting.{count-one, count-not, count-append, count-zero}
 use Rattle.rules.proofs.Once.{same-is}
 use Rattle.table.proofs.Rows.{Rise, Less, less-same}
 
-module _ {A : Type 0} (p : A → Bool) (x : A) (xs : List A) where
-  -- a first element that passes is one more
-  count-more : T (p x) → count p (x ∷ xs) ≡ suc (count p xs)
-  unfolding count
-  count-more t = ap length (filter-cons p x xs t)
-
-  -- one that does not is left out
-  filter-not : p x ≡ false → filter p (x ∷ xs) ≡ filter p xs
-  unfolding filter
-  filter-not e = rw e
-
-  -- and not counted
-  count-not : p x ≡ false → count p (x ∷ xs) ≡ count p xs
-  unfolding count
-  count-not e = ap length (filter-not e)
+-- a first element that does not pass is left out
+filter-not : {A : Type 0} (p : A → Bool) (x : A) (xs : List A) → p x ≡ false → filter p (x ∷ xs) ≡ filter p xs
+unfolding filter
+filter-not p x xs e = rw e
 
 module _ {A E : Type 0} (in-group : E → A → Bool) (p : A → Bool) where
   -- the groups of a list, one after the other
@@ -56,8 +45,13 @@ module _ {A E : Type 0} (in-group : E → A → Bool) (p : A → Bool) where
           → count p (filter (in-group e) (x ∷ xs)) + count p (groups (x ∷ xs) es) ≡ count p (x ∷ []) * count (λ e. in-group e x) (e ∷ es) + count p (filter (in-group e) xs ++ groups xs es)
       go true q r s =
           let t : T (in-group e x) = subst T (sym q) tt in
-          rw (count-more (λ d. in-group d x) e es t, filter-cons (in-group e) x xs t) (omega (arith, count-append p (x ∷ []) (filter (in-group e) xs)))
-      go false q r s = rw (count-not (λ d. in-group d x) e es q, filter-not (in-group e) x xs q) (omega arith)
+          let k : count (λ d. in-group d x) (e ∷ es) ≡ 1 + count (λ d. in-group d x) es =
+          omega (arith, count-append (λ d. in-group d x) (e ∷ []) es, count-one (λ d. in-group d x) e t) in
+          rw (k, filter-cons (in-group e) x xs t) (omega (arith, count-append p (x ∷ []) (filter (in-group e) xs)))
+      go false q r s =
+          let k : count (λ d. in-group d x) (e ∷ es) ≡ count (λ d. in-group d x) es =
+          omega (arith, count-append (λ d. in-group d x) (e ∷ []) es, count-not (λ d. in-group d x) e q) in
+          rw (k, filter-not (in-group e) x xs q) (omega arith)
 
   -- where each is in one group, all are met once
   pub grouped : (xs : List A) (es : List E) → All (λ x. count (λ e. in-group e x) es ≡ 1) xs → count p (groups xs es) ≡ count p xs

@@ -37,7 +37,7 @@ fn split(buffer: &mut [u64], s: usize, n: usize, mid: u64) -> usize
 }
 
 // The lesser of two numbers.
-fn lesser(x: u64, y: u64) -> u64
+pub fn lesser(x: u64, y: u64) -> u64
     ensures { λ r. ⌜ r ≡ min x y ⌝ }
 {
     if x < y {

@@ -19,8 +19,8 @@ use Rattle.rules.proofs.Firsts.{none-at-fault, at-fault}
 use Rattle.table.specs.Entries.{stepAt, keysOf}
 use Rattle.table.specs.Table.{Tabled, runOf}
 use Rattle.table.proofs.Ids.{edges-keys}
-use Rattle.table.proofs.Places.{none, placed, run-in, run-number, key-at, starts-rise, start-least, last-start}
-use Rattle.table.proofs.Theorems.{beginning, entry, begins-is, runs-fit, edge-count, users-row}
+use Rattle.table.proofs.Places.{none, placed, run-in, run-number, key-at, start-least, last-start}
+use Rattle.table.proofs.Theorems.{beginning, entry, runs-fit, along-row, edge-count, users-row}
 use Rattle.boundary.specs.Rows.{FirstOf, long}
 
 -- more than two lie between a and b
@@ -91,11 +91,7 @@ module _ {w xs : List ℕ} {P at m : ℕ} (t : Tabled w xs P false at m) where
 
   -- the first entry of run r is along edge r
   pub first-along : (r : ℕ) → r < m → edge (stepAt (facesOf xs) (entry t (beginning t r))) ≡ getD (edges P (facesOf xs)) r none
-  first-along r h =
-      let k : r < length (keysOf false P (facesOf xs)) = omega (arith, t .count) in
-      let s = starts-rise false P (facesOf xs) r k in
-      let b = begins-is t r (omega arith) in
-      key-at (t .asks) (t .table) r (beginning t r) k (omega arith) (omega arith) ∙ ap (λ es. getD es r none) (edges-keys P (facesOf xs))
+  first-along r h = along-row t r (beginning t r) h (omega arith) (omega (arith, runs-fit t r h .0))
 
   -- edge r occurs as often as run r has entries, as the code reads it
   pub often-is : (r : ℕ) → r < m → length (users (facesOf xs) (getD (edges P (facesOf xs)) r none)) ≡ getD w (at + 4 * length xs + r + 1) 0 - getD w (at + 4 * length xs + r) 0

@@ -4,7 +4,6 @@ use mathlib.Core.Bool.{false, not}
 use mathlib.Core.List.{List, [], _∷_, map}
 use Prim.Native.Nat.{ℕ, suc, _+_, _-_, _*_, _/_, _≤_, _<_}
 use native.Mathlib.Omega.{arith}
-use native.Mathlib.Numerals.{add-one}
 use native.Mathlib.Decide.{ℕ-discrete}
 use borrow.Author.Tests.{eq-eqb}
 use lib.Dec.{eqb}
@@ -16,9 +15,8 @@ use Rattle.rules.specs.Lists.{filter}
 use Rattle.rules.specs.Mesh.{facesOf}
 use Rattle.rules.specs.Steps.{Step, edge, users, edges}
 use Rattle.table.specs.Entries.{stepAt}
-use Rattle.table.proofs.Ids.{edges-keys}
-use Rattle.table.proofs.Places.{none, key-at, id-in, tabled-kept}
-use Rattle.table.proofs.Theorems.{runs-fit, users-row}
+use Rattle.table.proofs.Places.{none, id-in, tabled-kept}
+use Rattle.table.proofs.Theorems.{runs-fit, along-row, users-row}
 use Rattle.table.proofs.Handing.{at-run}
 use Rattle.crossing.specs.Crossing.{Leads, Mated, MateAllAsks, MateAsks, MateGives}
 
@@ -116,12 +114,7 @@ module _ {w xs : List ℕ} {n r : ℕ} (p : MateAsks w xs n r) where
 
   -- an entry of the run is under it
   under-at : (k : ℕ) → low ≤ k → k < high → edge (stepAt (facesOf xs) (getD w (3 + 14 * n + 3 * length xs + k) 0)) ≡ e
-  under-at k a b =
-      let t = p .all .tabled in
-      let h = p .here in
-      let s = t .starts .each r (omega arith) in
-      let u = t .starts .each (r + 1) (omega arith) in
-      key-at (t .asks) (t .table) r k (omega (arith, t .count)) (omega arith) (rw (← add-one r) (omega arith)) ∙ ap (λ es. getD es r none) (edges-keys (p .all .points) (facesOf xs))
+  under-at k a b = along-row (p .all .tabled) r k (p .here) a b
 
   -- the first entry and the last
   abbrev a : ℕ

@@ -89,6 +89,13 @@ module _ {w xs : List ℕ} {P at m : ℕ} (t : Tabled w xs P false at m) where
   pub edges-row : map (λ r. step (getD w (at + entry t (beginning t r)) 0) (getD w (at + length xs + entry t (beginning t r)) 0)) (below m) ≡ edges P (facesOf xs)
   edges-row = keys-row t ∙ edges-keys P (facesOf xs)
 
+  -- an entry of run r is along edge r
+  pub along-row : (r k : ℕ) → r < m → beginning t r ≤ k → k < beginning t (r + 1) → edge (stepAt (facesOf xs) (entry t k)) ≡ getD (edges P (facesOf xs)) r none
+  along-row r k h a b =
+      let s = begins-is t r (omega arith) in
+      let u = begins-is t (r + 1) (omega arith) in
+      key-at (t .asks) (t .table) r k (omega (arith, t .count)) (omega arith) (rw (← add-one r) (omega arith)) ∙ ap (λ es. getD es r none) (edges-keys P (facesOf xs))
+
   -- run r has the users of edge r, in face order
   pub users-row : (r : ℕ) → r < m → map (λ id. id / 3) (part w (at + 3 * length xs + beginning t r) (beginning t (r + 1) - beginning t r)) ≡ users (facesOf xs) (getD (edges P (facesOf xs)) r none)
   users-row r h = rw (run-row t r h, users-ids (facesOf xs), edges-keys P (facesOf xs))

@@ -2,23 +2,21 @@
 use mathlib.Core.Path.{_≡_, sym, ap, _∙_}
 use mathlib.Core.Bool.{Bool}
 use mathlib.Core.List.{List}
-use Prim.Native.Nat.{ℕ, _+_, _*_, _/_, _≤_, _<_}
+use Prim.Native.Nat.{ℕ, _+_, _*_, _≤_, _<_}
 use native.Mathlib.Nat.{zero-add}
 use native.Mathlib.Omega.{arith}
 use lib.Ieee.{Float}
 use lib.ListN.{length, getD, set}
 use Rattle.rows.specs.Region.{Only, Holds}
-use Rattle.rows.proofs.Regions.{only-none, only-next, only-more, holds-none, holds-next}
-use Rattle.rows.specs.Retain.{RetainAsks, RetainGives}
+use Rattle.rows.proofs.Regions.{only-none, only-next, holds-none, holds-next}
 use Rattle.rules.specs.Mesh.{pointsOf}
 use Rattle.rules.specs.Float.{degenerate}
 use Rattle.rules.specs.Pass1.{marked1}
 use Rattle.rules.specs.Rooms.{work-room}
 use Rattle.measure.specs.Measure.{faceOf, Corners}
-use Rattle.leaving.specs.Pass.{standing, PassAsks, LeaveGives}
+use Rattle.leaving.specs.Pass.{standing, PassAsks, MarkGives}
 use Rattle.leaving.proofs.Standing.{standing-face}
-use Rattle.leaving.proofs.ByFlags.{closes, leave-by-flags}
-use Rattle.drop_degenerate.specs.Marks.{flagOf, MarkGives}
+use Rattle.drop_degenerate.specs.Marks.{flagOf}
 
 -- the loop's invariant
 pub record Marked (ps : List Float) (s : Float) (xs : List ℕ) (n : ℕ) (w₀ w : List ℕ) (i : ℕ) : Type 0 where
@@ -59,21 +57,7 @@ module _ {ps : List Float} {s : Float} {xs : List ℕ} {n : ℕ} {w₀ w : List 
       }
 
   -- after n turns every flag is written
-  pub done : n ≤ i → MarkGives ps s xs n w₀ w
+  pub done : n ≤ i → MarkGives (marked1 s (pointsOf ps) (standing xs n)) n n w₀ w 0
   done h =
       let e : i ≡ n = omega arith in
-      record { only = rw e at (v .only); flags = rw e at (v .flags) }
-
--- the flags lie in the stated work room
-module _ {ps : List Float} {s : Float} {xs : List ℕ} {n : ℕ} {w w1 : List ℕ} (p : PassAsks ps xs n w) (g : MarkGives ps s xs n w w1) where
-  within : Only 0 (work-room (length ps / 3) n) w w1
-  unfolding work-room
-  within = only-more (omega arith) (omega arith) (g .only)
-
-  -- so the faces may be closed up by them
-  pub retains : RetainAsks xs w1 0 n
-  retains = closes (p .stand) within (unfold work-room in (omega arith))
-
-  -- and then the degenerate ones have left
-  pub leaves : {xs′ : List ℕ} {r : ℕ} → RetainGives 0 xs w1 0 n xs′ r → LeaveGives (marked1 s (pointsOf ps) (standing xs n)) (length ps / 3) xs n w xs′ w1 r
-  leaves q = leave-by-flags (marked1 s (pointsOf ps) (standing xs n)) (p .stand) (g .flags) within q
+      record { within = omega arith; only = rw e at (v .only); flags = rw e at (v .flags) }

@@ -1,15 +1,14 @@
-// Pass 1 of document 01: degenerate faces leave.
+// Pass 1 of document 01: degenerate faces leave. This crate marks them.
 //
 // The work room, of n faces:
 //
 //     0   n   a flag for each face: 1 where it leaves, else 0
-ghost use lib.ListN.{length};
-ghost use Prim.Native.Nat.{_/_};
+use leaving::Marked;
+ghost use mathlib.Core.Path.{_≡_};
 ghost use Rattle.rules.specs.Mesh.{pointsOf};
 ghost use Rattle.rules.specs.Pass1.{marked1};
-ghost use Rattle.leaving.specs.Pass.{standing, PassAsks, LeaveGives};
-ghost use Rattle.drop_degenerate.specs.Marks.{flagOf, MarkGives};
-ghost use mathlib.Core.Path.{_≡_};
+ghost use Rattle.leaving.specs.Pass.{standing, PassAsks, MarkGives};
+ghost use Rattle.drop_degenerate.specs.Marks.{flagOf};
 
 // 1 for a face that leaves, 0 for one that stays.
 fn flag(leaves: bool) -> u32
@@ -19,9 +18,9 @@ fn flag(leaves: bool) -> u32
 }
 
 // Flags each of the n faces that is degenerate at the threshold s.
-fn mark(points: &[f64], s: f64, faces: &[u32], n: usize, work: &mut [u32])
+fn flag_all(points: &[f64], s: f64, faces: &[u32], n: usize, work: &mut [u32])
     requires { ⌜ PassAsks (now points) (now faces) n (now work) ⌝ }
-    ensures { λ _. ⌜ MarkGives (now (points .entry)) s (now (faces .entry)) n (now (work .entry)) (now (work .exit)) ⌝ }
+    ensures { λ _. ⌜ MarkGives (marked1 s (pointsOf (now (points .entry))) (standing (now (faces .entry)) n)) n n (now (work .entry)) (now (work .exit)) 0 ⌝ }
 {
     let mut i = 0;
     while i < n {
@@ -34,17 +33,12 @@ fn mark(points: &[f64], s: f64, faces: &[u32], n: usize, work: &mut [u32])
     }
 }
 
-// Pass 1: of the n faces the degenerate ones leave, at the threshold s. Returns how many stay.
-pub fn drop_degenerate(
-    points: &[f64],
-    s: f64,
-    faces: &mut [u32],
-    n: usize,
-    work: &mut [u32],
-) -> usize
+// Pass 1 marks those of the n faces that are degenerate at the threshold s.
+pub fn mark(points: &[f64], s: f64, faces: &[u32], n: usize, work: &mut [u32]) -> Marked
     requires { ⌜ PassAsks (now points) (now faces) n (now work) ⌝ }
-    ensures { λ r. ⌜ LeaveGives (marked1 s (pointsOf (now (points .entry))) (standing (now (faces .entry)) n)) (length (now (points .entry)) / 3) (now (faces .entry)) n (now (work .entry)) (now (faces .exit)) (now (work .exit)) r ⌝ }
+    ensures { λ r. ⌜ MarkGives (marked1 s (pointsOf (now (points .entry))) (standing (now (faces .entry)) n)) n n (now (work .entry)) (now (work .exit)) (r .at) ⌝ }
+    ensures { λ r. ⌜ r .found ≡ 0 ⌝ }
 {
-    mark(points, s, faces, n, work);
-    rows::retain(faces, work, 0, n)
+    flag_all(points, s, faces, n, work);
+    Marked { at: 0, found: 0 }
 }

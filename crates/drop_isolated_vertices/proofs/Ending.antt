@@ -15,8 +15,8 @@ use Rattle.rules.specs.Mesh.{flatFaces, renamed}
 use Rattle.rules.specs.Pass6.{used, marked6, number}
 use Rattle.rules.proofs.Counting.{count-below-agree}
 use Rattle.rules.proofs.Lists.{getD-map-in}
-use Rattle.leaving.specs.Pass.{standing}
-use Rattle.leaving.proofs.Leaving.{Flagged, kept-count, left-count, points-left}
+use Rattle.leaving.specs.Pass.{standing, Flagged}
+use Rattle.leaving.proofs.Leaving.{kept-count, left-count, points-left}
 use Rattle.drop_isolated_vertices.specs.Unused.{UseGives, RenumberAsks, RenumberGives, UnusedAsks, UnusedGives}
 use Rattle.drop_isolated_vertices.proofs.Corners.{flat-renamed}
 

@@ -44,7 +44,8 @@ fn show_equal(row: &[f64], other: &[f64]) {
 fn degenerate(points: &[f64], s: f64, faces: &mut [u32], n: usize, work: &mut [u32])
     requires { ⌜ PassAsks (now points) (now faces) n (now work) ⌝ }
 {
-    show_number(drop_degenerate::drop_degenerate(points, s, faces, n, work) as u64);
+    let marked = drop_degenerate::mark(points, s, faces, n, work);
+    show_number(leaving::leave(faces, work, marked.at, n) as u64);
     show(faces);
 }
 
@@ -52,7 +53,8 @@ fn degenerate(points: &[f64], s: f64, faces: &mut [u32], n: usize, work: &mut [u
 fn duplicate(faces: &mut [u32], n: usize, count: usize, work: &mut [u32])
     requires { ⌜ FacesStand count (now faces) n (now work) ⌝ }
 {
-    show_number(drop_duplicate_faces::drop_duplicate_faces(faces, n, count, work) as u64);
+    let marked = drop_duplicate_faces::mark(faces, n, count, work);
+    show_number(leaving::leave(faces, work, marked.at, n) as u64);
     show(faces);
 }
 

@@ -1,29 +1,20 @@
--- A pass that ends by closing up the faces: where the flags say what leaves, the kept rows are what the pass gives. Assumes nothing.
+-- A pass that marks the faces, which are then closed up: where the flags say what leaves, the kept rows are what the pass leaves. Assumes nothing.
 use mathlib.Core.Bool.{Bool}
 use mathlib.Core.List.{List}
-use Prim.Native.Nat.{ℕ, _+_, _≤_}
+use Prim.Native.Nat.{ℕ, _*_, _≤_}
 use native.Mathlib.Omega.{arith}
-use Rattle.rows.specs.Region.{Only}
+use lib.ListN.{length}
 use Rattle.rows.specs.Retain.{RetainAsks, RetainGives}
 use Rattle.rows.proofs.Regions.{only-more}
-use Rattle.rules.specs.Rooms.{work-room}
-use Rattle.leaving.specs.Pass.{FacesStand, LeaveGives}
-use Rattle.leaving.proofs.Leaving.{Flagged, faces-left, left-count}
+use Rattle.leaving.specs.Pass.{Flagged, MarkGives, LeaveGives}
+use Rattle.leaving.proofs.Leaving.{faces-left, left-count}
 
--- what the faces may be closed up by: n flags within the stated work room, after steps that keep its length
-pub closes : {P : ℕ} {xs : List ℕ} {n : ℕ} {w w1 : List ℕ} {flags : ℕ} → FacesStand P xs n w → Only 0 (work-room P n) w w1 → flags + n ≤ work-room P n → RetainAsks xs w1 flags n
-closes p o h = let l = o .long in record { rows-fit = p .fit; flags-fit = omega (arith, p .room) }
+-- faces that are marked may leave
+pub may-leave : {marked : ℕ → Bool} {taken : ℕ} {xs : List ℕ} {n : ℕ} {w w′ : List ℕ} {marks : ℕ} → 3 * n ≤ length xs → taken ≤ length w → MarkGives marked taken n w w′ marks → RetainAsks xs w′ marks n
+may-leave fit room g = let l = g .only .long in record { rows-fit = fit; flags-fit = omega (arith, g .within) }
 
 -- the flags are right, and the faces are closed up by them: the marked ones have left together
-pub leave-by-flags :
-    {P : ℕ} {xs : List ℕ} {n : ℕ} {w w1 : List ℕ} {flags : ℕ} {xs′ : List ℕ} {r : ℕ} (marked : ℕ → Bool)
-    → FacesStand P xs n w → Flagged w1 flags n marked → Only 0 (work-room P n) w w1 → RetainGives 0 xs w1 flags n xs′ r
-    → LeaveGives marked P xs n w xs′ w1 r
-leave-by-flags marked p f o g =
+pub leave-by-flags : {xs : List ℕ} {n : ℕ} {w : List ℕ} {marks : ℕ} {xs′ : List ℕ} {r : ℕ} → RetainAsks xs w marks n → RetainGives 0 xs w marks n xs′ r → (marked : ℕ → Bool) → Flagged w marks n marked → LeaveGives marked xs n xs′ r
+leave-by-flags p g marked f =
     let e = left-count marked f g in
-    record {
-      faces = faces-left marked (p .fit) f g;
-      number = e;
-      only-faces = only-more (omega arith) (omega arith) (g .only);
-      only-work = o;
-    }
+    record { faces = faces-left marked (p .rows-fit) f g; number = e; only-faces = only-more (omega arith) (omega arith) (g .only) }

@@ -10,7 +10,7 @@ use lib.Dec.{eqb}
 use lib.ListN.{length, getD, take, length-map}
 use lib.Seq.{drop-cons, getD-take, length-take-le}
 use lib.Ieee.{Float, nan}
-use Rattle.rows.specs.Region.{part, Holds}
+use Rattle.rows.specs.Region.{part}
 use Rattle.rows.specs.Filter.{keep}
 use Rattle.rows.specs.Retain.{upTo, rowsOf, keptOf, RetainGives}
 use Rattle.rows.proofs.FilterLaws as rows-laws
@@ -19,10 +19,7 @@ use Rattle.rules.specs.Lists.{below, filter, count, each, leave}
 use Rattle.rules.specs.Mesh.{pointsOf, facesOf, flatPoints, flatFaces, coordinates, corners, point, face, zero64}
 use Rattle.rules.proofs.Lists.{filter-append, stay-at, leave-places, leave-length, length-below}
 use Rattle.rules.proofs.Flat.{face-at, point-at, length-faces-take, length-points}
-
--- the flags from `flags` on are 1 for what leaves, and 0 for what stays
-abbrev pub Flagged : List ℕ → ℕ → ℕ → (ℕ → Bool) → Type 0
-Flagged w flags n marked = Holds flags n (λ i. cond (marked i) 1 0) w
+use Rattle.leaving.specs.Pass.{Flagged}
 
 -- a flag is 0 where the mark is not set
 flag-zero : (b : Bool) (v : ℕ) → v ≡ cond b 1 0 → eqb v 0 ≡ not b

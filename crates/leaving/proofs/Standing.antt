@@ -8,7 +8,6 @@ use lib.ListN.{length, getD, take}
 use lib.Seq.{getD-take, length-take-le}
 use Rattle.rules.specs.Lists.{below, count, leave}
 use Rattle.rules.specs.Mesh.{Point, face, facesOf, flatFaces, corners}
-use Rattle.rules.specs.Rooms.{work-room}
 use Rattle.rules.specs.State.{State, Count, more, counted, with-faces, dropped}
 use Rattle.rules.proofs.Flat.{face-at, faces-flat, length-faces-take}
 use Rattle.rules.proofs.Rising.{All, all-at, all-from, all-leave, all-each}
@@ -22,16 +21,16 @@ standing-face xs n fit i h =
     ∙ rw (getD-take (3 * n) xs (3 * i) 0 (omega arith), getD-take (3 * n) xs (3 * i + 1) 0 (omega arith), getD-take (3 * n) xs (3 * i + 2) 0 (omega arith))
 
 -- those that stay are what the rules leave
-pub standing-left : {marked : ℕ → Bool} {P : ℕ} {xs : List ℕ} {n : ℕ} {w xs′ w′ : List ℕ} {r : ℕ} → LeaveGives marked P xs n w xs′ w′ r → standing xs′ r ≡ leave marked (standing xs n)
-standing-left {marked} {P} {xs} {n} g = ap facesOf (g .faces) ∙ faces-flat (leave marked (standing xs n))
+pub standing-left : {marked : ℕ → Bool} {xs : List ℕ} {n : ℕ} {xs′ : List ℕ} {r : ℕ} → LeaveGives marked xs n xs′ r → standing xs′ r ≡ leave marked (standing xs n)
+standing-left {marked} {xs} {n} g = ap facesOf (g .faces) ∙ faces-flat (leave marked (standing xs n))
 
 -- the state of the rules: the faces that stay, and n - r more at the pass's count
 pub dropped-state :
-    {marked : ℕ → Bool} {P : ℕ} {xs : List ℕ} {n : ℕ} {w xs′ w′ : List ℕ} {r : ℕ} (c : Count) (ps : List Point) (report : List ℕ)
-    → 3 * n ≤ length xs → LeaveGives marked P xs n w xs′ w′ r
+    {marked : ℕ → Bool} {xs : List ℕ} {n : ℕ} {xs′ : List ℕ} {r : ℕ} (c : Count) (ps : List Point) (report : List ℕ)
+    → 3 * n ≤ length xs → LeaveGives marked xs n xs′ r
     → record { points = ps; faces = standing xs′ r; report = more c (n - r) report } ≡ dropped c marked (record { points = ps; faces = standing xs n; report = report })
 unfolding dropped counted with-faces
-dropped-state {marked} {P} {xs} {n} {w} {xs′} {w′} {r} c ps report fit g =
+dropped-state {marked} {xs} {n} {xs′} {r} c ps report fit g =
     let l = length-faces-take xs n fit in
     let k : n - r ≡ count marked (below (length (standing xs n))) = rw l (omega (arith, g .number)) in
     let b = standing-left g in
@@ -46,21 +45,13 @@ standing-inside {P} {xs} {n} p =
     let l : i < n = omega (arith, length-faces-take xs n (p .fit)) in
     rw (standing-face xs n (p .fit) i l) (p .inside (3 * i) (omega arith), (p .inside (3 * i + 1) (omega arith), (p .inside (3 * i + 2) (omega arith), tt))))
 
--- those that stay stand there as the next pass asks
-pub stands-left : {marked : ℕ → Bool} {P : ℕ} {xs : List ℕ} {n : ℕ} {w xs′ w′ : List ℕ} {r : ℕ} → FacesStand P xs n w → LeaveGives marked P xs n w xs′ w′ r → FacesStand P xs′ r w′
-unfolding work-room
-stands-left {marked} {P} {xs} {n} {w} {xs′} {w′} {r} p g =
+-- so are the corners of those that stay
+pub left-inside : {marked : ℕ → Bool} {P : ℕ} {xs : List ℕ} {n : ℕ} {w xs′ : List ℕ} {r : ℕ} → FacesStand P xs n w → LeaveGives marked xs n xs′ r → (i : ℕ) → i < 3 * r → getD xs′ i 0 < P
+left-inside {marked} {P} {xs} {n} {w} {xs′} {r} p g i h =
     let l = g .only-faces .long in
-    let k = g .only-work .long in
     let c = g .number in
-    record { points = p .points; few = omega (arith, p .few); fit = omega (arith, p .fit); inside = inside-left; room = omega (arith, p .room) }
+    let e = length-take-le (3 * r) xs′ (omega (arith, p .fit)) in
+    rw (getD-take (3 * r) xs′ i 0 h) at (rw (← (g .faces)) at (all-at (λ v. v < P) (flatFaces (leave marked (standing xs n))) 0 i flat-inside (omega (arith, ap length (g .faces)))))
   where
     flat-inside : All (λ v. v < P) (flatFaces (leave marked (standing xs n)))
     flat-inside = unfold flatFaces in (all-each (λ v. v < P) corners (leave marked (standing xs n)) (all-leave (λ f. All (λ v. v < P) (corners f)) marked (standing xs n) (standing-inside p)))
-
-    inside-left : (i : ℕ) → i < 3 * r → getD xs′ i 0 < P
-    inside-left i h =
-        let l = g .only-faces .long in
-        let c = g .number in
-        let e = length-take-le (3 * r) xs′ (omega (arith, p .fit)) in
-        rw (getD-take (3 * r) xs′ i 0 h) at (rw (← (g .faces)) at (all-at (λ v. v < P) (flatFaces (leave marked (standing xs n))) 0 i flat-inside (omega (arith, ap length (g .faces)))))

@@ -1,11 +1,11 @@
 -- What a pass asks and gives: the faces stand at the front of their room xs, the points at the front of theirs. Definitions only.
 use mathlib.Core.Path.{_≡_}
-use mathlib.Core.Bool.{Bool}
+use mathlib.Core.Bool.{Bool, cond}
 use mathlib.Core.List.{List}
 use Prim.Native.Nat.{ℕ, _+_, _*_, _/_, _%_, _≤_, _<_}
 use lib.ListN.{length, getD, take}
 use lib.Ieee.{Float}
-use Rattle.rows.specs.Region.{Only}
+use Rattle.rows.specs.Region.{Only, Holds}
 use Rattle.rules.specs.Lists.{below, count, leave}
 use Rattle.rules.specs.Mesh.{Face, facesOf, flatFaces, pointsOf}
 use Rattle.rules.specs.Refusal.{most-points, most-faces}
@@ -33,9 +33,18 @@ pub record PassAsks (ps : List Float) (xs : List ℕ) (n : ℕ) (w : List ℕ) :
   pub whole : length ps % 3 ≡ 0
   pub stand : FacesStand (length ps / 3) xs n w
 
--- Marked ones of the n faces have left together: r stay, in order, at the front. Nothing beyond the n faces and beyond the stated work room is changed.
-pub record LeaveGives (marked : ℕ → Bool) (P : ℕ) (xs : List ℕ) (n : ℕ) (w xs′ w′ : List ℕ) (r : ℕ) : Type 0 where
+-- the flags from `marks` on are 1 for what leaves, and 0 for what stays
+abbrev pub Flagged : List ℕ → ℕ → ℕ → (ℕ → Bool) → Type 0
+Flagged w marks n marked = Holds marks n (λ i. cond (marked i) 1 0) w
+
+-- The n faces are marked: their flags stand from `marks` on, within the `taken` entries of the work room beyond which nothing is changed.
+pub record MarkGives (marked : ℕ → Bool) (taken n : ℕ) (w w′ : List ℕ) (marks : ℕ) : Type 0 where
+  pub within : marks + n ≤ taken
+  pub only : Only 0 taken w w′
+  pub flags : Flagged w′ marks n marked
+
+-- Marked ones of the n faces have left together: r stay, in order, at the front. Nothing beyond the n faces is changed.
+pub record LeaveGives (marked : ℕ → Bool) (xs : List ℕ) (n : ℕ) (xs′ : List ℕ) (r : ℕ) : Type 0 where
   pub faces : take (3 * r) xs′ ≡ flatFaces (leave marked (standing xs n))
   pub number : r + count marked (below n) ≡ n
   pub only-faces : Only 0 (3 * n) xs xs′
-  pub only-work : Only 0 (work-room P n) w w′

@@ -17,7 +17,8 @@ use Rattle.rules.specs.Steps.{Step, step}
 use Rattle.table.specs.Entries.{keysOf}
 use Rattle.table.specs.Table.{Tabled, TableGives}
 use Rattle.table.proofs.Places.{tabled-kept}
-use Rattle.marking.specs.Marking.{pointCount, faceCount, edgeAt, MarkAsks, MarkGives, RunAsks, LostGives}
+use Rattle.leaving.specs.Pass.{MarkGives}
+use Rattle.marking.specs.Marking.{pointCount, faceCount, edgeAt, MarkAsks, RunAsks, LostGives}
 
 -- one element more passes, or one before does
 pub any-snoc : {A : Type 0} (p : A → Bool) (xs : List A) (x : A) → any p (xs ++ (x ∷ [])) ≡ (any p xs || p x)
@@ -64,11 +65,12 @@ module _ (lost : Step → ℕ → Bool) {d : Bool} {ps : List Float} {xs w : Lis
         }
 
     -- all have: the marks are right
-    pub done : {w′ : List ℕ} {r : ℕ} (marked : ℕ → Bool) → ((i : ℕ) → lostAmong lost (keysOf d (pointCount ps) (facesOf xs)) i ≡ marked i) → Passed lost d ps xs w₂ marks m w′ r → m ≤ r → MarkGives marked xs w marks w′
+    pub done : {w′ : List ℕ} {r : ℕ} (marked : ℕ → Bool) → ((i : ℕ) → lostAmong lost (keysOf d (pointCount ps) (facesOf xs)) i ≡ marked i) → Passed lost d ps xs w₂ marks m w′ r → m ≤ r → MarkGives marked (marks + faceCount xs) (faceCount xs) w w′ marks
     done {w′} {r} marked e v h =
         let k : r ≡ length (keysOf d (pointCount ps) (facesOf xs)) = omega (arith, v .most, t .tabled .count) in
         let a : take r (keysOf d (pointCount ps) (facesOf xs)) ≡ keysOf d (pointCount ps) (facesOf xs) = ap (λ j. take j (keysOf d (pointCount ps) (facesOf xs))) k ∙ take-length (keysOf d (pointCount ps) (facesOf xs)) in
         record {
+          within = omega arith;
           only = only-both (only-more (omega arith) (omega (arith, p .behind)) (t .only)) (only-more (omega arith) (omega arith) (only-both o (v .only)));
           flags = record { each = λ i q. v .flags .each i q ∙ ap (λ (b : Bool). cond {A = ℕ} b 1 0) (ap (λ es. lostAmong lost es i) a ∙ e i) };
         }

@@ -1,19 +1,16 @@
 -- The n faces at the front of their room, as a pass hands them on to be marked, and what the marks then give. Assumes nothing.
 use mathlib.Core.Path.{_≡_}
-use mathlib.Core.Bool.{Bool, cond}
+use mathlib.Core.Bool.{Bool}
 use mathlib.Core.List.{List}
 use Prim.Native.Nat.{ℕ, _+_, _*_, _<_}
 use native.Mathlib.Omega.{arith}
 use lib.ListN.{length, take}
 use lib.Seq.{length-take-le, getD-take}
 use lib.Ieee.{Float}
-use Rattle.rows.specs.Region.{Only, Holds}
-use Rattle.rows.specs.Retain.{RetainAsks, RetainGives}
 use Rattle.rows.proofs.Regions.{only-more}
 use Rattle.rules.specs.Rooms.{work-room}
-use Rattle.leaving.specs.Pass.{PassAsks, LeaveGives}
-use Rattle.leaving.proofs.ByFlags.{closes, leave-by-flags}
-use Rattle.marking.specs.Marking.{pointCount, MarkAsks, MarkGives}
+use Rattle.leaving.specs.Pass.{PassAsks, MarkGives}
+use Rattle.marking.specs.Marking.{pointCount, faceCount, MarkAsks}
 
 module _ {ps : List Float} {xs : List ℕ} {n : ℕ} {w : List ℕ} (p : PassAsks ps xs n w) where
   -- the front of the room has 3n entries
@@ -37,21 +34,10 @@ module _ {ps : List Float} {xs : List ℕ} {n : ℕ} {w : List ℕ} (p : PassAsk
         fit = omega arith;
       }
 
-  module _ {marked : ℕ → Bool} {w₁ : List ℕ} (g : MarkGives marked (take (3 * n) xs) w (15 * n + 1 + pointCount ps) w₁) where
-    -- nothing beyond the stated work room is changed
-    within : Only 0 (work-room (pointCount ps) n) w w₁
-    unfolding work-room
-    within = let l = front-long in only-more (omega arith) (omega arith) (g .only)
-
-    -- the faces may be closed up
-    pub retain-ok : RetainAsks xs w₁ (15 * n + 1 + pointCount ps) n
-    unfolding work-room
-    retain-ok = closes (p .stand) within (omega arith)
-
-    -- the marks are the flags of the n faces
-    flagged : Holds (15 * n + 1 + pointCount ps) n (λ i. cond (marked i) 1 0) w₁
-    flagged = record { each = λ i h. let l = front-long in g .flags .each i (omega arith) }
-
-    -- and the marked ones have left
-    pub left : {xs′ : List ℕ} {r : ℕ} → RetainGives 0 xs w₁ (15 * n + 1 + pointCount ps) n xs′ r → LeaveGives marked (pointCount ps) xs n w xs′ w₁ r
-    left = leave-by-flags marked (p .stand) flagged within
+  -- the marks of the front are those of the n faces
+  pub marks-are :
+      {marked : ℕ → Bool} {w₁ : List ℕ} → MarkGives marked (15 * n + 1 + pointCount ps + faceCount (take (3 * n) xs)) (faceCount (take (3 * n) xs)) w w₁ (15 * n + 1 + pointCount ps)
+      → MarkGives marked (16 * n + 1 + pointCount ps) n w w₁ (15 * n + 1 + pointCount ps)
+  marks-are g =
+      let l = front-long in
+      record { within = omega arith; only = only-more (omega arith) (omega arith) (g .only); flags = record { each = λ i h. g .flags .each i (omega arith) } }

@@ -29,11 +29,6 @@ pub record MarkAsks (ps : List Float) (xs w : List ℕ) (marks : ℕ) : Type 0 w
   pub behind : 5 * length xs + 1 + pointCount ps ≤ marks
   pub fit : marks + faceCount xs ≤ length w
 
--- the marks are 1 for what is marked and 0 for all else, and nothing behind them is changed
-pub record MarkGives (marked : ℕ → Bool) (xs w : List ℕ) (marks : ℕ) (w′ : List ℕ) : Type 0 where
-  pub only : Only 0 (marks + faceCount xs) w w′
-  pub flags : Holds marks (faceCount xs) (λ i. cond (marked i) 1 0) w′
-
 -- the table stands, and r is one of its runs
 pub record RunAsks (d : Bool) (ps : List Float) (xs w : List ℕ) (marks r : ℕ) : Type 0 where
   pub tabled : Tabled w xs (pointCount ps) d 0 (runCount xs (pointCount ps) d)

@@ -1,5 +1,5 @@
 -- One pass by its option: it is off and nothing changes, or marked faces leave. Assumes nothing.
-use mathlib.Core.Path.{_≡_, sym, ap, subst, _∙_}
+use mathlib.Core.Path.{_≡_, sym, ap, _∙_}
 use mathlib.Core.Bool.{Bool, true, false}
 use mathlib.Core.List.{List}
 use Prim.Native.Nat.{ℕ, _+_, _*_, _-_, _/_, _%_, _^_, _≤_, _<_}
@@ -9,9 +9,11 @@ use lib.ListN.{length, getD, take}
 use lib.Seq.{length-take-le}
 use lib.Ieee.{Float}
 use Rattle.rows.specs.Region.{Only}
+use Rattle.rows.specs.Retain.{RetainAsks}
 use Rattle.rows.proofs.Regions.{only-none, only-both}
-use Rattle.leaving.specs.Pass.{PassAsks, LeaveGives, stateOf}
-use Rattle.leaving.proofs.Standing.{dropped-state, stands-left}
+use Rattle.leaving.specs.Pass.{PassAsks, Flagged, MarkGives, LeaveGives, stateOf}
+use Rattle.leaving.proofs.ByFlags.{may-leave}
+use Rattle.leaving.proofs.Standing.{dropped-state, left-inside}
 use Rattle.rules.specs.Mesh.{pointsOf}
 use Rattle.rules.specs.Repair.{optional, bit}
 use Rattle.rules.specs.Rooms.{work-room}
@@ -71,25 +73,34 @@ as-many a = omega (arith, as-long a)
 pub reads : {ps : List Float} {p : ℕ} {xs : List ℕ} {n : ℕ} {w : List ℕ} → SplitAsks ps p xs n w → PassAsks (take (3 * p) ps) xs n w
 reads a = record { whole = omega (arith, as-long a); stand = rw (as-many a) (a .stand) }
 
--- what is said of a pass that read them
-pub read :
-    {ps : List Float} {p : ℕ} {xs : List ℕ} {n : ℕ} {w : List ℕ} {marked : ℕ → Bool} {xs₁ w₁ xs′ w′ : List ℕ} {r : ℕ}
-    → SplitAsks ps p xs n w → LeaveGives marked (length (take (3 * p) ps) / 3) xs₁ n w₁ xs′ w′ r → LeaveGives marked p xs₁ n w₁ xs′ w′ r
-read {n = n} {marked = marked} {xs₁ = xs₁} {w₁ = w₁} {xs′ = xs′} {w′ = w′} {r = r} a g =
-    subst (λ (P : ℕ). LeaveGives marked P xs₁ n w₁ xs′ w′ r) (as-many a) g
+-- faces marked for the second half of pass 4 may leave
+pub collided-leave :
+    {marked : ℕ → Bool} {qs : List Float} {xs : List ℕ} {n : ℕ} {w w′ : List ℕ} {m : ℕ} → PassAsks qs xs n w → MarkGives marked (16 * n + 1 + length qs / 3) n w w′ m → RetainAsks xs w′ m n
+unfolding work-room
+collided-leave p g = may-leave (p .stand .fit) (omega (arith, p .stand .room)) g
+
+-- the faces that were marked are those that left
+pub left-by :
+    {marked : ℕ → Bool} {taken : ℕ} {xs : List ℕ} {n : ℕ} {w w′ : List ℕ} {m : ℕ} {xs′ : List ℕ} {r : ℕ}
+    → MarkGives marked taken n w w′ m → ((by : ℕ → Bool) → Flagged w′ m n by → LeaveGives by xs n xs′ r) → LeaveGives marked xs n xs′ r
+left-by {marked} g leaves = leaves marked (g .flags)
+
+-- no more stay than stood
+pub left-fewer : {marked : ℕ → Bool} {xs : List ℕ} {n : ℕ} {xs′ : List ℕ} {r : ℕ} → LeaveGives marked xs n xs′ r → r ≤ n
+left-fewer g = omega (arith, g .number)
 
 -- a pass in which marked faces leave, after `first` was added to the report
 pub step-left :
     {ps : List Float} {p : ℕ} {xs : List ℕ} {n : ℕ} {w xs′ w′ : List ℕ} {r : ℕ} (pass : State → State) (c : Count) (first : List ℕ → List ℕ) (marked : ℕ → Bool) (found changed : ℕ)
     → found ≤ p + 3 * n → changed ≤ p + 3 * n
     → ((report : List ℕ) → pass (stateOf ps p xs n report) ≡ dropped c marked (stateOf ps p xs n (first report)))
-    → SplitAsks ps p xs n w → LeaveGives marked p xs n w xs′ w′ r
+    → SplitAsks ps p xs n w → Only 0 (work-room p n) w w′ → LeaveGives marked xs n xs′ r
     → PassGives (optional true pass) (λ report. more c (n - r) (first report)) p p (work-room p n) ps p xs n w ps xs′ w′ (record { points = p; faces = r; dropped = n - r; found = found; changed = changed })
 unfolding optional
-step-left {ps} {p} {xs} {n} {w} {xs′} {w′} {r} pass c first marked found changed few-found few-changed e a g =
+step-left {ps} {p} {xs} {n} {w} {xs′} {w′} {r} pass c first marked found changed few-found few-changed e a o g =
     record {
       state = λ report. dropped-state c (pointsOf (take (3 * p) ps)) (first report) (a .stand .fit) g ∙ sym (e report);
-      inside = stands-left (a .stand) g .inside;
+      inside = left-inside (a .stand) g;
       not-below = omega arith;
       not-above = omega arith;
       fewer = omega (arith, g .number);
@@ -98,7 +109,7 @@ step-left {ps} {p} {xs} {n} {w} {xs′} {w′} {r} pass c first marked found cha
       few-changed = few-changed;
       only-points = only-none 0 (3 * p) ps;
       only-faces = g .only-faces;
-      only-work = g .only-work;
+      only-work = o;
     }
 
 -- a pass whose faces were changed in their room before: what is said of the changed ones is said of those before

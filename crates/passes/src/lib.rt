@@ -1,6 +1,14 @@
 // The six passes of a repair, each by its option, on the lists that stand at the front of the answer rooms. Each returns what it counts.
-ghost use Prim.Native.Nat.{ℕ, _+_, _*_};
+ghost use Prim.Native.Nat.{ℕ, _+_, _*_, _/_};
+ghost use mathlib.Core.Path.{_≡_};
+ghost use mathlib.Core.Bool.{true};
 ghost use mathlib.Core.List.{List};
+ghost use lib.ListN.{length};
+ghost use Rattle.rows.specs.Region.{Only};
+ghost use Rattle.rules.specs.Mesh.{pointsOf};
+ghost use Rattle.rules.specs.Pass4.{marked4};
+ghost use Rattle.rules.proofs.Once.{Once};
+ghost use Rattle.leaving.specs.Pass.{standing, PassAsks, LeaveGives};
 ghost use Rattle.rules.specs.Repair.{optional, bit};
 ghost use Rattle.rules.specs.Rooms.{work-room};
 ghost use Rattle.rules.specs.State.{more, degenerates, duplicates, crowded-edges, dropped-at-edges, dropped-for-direction, vertices-split, points-added, reoriented, components, isolated};
@@ -37,7 +45,8 @@ pub fn pass1(
     ensures { λ r. ⌜ PassGives (optional (bit 0 options) (one.pass1 s)) (more degenerates (r .dropped)) p p (work-room p n) (now (points .entry)) p (now (faces .entry)) n (now (work .entry)) (now (points .exit)) (now (faces .exit)) (now (work .exit)) r ⌝ }
 {
     if options % 2 == 1 {
-        let left = drop_degenerate::drop_degenerate(&points[..3 * p], s, faces, n, work);
+        let marked = drop_degenerate::mark(&points[..3 * p], s, faces, n, work);
+        let left = leaving::leave(faces, work, marked.at, n);
         return Passed {
             points: p,
             faces: left,
@@ -69,7 +78,8 @@ pub fn pass2(
     ensures { λ r. ⌜ PassGives (optional (bit 1 options) two.pass2) (more duplicates (r .dropped)) p p (work-room p n) (now (points .entry)) p (now (faces .entry)) n (now (work .entry)) (now (points .exit)) (now (faces .exit)) (now (work .exit)) r ⌝ }
 {
     if options / 2 % 2 == 1 {
-        let left = drop_duplicate_faces::drop_duplicate_faces(faces, n, p, work);
+        let marked = drop_duplicate_faces::mark(faces, n, p, work);
+        let left = leaving::leave(faces, work, marked.at, n);
         return Passed {
             points: p,
             faces: left,
@@ -101,18 +111,13 @@ pub fn pass3(
     ensures { λ r. ⌜ PassGives (optional (bit 2 options) three.pass3) (λ (report : List ℕ). more dropped-at-edges (r .dropped) (more crowded-edges (r .found) report)) p p (work-room p n) (now (points .entry)) p (now (faces .entry)) n (now (work .entry)) (now (points .exit)) (now (faces .exit)) (now (work .exit)) r ⌝ }
 {
     if options / 4 % 2 == 1 {
-        let resolved = resolve_nonmanifold_edges::resolve_nonmanifold_edges(
-            &points[..3 * p],
-            faces,
-            n,
-            work,
-        );
-        let left = resolved.faces;
+        let marked = resolve_nonmanifold_edges::mark(&points[..3 * p], faces, n, work);
+        let left = leaving::leave(faces, work, marked.at, n);
         return Passed {
             points: p,
             faces: left,
             dropped: n - left,
-            found: resolved.edges,
+            found: marked.found,
             changed: 0,
         };
     }
@@ -123,6 +128,26 @@ pub fn pass3(
         found: 0,
         changed: 0,
     }
+}
+
+// The second half of pass 4, where `single` may say that each directed edge is used at most once: then every face stays. Returns how many do.
+fn drop_collisions(
+    points: &[f64],
+    faces: &mut [u32],
+    n: usize,
+    work: &mut [u32],
+    single: bool,
+) -> usize
+    requires { ⌜ PassAsks (now points) (now faces) n (now work) ⌝ }
+    requires { ⌜ (single ≡ true → Once (standing (now faces) n)) ⌝ }
+    ensures { λ r. ⌜ LeaveGives (marked4 (pointsOf (now (points .entry))) (standing (now (faces .entry)) n)) (now (faces .entry)) n (now (faces .exit)) r ⌝ }
+    ensures { λ _. ⌜ Only 0 (16 * n + 1 + length (now (points .entry)) / 3) (now (work .entry)) (now (work .exit)) ⌝ }
+{
+    if single {
+        return n;
+    }
+    let marked = resolve_directed_collisions::mark(points, faces, n, work);
+    leaving::leave(faces, work, marked.at, n)
 }
 
 // Pass 4, if it is on: faces are turned until neighbours agree, components in which they cannot are found, and faces leave at directed edges that are used more than once.
@@ -141,13 +166,7 @@ pub fn pass4(
     if options / 16 % 2 == 1 {
         let turned = orient_consistently::settle(faces, n, p, work);
         let single = turned.single;
-        let left = resolve_directed_collisions::resolve_unless(
-            &points[..3 * p],
-            faces,
-            n,
-            work,
-            single,
-        );
+        let left = drop_collisions(&points[..3 * p], faces, n, work, single);
         return Passed {
             points: p,
             faces: left,

@@ -14,7 +14,8 @@ use Rattle.rows.specs.Region.{Apart.before, OnlyOf, HoldsOf, Only, Filled}
 use Rattle.rows.specs.Retain.{keptOf, RetainAsks, RetainGives, NumberAsks, NumberGives}
 use Rattle.rows.proofs.Regions.{only-both, only-more, kept-at, holds-kept}
 use Rattle.filling.proofs.Filling.{filled-in, filled-whole, cleared-is}
-use Rattle.leaving.proofs.Leaving.{Flagged, kept-count, left-count, points-left}
+use Rattle.leaving.specs.Pass.{Flagged}
+use Rattle.leaving.proofs.Leaving.{kept-count, left-count, points-left}
 use Rattle.rules.specs.Lists.{leave}
 use Rattle.rules.specs.Mesh.{Point, point, pointsOf, flatPoints, zero64}
 use Rattle.rules.specs.Refusal.{decided}

@@ -2,7 +2,7 @@
 use mathlib.Core.Path.{_≡_, refl, sym, ap, _∙_}
 use mathlib.Core.Bool.{Bool, false}
 use mathlib.Core.List.{List, [], _∷_}
-use Prim.Native.Nat.{ℕ, suc, _*_, _/_}
+use Prim.Native.Nat.{ℕ, suc, _*_}
 use native.Mathlib.Omega.{arith}
 use lib.ListN.{length, take}
 use lib.Seq.{length-take-le}
@@ -13,7 +13,6 @@ use Rattle.rules.specs.Mesh.{Point, Face, pointsOf, flatFaces}
 use Rattle.rules.specs.Steps.{walkers, directed, qualityOf}
 use Rattle.rules.specs.Rank.{best, without}
 use Rattle.rules.specs.Pass4.{marked4}
-use Rattle.rules.specs.Rooms.{work-room}
 use Rattle.rules.proofs.Lists.{leave-length}
 use Rattle.rules.proofs.Once.{Once}
 use Rattle.rules.proofs.Flat.{flat-faces, length-faces-take}
@@ -39,7 +38,7 @@ leave-none marked h [] = refl
 leave-none marked h (x ∷ xs) = rw (h 0) (ap (λ l. x ∷ l) (leave-none (λ i. marked (suc i)) (λ i. h (suc i)) xs))
 
 -- so nothing is changed
-pub all-stay : {ps : List Float} {xs : List ℕ} {n : ℕ} {w : List ℕ} → PassAsks ps xs n w → Once (standing xs n) → LeaveGives (marked4 (pointsOf ps) (standing xs n)) (length ps / 3) xs n w xs w n
+pub all-stay : {ps : List Float} {xs : List ℕ} {n : ℕ} {w : List ℕ} → PassAsks ps xs n w → Once (standing xs n) → LeaveGives (marked4 (pointsOf ps) (standing xs n)) xs n xs n
 all-stay {ps} {xs} {n} {w} p once =
     let m = marked4 (pointsOf ps) (standing xs n) in
     let none = none-marked (pointsOf ps) (standing xs n) once in
@@ -50,5 +49,4 @@ all-stay {ps} {xs} {n} {w} p once =
       faces = sym (ap flatFaces stay ∙ flat-faces (take (3 * n) xs) (omega arith));
       number = rw (ap length stay, l) at (leave-length m (standing xs n));
       only-faces = only-none 0 (3 * n) xs;
-      only-work = only-none 0 (work-room (length ps / 3) n) w;
     }

@@ -1,12 +1,13 @@
-// The second half of pass 4 of document 01: of the entries of each directed edge the first in rank stays, and each other one marks its face, which leaves.
+// The second half of pass 4 of document 01: of the entries of each directed edge the first in rank stays, and each other one marks its face, which leaves. This crate marks them.
 //
 // The work room, with P points and n faces:
 //
 //     0             15n + 1 + P   the directed table of the faces
 //     15n + 1 + P   n             the marks: 1 for a face that leaves
+use leaving::Marked;
 ghost use mathlib.Core.Path.{_≡_};
 ghost use mathlib.Core.Bool.{true, not, _&&_};
-ghost use Prim.Native.Nat.{_/_};
+ghost use Prim.Native.Nat.{_+_, _*_, _/_};
 ghost use lib.Dec.{eqb};
 ghost use lib.ListN.{length};
 ghost use Rattle.rows.specs.Region.{part};
@@ -14,10 +15,9 @@ ghost use Rattle.rules.specs.Lists.{has};
 ghost use Rattle.rules.specs.Mesh.{facesOf, pointsOf};
 ghost use Rattle.rules.specs.Pass4.{marked4};
 ghost use Rattle.rules.specs.Rank.{without};
-ghost use Rattle.rules.proofs.Once.{Once};
-ghost use Rattle.leaving.specs.Pass.{standing, PassAsks, LeaveGives};
+ghost use Rattle.leaving.specs.Pass.{standing, PassAsks, MarkGives};
 ghost use Rattle.rank.specs.Ranks.{facesIn, valueOf};
-ghost use Rattle.marking.specs.Marking.{faceCount, edgeAt, MarkAsks, MarkGives, RunAsks, EntriesAsks, LostGives};
+ghost use Rattle.marking.specs.Marking.{faceCount, edgeAt, MarkAsks, RunAsks, EntriesAsks, LostGives};
 ghost use Rattle.resolve_directed_collisions.specs.Collisions.{afterFirst};
 
 // Whether an entry of face f is the one that stays: the first one of face `one`. `seen` says that it has passed.
@@ -67,7 +67,7 @@ fn resolve_edge(points: &[f64], faces: &[u32], work: &mut [u32], marks: usize, r
 // Marks every face that leaves, on the unchanged list.
 fn mark_edges(points: &[f64], faces: &[u32], work: &mut [u32], marks: usize)
     requires { ⌜ MarkAsks (now points) (now faces) (now work) marks ⌝ }
-    ensures { λ _. ⌜ MarkGives (marked4 (pointsOf (now (points .entry))) (facesOf (now (faces .entry)))) (now (faces .entry)) (now (work .entry)) marks (now (work .exit)) ⌝ }
+    ensures { λ _. ⌜ MarkGives (marked4 (pointsOf (now (points .entry))) (facesOf (now (faces .entry)))) (marks + faceCount (now (faces .entry))) (faceCount (now (faces .entry))) (now (work .entry)) (now (work .exit)) marks ⌝ }
 {
     let m = table::table(work, faces, points.len() / 3, true, 0);
     rows::clear(work, marks, faces.len() / 3);
@@ -78,36 +78,16 @@ fn mark_edges(points: &[f64], faces: &[u32], work: &mut [u32], marks: usize)
     }
 }
 
-// Drops each face that has an entry after the first in rank at some directed edge, and returns how many faces stay. The n faces stand at the front of
-// their room.
-pub fn resolve_directed_collisions(
-    points: &[f64],
-    faces: &mut [u32],
-    n: usize,
-    work: &mut [u32],
-) -> usize
+// The second half of pass 4 marks each face that has an entry after the first in rank at some directed edge. The n faces stand at the front of their room.
+pub fn mark(points: &[f64], faces: &[u32], n: usize, work: &mut [u32]) -> Marked
     requires { ⌜ PassAsks (now points) (now faces) n (now work) ⌝ }
-    ensures { λ r. ⌜ LeaveGives (marked4 (pointsOf (now (points .entry))) (standing (now (faces .entry)) n)) (length (now (points .entry)) / 3) (now (faces .entry)) n (now (work .entry)) (now (faces .exit)) (now (work .exit)) r ⌝ }
+    ensures { λ r. ⌜ MarkGives (marked4 (pointsOf (now (points .entry))) (standing (now (faces .entry)) n)) (16 * n + 1 + length (now (points .entry)) / 3) n (now (work .entry)) (now (work .exit)) (r .at) ⌝ }
+    ensures { λ r. ⌜ r .found ≡ 0 ⌝ }
 {
     let marks = 15 * n + 1 + points.len() / 3;
     mark_edges(points, &faces[..3 * n], work, marks);
-    rows::retain(faces, work, marks, n)
-}
-
-// The same, where `single` may say that each directed edge is used at most once: then every face stays.
-pub fn resolve_unless(
-    points: &[f64],
-    faces: &mut [u32],
-    n: usize,
-    work: &mut [u32],
-    single: bool,
-) -> usize
-    requires { ⌜ PassAsks (now points) (now faces) n (now work) ⌝ }
-    requires { ⌜ (single ≡ true → Once (standing (now faces) n)) ⌝ }
-    ensures { λ r. ⌜ LeaveGives (marked4 (pointsOf (now (points .entry))) (standing (now (faces .entry)) n)) (length (now (points .entry)) / 3) (now (faces .entry)) n (now (work .entry)) (now (faces .exit)) (now (work .exit)) r ⌝ }
-{
-    if single {
-        return n;
+    Marked {
+        at: marks,
+        found: 0,
     }
-    resolve_directed_collisions(points, faces, n, work)
 }

@@ -2,7 +2,7 @@
 use mathlib.Core.Path.{_≡_}
 use mathlib.Core.Bool.{Bool, false, not, _&&_, _||_, cond}
 use mathlib.Core.List.{List}
-use Prim.Native.Nat.{ℕ}
+use Prim.Native.Nat.{ℕ, _+_}
 use lib.Dec.{eqb, ltb}
 use lib.ListN.{length}
 use lib.Ieee.{Float}
@@ -11,7 +11,8 @@ use Rattle.rules.specs.Mesh.{Face, facesOf, pointsOf}
 use Rattle.rules.specs.Steps.{Step, users}
 use Rattle.rules.specs.Pass3.{crowded, kept, marked3}
 use Rattle.rank.specs.Ranks.{valueOf}
-use Rattle.marking.specs.Marking.{pointCount, faceCount, edgeAt, MarkGives, LostGives}
+use Rattle.leaving.specs.Pass.{MarkGives}
+use Rattle.marking.specs.Marking.{pointCount, faceCount, edgeAt, LostGives}
 
 -- more than two entries meet at the edge e
 abbrev pub crowds : List Face → Step → Bool
@@ -32,5 +33,5 @@ pub record EdgeGives (ps : List Float) (xs w : List ℕ) (marks r : ℕ) (w′ :
 
 -- all that pass 3 marks is marked, and the crowded edges are counted
 pub record EdgesGives (ps : List Float) (xs w : List ℕ) (marks : ℕ) (w′ : List ℕ) (count : ℕ) : Type 0 where
-  pub marked : MarkGives (marked3 (pointsOf ps) (facesOf xs)) xs w marks w′
+  pub marked : MarkGives (marked3 (pointsOf ps) (facesOf xs)) (marks + faceCount xs) (faceCount xs) w w′ marks
   pub counted : count ≡ length (crowded (pointCount ps) (facesOf xs))

@@ -1,27 +1,22 @@
-// Pass 3 of document 01: at each edge with more than two entries two faces are kept, and all others of its faces leave.
+// Pass 3 of document 01: at each edge with more than two entries two faces are kept, and all others of its faces leave. This crate marks those.
 //
 // The work room, with P points and n faces:
 //
 //     0             15n + 1 + P   the undirected table of the faces
 //     15n + 1 + P   n             the marks: 1 for a face that leaves
+use leaving::Marked;
 ghost use mathlib.Core.Path.{_≡_};
 ghost use mathlib.Core.Bool.{false, not, _||_};
-ghost use Prim.Native.Nat.{_/_};
+ghost use Prim.Native.Nat.{_+_, _*_, _/_};
 ghost use lib.Dec.{eqb};
 ghost use lib.ListN.{length};
 ghost use Rattle.rows.specs.Region.{part};
 ghost use Rattle.rules.specs.Mesh.{pointsOf};
 ghost use Rattle.rules.specs.Pass3.{crowded, marked3};
-ghost use Rattle.leaving.specs.Pass.{standing, PassAsks, LeaveGives};
+ghost use Rattle.leaving.specs.Pass.{standing, PassAsks, MarkGives};
 ghost use Rattle.rank.specs.Ranks.{facesIn};
 ghost use Rattle.marking.specs.Marking.{MarkAsks, RunAsks, EntriesAsks, LostGives};
 ghost use Rattle.resolve_nonmanifold_edges.specs.Crowds.{lostOf, EdgeGives, EdgesGives};
-
-// What the pass gives back: how many edges are crowded, and how many faces stay.
-pub struct Resolved {
-    pub edges: usize,
-    pub faces: usize,
-}
 
 // Whether face f is neither of the two that are kept.
 fn loses(f: usize, one: usize, two: usize) -> bool
@@ -95,22 +90,16 @@ fn mark_edges(points: &[f64], faces: &[u32], work: &mut [u32], marks: usize) -> 
     c
 }
 
-// Counts the edges with more than two entries, and drops the faces that are marked at any of them. The n faces stand at the front of their room.
-pub fn resolve_nonmanifold_edges(
-    points: &[f64],
-    faces: &mut [u32],
-    n: usize,
-    work: &mut [u32],
-) -> Resolved
+// Pass 3 marks the faces that leave at an edge with more than two entries, and counts such edges. The n faces stand at the front of their room.
+pub fn mark(points: &[f64], faces: &[u32], n: usize, work: &mut [u32]) -> Marked
     requires { ⌜ PassAsks (now points) (now faces) n (now work) ⌝ }
-    ensures { λ r. ⌜ LeaveGives (marked3 (pointsOf (now (points .entry))) (standing (now (faces .entry)) n)) (length (now (points .entry)) / 3) (now (faces .entry)) n (now (work .entry)) (now (faces .exit)) (now (work .exit)) (r .faces) ⌝ }
-    ensures { λ r. ⌜ r .edges ≡ length (crowded (length (now (points .entry)) / 3) (standing (now (faces .entry)) n)) ⌝ }
+    ensures { λ r. ⌜ MarkGives (marked3 (pointsOf (now (points .entry))) (standing (now (faces .entry)) n)) (16 * n + 1 + length (now (points .entry)) / 3) n (now (work .entry)) (now (work .exit)) (r .at) ⌝ }
+    ensures { λ r. ⌜ r .found ≡ length (crowded (length (now (points .entry)) / 3) (standing (now (faces .entry)) n)) ⌝ }
 {
     let marks = 15 * n + 1 + points.len() / 3;
     let edges = mark_edges(points, &faces[..3 * n], work, marks);
-    let stay = rows::retain(faces, work, marks, n);
-    Resolved {
-        edges: edges,
-        faces: stay,
+    Marked {
+        at: marks,
+        found: edges,
     }
 }

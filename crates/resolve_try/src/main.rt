@@ -26,17 +26,19 @@ fn show_row(row: &[u32], n: usize)
 fn edges(points: &[f64], faces: &mut [u32], n: usize, work: &mut [u32])
     requires { ⌜ PassAsks (now points) (now faces) n (now work) ⌝ }
 {
-    let r = resolve_nonmanifold_edges::resolve_nonmanifold_edges(points, faces, n, work);
-    show(r.edges as u64);
-    show(r.faces as u64);
-    show_row(faces, 3 * r.faces);
+    let marked = resolve_nonmanifold_edges::mark(points, faces, n, work);
+    let r = leaving::leave(faces, work, marked.at, n);
+    show(marked.found as u64);
+    show(r as u64);
+    show_row(faces, 3 * r);
 }
 
 // The second half of pass 4.
 fn collisions(points: &[f64], faces: &mut [u32], n: usize, work: &mut [u32])
     requires { ⌜ PassAsks (now points) (now faces) n (now work) ⌝ }
 {
-    let r = resolve_directed_collisions::resolve_directed_collisions(points, faces, n, work);
+    let marked = resolve_directed_collisions::mark(points, faces, n, work);
+    let r = leaving::leave(faces, work, marked.at, n);
     show(r as u64);
     show_row(faces, 3 * r);
 }

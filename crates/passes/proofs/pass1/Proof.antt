@@ -1,26 +1,34 @@
 -- `passes::pass1` meets its contract: the pass is on and marked faces leave, or it is off. Assumes nothing.
 use mathlib.Core.Path.{sym, _∙_}
-use native.Mathlib.Omega.{arith}
-use Rattle.passes.proofs.Steps.{bit-set, bit-clear, reads, lowest, as-long}
-use Rattle.passes.proofs.Passes.{on1, off1}
+use Rattle.passes.proofs.Steps.{bit-set, bit-clear, left-by, left-fewer, lowest, as-long, reads}
+use Rattle.passes.proofs.Passes.{leaves-1, on1, off1}
 use borrow.Author.Needs.{needs}
 use Rattle.passes.proofs.pass1.Statement.{statement}
 use Rattle.passes.proofs.pass1.Tie as tie
 
-mul-drop-degenerate : tie.Need-mul-drop-degenerate
-mul-drop-degenerate c = search needs
+mul-mark : tie.Need-mul-mark
+mul-mark c = search needs
 
-slice-reshare-prefix-drop-degenerate : tie.Need-slice-reshare-prefix-drop-degenerate
-slice-reshare-prefix-drop-degenerate c = omega (arith, c .before .before .before .before .pre .room)
+slice-reshare-prefix-mark : tie.Need-slice-reshare-prefix-mark
+slice-reshare-prefix-mark c = search needs
 
-slice-aggregate-drop-degenerate : tie.Need-slice-aggregate-drop-degenerate
-slice-aggregate-drop-degenerate c = omega (arith, as-long (c .before .before .before .before .before .pre))
+slice-aggregate-mark : tie.Need-slice-aggregate-mark
+slice-aggregate-mark c = sym (as-long (c .before .before .before .before .before .pre))
 
-drop-degenerate-requires : tie.Need-drop-degenerate-requires
-drop-degenerate-requires c κs = reads (c .before .before .before .before .before .before .before .pre)
+mark-requires : tie.Need-mark-requires
+mark-requires c κs = reads (c .before .before .before .before .before .before .before .pre)
 
-sub-t11 : tie.Need-sub-t11
-sub-t11 c = omega (arith, c .before .before .before .before .drop-degenerate .ensures .number)
+leave-requires : tie.Need-leave-requires
+leave-requires c κs =
+    let at-mark = c .before .before .before .before in
+    let start = at-mark .before .before .before .before .before .before .before .before in
+    leaves-1 (start .pre) (at-mark .mark .ensures .0)
+
+sub-t12 : tie.Need-sub-t12
+sub-t12 c =
+    let at-leave = c .before .before in
+    let at-mark = at-leave .before .before .before .before .before in
+    left-fewer (left-by (at-mark .mark .ensures .0) (at-leave .leave .ensures))
 
 same-length : tie.Need-same-length
 same-length c = search needs
@@ -32,20 +40,27 @@ same-length-3 : tie.Need-same-length-3
 same-length-3 c = search needs
 
 returns : tie.Need-returns
-returns c = rw (bit-set 0 (c .before .before .before .before .before .before .before .before .before .before .before .before .args .options) (lowest (c .before .before .before .before .before .before .before .before .before .before .before .before .args .options) ∙ c .before .before .before .before .before .before .before .before .if1 .taken)) (on1 (c .before .before .before .before .before .before .before .before .before .before .before .before .pre) (c .before .before .before .before .before .before .before .before .before .before .before .before .args .s) (c .before .before .before .before .drop-degenerate .ensures))
+returns c =
+    let at-leave = c .before .before in
+    let at-mark = at-leave .before .before .before .before .before in
+    let start = at-mark .before .before .before .before .before .before .before .before in
+    rw (bit-set 0 (start .args .options) (lowest (start .args .options) ∙ c .before .before .before .before .before .before .before .before .before .before .before .if1 .taken)) (on1 (start .pre) (start .args .s) (at-mark .mark .ensures .0) (left-by (at-mark .mark .ensures .0) (at-leave .leave .ensures)))
 
 returns-2 : tie.Need-returns-2
-returns-2 c = rw (bit-clear 0 (c .before .before .before .before .args .options) (λ e. c .if1 .left (sym (lowest (c .before .before .before .before .args .options)) ∙ e))) (off1 (c .before .before .before .before .pre) (c .before .before .before .before .args .s))
+returns-2 c =
+    let start = c .before .before .before .before in
+    rw (bit-clear 0 (start .args .options) (λ e. c .if1 .left (sym (lowest (start .args .options)) ∙ e))) (off1 (start .pre) (start .args .s))
 
 pub pass1-spec : {M : Type 1} → statement M
 pass1-spec =
     tie.close
     (tie.spec
-    mul-drop-degenerate
-    slice-reshare-prefix-drop-degenerate
-    slice-aggregate-drop-degenerate
-    drop-degenerate-requires
-    sub-t11
+    mul-mark
+    slice-reshare-prefix-mark
+    slice-aggregate-mark
+    mark-requires
+    leave-requires
+    sub-t12
     same-length
     same-length-2
     same-length-3

@@ -1,16 +1,24 @@
 -- `passes::pass2` meets its contract: the pass is on and marked faces leave, or it is off. Assumes nothing.
-use native.Mathlib.Omega.{arith}
-use Rattle.passes.proofs.Steps.{bit-set, bit-clear}
-use Rattle.passes.proofs.Passes.{on2, off2}
+use Rattle.passes.proofs.Steps.{bit-set, bit-clear, left-by, left-fewer}
+use Rattle.passes.proofs.Passes.{leaves-2, on2, off2}
 use borrow.Author.Needs.{needs}
 use Rattle.passes.proofs.pass2.Statement.{statement}
 use Rattle.passes.proofs.pass2.Tie as tie
 
-drop-duplicate-faces-requires : tie.Need-drop-duplicate-faces-requires
-drop-duplicate-faces-requires c κs = c .before .before .before .before .before .before .pre .stand
+mark-requires : tie.Need-mark-requires
+mark-requires c κs = search needs
 
-sub-t16 : tie.Need-sub-t16
-sub-t16 c = omega (arith, c .before .before .before .before .drop-duplicate-faces .ensures .number)
+leave-requires : tie.Need-leave-requires
+leave-requires c κs =
+    let at-mark = c .before .before .before .before in
+    let start = at-mark .before .before .before .before .before .before .before in
+    leaves-2 (start .pre) (at-mark .mark .ensures .0)
+
+sub-t21 : tie.Need-sub-t21
+sub-t21 c =
+    let at-leave = c .before .before in
+    let at-mark = at-leave .before .before .before .before .before in
+    left-fewer (left-by (at-mark .mark .ensures .0) (at-leave .leave .ensures))
 
 same-length : tie.Need-same-length
 same-length c = search needs
@@ -19,12 +27,25 @@ same-length-2 : tie.Need-same-length-2
 same-length-2 c = search needs
 
 returns : tie.Need-returns
-returns c = rw (bit-set 1 (c .before .before .before .before .before .before .before .before .before .before .before .args .options) (c .before .before .before .before .before .before .before .if1 .taken)) (on2 (c .before .before .before .before .before .before .before .before .before .before .before .pre) (c .before .before .before .before .drop-duplicate-faces .ensures))
+returns c =
+    let at-leave = c .before .before in
+    let at-mark = at-leave .before .before .before .before .before in
+    let start = at-mark .before .before .before .before .before .before .before in
+    rw (bit-set 1 (start .args .options) (c .before .before .before .before .before .before .before .before .before .before .if1 .taken)) (on2 (start .pre) (at-mark .mark .ensures .0) (left-by (at-mark .mark .ensures .0) (at-leave .leave .ensures)))
 
 returns-2 : tie.Need-returns-2
-returns-2 c = rw (bit-clear 1 (c .before .before .before .before .args .options) (c .if1 .left)) (off2 (c .before .before .before .before .pre))
+returns-2 c =
+    let start = c .before .before .before .before in
+    rw (bit-clear 1 (start .args .options) (c .if1 .left)) (off2 (start .pre))
 
 pub pass2-spec : {M : Type 1} → statement M
 pass2-spec =
     tie.close
-    (tie.spec drop-duplicate-faces-requires sub-t16 same-length same-length-2 returns returns-2)
+    (tie.spec
+    mark-requires
+    leave-requires
+    sub-t21
+    same-length
+    same-length-2
+    returns
+    returns-2)

@@ -1,26 +1,34 @@
 -- `passes::pass3` meets its contract: the pass is on and marked faces leave, or it is off. Assumes nothing.
-use native.Mathlib.Omega.{arith}
-use Rattle.passes.proofs.Steps.{bit-set, bit-clear, reads, as-long}
-use Rattle.passes.proofs.Passes.{on3, off3}
+use mathlib.Core.Path.{sym}
+use Rattle.passes.proofs.Steps.{bit-set, bit-clear, left-by, left-fewer, as-long, reads}
+use Rattle.passes.proofs.Passes.{leaves-3, on3, off3}
 use borrow.Author.Needs.{needs}
 use Rattle.passes.proofs.pass3.Statement.{statement}
 use Rattle.passes.proofs.pass3.Tie as tie
 
-mul-resolve-nonmanifold-edges : tie.Need-mul-resolve-nonmanifold-edges
-mul-resolve-nonmanifold-edges c = search needs
+mul-mark : tie.Need-mul-mark
+mul-mark c = search needs
 
-slice-reshare-prefix-resolve-nonmanifold-edges :
-    tie.Need-slice-reshare-prefix-resolve-nonmanifold-edges
-slice-reshare-prefix-resolve-nonmanifold-edges c = omega (arith, c .before .before .before .before .pre .room)
+slice-reshare-prefix-mark : tie.Need-slice-reshare-prefix-mark
+slice-reshare-prefix-mark c = search needs
 
-slice-aggregate-resolve-nonmanifold-edges : tie.Need-slice-aggregate-resolve-nonmanifold-edges
-slice-aggregate-resolve-nonmanifold-edges c = omega (arith, as-long (c .before .before .before .before .before .pre))
+slice-aggregate-mark : tie.Need-slice-aggregate-mark
+slice-aggregate-mark c = sym (as-long (c .before .before .before .before .before .pre))
 
-resolve-nonmanifold-edges-requires : tie.Need-resolve-nonmanifold-edges-requires
-resolve-nonmanifold-edges-requires c κs = reads (c .before .before .before .before .before .before .before .pre)
+mark-requires : tie.Need-mark-requires
+mark-requires c κs = reads (c .before .before .before .before .before .before .before .pre)
+
+leave-requires : tie.Need-leave-requires
+leave-requires c κs =
+    let at-mark = c .before .before .before .before in
+    let start = at-mark .before .before .before .before .before .before .before .before in
+    leaves-3 (start .pre) (at-mark .mark .ensures .0)
 
 sub-t13 : tie.Need-sub-t13
-sub-t13 c = omega (arith, c .before .before .before .before .resolve-nonmanifold-edges .ensures .0 .number)
+sub-t13 c =
+    let at-leave = c .before .before in
+    let at-mark = at-leave .before .before .before .before .before in
+    left-fewer (left-by (at-mark .mark .ensures .0) (at-leave .leave .ensures))
 
 same-length : tie.Need-same-length
 same-length c = search needs
@@ -32,19 +40,26 @@ same-length-3 : tie.Need-same-length-3
 same-length-3 c = search needs
 
 returns : tie.Need-returns
-returns c = rw (bit-set 2 (c .before .before .before .before .before .before .before .before .before .before .before .before .args .options) (c .before .before .before .before .before .before .before .before .if1 .taken)) (on3 (c .before .before .before .before .before .before .before .before .before .before .before .before .pre) (c .before .before .before .before .resolve-nonmanifold-edges .ensures .0) (c .before .before .before .before .resolve-nonmanifold-edges .ensures .1))
+returns c =
+    let at-leave = c .before .before in
+    let at-mark = at-leave .before .before .before .before .before in
+    let start = at-mark .before .before .before .before .before .before .before .before in
+    rw (bit-set 2 (start .args .options) (c .before .before .before .before .before .before .before .before .before .before .before .if1 .taken)) (on3 (start .pre) (at-mark .mark .ensures .0) (left-by (at-mark .mark .ensures .0) (at-leave .leave .ensures)) (at-mark .mark .ensures .1))
 
 returns-2 : tie.Need-returns-2
-returns-2 c = rw (bit-clear 2 (c .before .before .before .before .args .options) (c .if1 .left)) (off3 (c .before .before .before .before .pre))
+returns-2 c =
+    let start = c .before .before .before .before in
+    rw (bit-clear 2 (start .args .options) (c .if1 .left)) (off3 (start .pre))
 
 pub pass3-spec : {M : Type 1} → statement M
 pass3-spec =
     tie.close
     (tie.spec
-    mul-resolve-nonmanifold-edges
-    slice-reshare-prefix-resolve-nonmanifold-edges
-    slice-aggregate-resolve-nonmanifold-edges
-    resolve-nonmanifold-edges-requires
+    mul-mark
+    slice-reshare-prefix-mark
+    slice-aggregate-mark
+    mark-requires
+    leave-requires
     sub-t13
     same-length
     same-length-2

@@ -1,6 +1,6 @@
 -- `passes::pass4` meets its contract: the pass is on and both halves follow each other, or it is off. Assumes nothing.
 use native.Mathlib.Omega.{arith}
-use Rattle.passes.proofs.Steps.{bit-set, bit-clear, as-long}
+use Rattle.passes.proofs.Steps.{bit-set, bit-clear, left-fewer, as-long}
 use Rattle.passes.proofs.Passes.{on4, off4, turned-reads}
 use borrow.Author.Needs.{needs}
 use Rattle.passes.proofs.pass4.Statement.{statement}
@@ -9,23 +9,23 @@ use Rattle.passes.proofs.pass4.Tie as tie
 settle-requires : tie.Need-settle-requires
 settle-requires c κs = search needs
 
-mul-resolve-unless : tie.Need-mul-resolve-unless
-mul-resolve-unless c = search needs
+mul-drop-collisions : tie.Need-mul-drop-collisions
+mul-drop-collisions c = search needs
 
-slice-reshare-prefix-resolve-unless :
-    tie.Need-slice-reshare-prefix-resolve-unless
-slice-reshare-prefix-resolve-unless c = omega (arith, c .before .before .before .before .before .before .before .before .before .before .before .pre .room)
+slice-reshare-prefix-drop-collisions :
+    tie.Need-slice-reshare-prefix-drop-collisions
+slice-reshare-prefix-drop-collisions c = omega (arith, c .before .before .before .before .before .before .before .before .before .before .before .pre .room)
 
-slice-aggregate-resolve-unless : tie.Need-slice-aggregate-resolve-unless
-slice-aggregate-resolve-unless c = omega (arith, as-long (c .before .before .before .before .before .before .before .before .before .before .before .before .pre))
+slice-aggregate-drop-collisions : tie.Need-slice-aggregate-drop-collisions
+slice-aggregate-drop-collisions c = omega (arith, as-long (c .before .before .before .before .before .before .before .before .before .before .before .before .pre))
 
-resolve-unless-requires : tie.Need-resolve-unless-requires
-resolve-unless-requires c κs =
+drop-collisions-requires : tie.Need-drop-collisions-requires
+drop-collisions-requires c κs =
     let s = c .before .before .before .before .before .before .before .settle .ensures in
     (turned-reads (c .before .before .before .before .before .before .before .before .before .before .before .before .before .before .pre) (s .0), s .1)
 
 sub-t18 : tie.Need-sub-t18
-sub-t18 c = omega (arith, c .before .before .before .before .resolve-unless .ensures .number)
+sub-t18 c = left-fewer (c .before .before .before .before .drop-collisions .ensures .0)
 
 same-length : tie.Need-same-length
 same-length c = search needs
@@ -37,7 +37,7 @@ same-length-3 : tie.Need-same-length-3
 same-length-3 c = search needs
 
 returns : tie.Need-returns
-returns c = rw (bit-set 4 (c .before .before .before .before .before .before .before .before .before .before .before .before .before .before .before .before .before .before .before .args .options) (c .before .before .before .before .before .before .before .before .before .before .before .before .before .before .before .if1 .taken)) (on4 (c .before .before .before .before .before .before .before .before .before .before .before .before .before .before .before .before .before .before .before .pre) (c .before .before .before .before .before .before .before .before .before .before .before .before .settle .ensures .0) (c .before .before .before .before .resolve-unless .ensures))
+returns c = rw (bit-set 4 (c .before .before .before .before .before .before .before .before .before .before .before .before .before .before .before .before .before .before .before .args .options) (c .before .before .before .before .before .before .before .before .before .before .before .before .before .before .before .if1 .taken)) (on4 (c .before .before .before .before .before .before .before .before .before .before .before .before .before .before .before .before .before .before .before .pre) (c .before .before .before .before .before .before .before .before .before .before .before .before .settle .ensures .0) (c .before .before .before .before .drop-collisions .ensures .1) (c .before .before .before .before .drop-collisions .ensures .0))
 
 returns-2 : tie.Need-returns-2
 returns-2 c = rw (bit-clear 4 (c .before .before .before .before .args .options) (c .if1 .left)) (off4 (c .before .before .before .before .pre))
@@ -47,10 +47,10 @@ pass4-spec =
     tie.close
     (tie.spec
     settle-requires
-    mul-resolve-unless
-    slice-reshare-prefix-resolve-unless
-    slice-aggregate-resolve-unless
-    resolve-unless-requires
+    mul-drop-collisions
+    slice-reshare-prefix-drop-collisions
+    slice-aggregate-drop-collisions
+    drop-collisions-requires
     sub-t18
     same-length
     same-length-2

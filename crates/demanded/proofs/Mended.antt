@@ -5,7 +5,7 @@ use Prim.Native.Nat.{ℕ, _/_}
 use lib.ListN.{length, take}
 use lib.Ieee.{Float}
 use Rattle.rules.specs.Mesh.{pointsOf, facesOf}
-use Rattle.rules.specs.State.{State}
+use Rattle.rules.specs.State.{State, report-counts}
 use Rattle.rules.specs.Rooms.{accepted}
 use Rattle.rules.specs.Calls.{EdgesRooms, repair, find-edges}
 use Rattle.rules.proofs.Demand.{Demand3, Beside, Looped, Rooms-enough}
@@ -13,18 +13,18 @@ use Rattle.rules.proofs.Called.{Called3, called3, left}
 use Rattle.repair.specs.declared.Repaired.the-variants.{Done}
 use Rattle.repair.specs.Answers.{roomsOf, outcomeOf}
 
--- the mesh that stands in the rooms: a numbers of points, b numbers of faces, and the ten counts
+-- the mesh that stands in the rooms: a numbers of points, b numbers of faces, and the counts
 abbrev pub standing : ℕ → ℕ → List Float → List ℕ → List ℕ → State
-standing a b ps xs rs = record { points = pointsOf (take a ps); faces = facesOf (take b xs); report = take 10 rs }
+standing a b ps xs rs = record { points = pointsOf (take a ps); faces = facesOf (take b xs); report = take report-counts rs }
 
 module _ (points : List Float) (faces : List ℕ) (s : Float) (ps : List Float) (xs rs w : List ℕ) {ps′ : List Float} {xs′ rs′ w′ : List ℕ} {a b : ℕ}
     (e : outcomeOf (Done a b) ps′ xs′ rs′ w′ ≡ repair points faces s 63 (roomsOf ps xs rs w)) where
   -- the rules' word on the call
-  said : Called3 points faces s (roomsOf ps xs rs w) (a ∷ b ∷ 10 ∷ [])
-  said = called3 points faces s (roomsOf ps xs rs w) (a ∷ b ∷ 10 ∷ []) (ap (λ o. o .answer) (sym e))
+  said : Called3 points faces s (roomsOf ps xs rs w) (a ∷ b ∷ report-counts ∷ [])
+  said = called3 points faces s (roomsOf ps xs rs w) (a ∷ b ∷ report-counts ∷ []) (ap (λ o. o .answer) (sym e))
 
   -- what stands in the rooms is what the rules speak of
-  standing-is : standing a b ps′ xs′ rs′ ≡ left points faces s (roomsOf ps xs rs w) (a ∷ b ∷ 10 ∷ [])
+  standing-is : standing a b ps′ xs′ rs′ ≡ left points faces s (roomsOf ps xs rs w) (a ∷ b ∷ report-counts ∷ [])
   standing-is = ap (λ o. standing a b (o .rooms .points) (o .rooms .faces) (o .rooms .report)) e
 
   -- demand 3 holds of it

@@ -10,7 +10,7 @@ use Rattle.rows.specs.Region.{OnlyOf, Only}
 use Rattle.rows.proofs.Regions.{only-none, only-both, only-more}
 use Rattle.rules.specs.Repair.{optional, bit, passes}
 use Rattle.rules.specs.Rooms.{work-room}
-use Rattle.rules.specs.State.{State, Count, place, more, degenerates, duplicates, crowded-edges, dropped-at-edges, dropped-for-direction, vertices-split, points-added, reoriented, components, isolated}
+use Rattle.rules.specs.State.{State, Count, report-counts, place, more, degenerates, duplicates, crowded-edges, dropped-at-edges, dropped-for-direction, vertices-split, points-added, reoriented, components, isolated}
 use Rattle.rules.specs.Pass1 as one
 use Rattle.rules.specs.Pass2 as two
 use Rattle.rules.specs.Pass3 as three
@@ -27,7 +27,7 @@ use Rattle.lending.specs.Mended.{TurnsGive}
 
 -- P points and F faces stood in the rooms ps₀ and xs₀. Now p and n stand in ps and xs, as `pass` leaves them, and each count is below N.
 pub record Going (pass : State → State) (N : ℕ) (ps₀ : List Float) (P : ℕ) (xs₀ : List ℕ) (F : ℕ) (w₀ : List ℕ) (h : Report) (ps : List Float) (p : ℕ) (xs : List ℕ) (n : ℕ) (w : List ℕ) : Type 0 where
-  pub state : stateOf ps p xs n (countsOf h) ≡ pass (stateOf ps₀ P xs₀ F (replicate 10 0))
+  pub state : stateOf ps p xs n (countsOf h) ≡ pass (stateOf ps₀ P xs₀ F (replicate report-counts 0))
   pub few : CountsBelow N h
   pub inside : (i : ℕ) → i < 3 * n → getD xs i 0 < p
   pub points-fit : p ≤ P + 3 * F
@@ -82,11 +82,11 @@ module _ {ps₀ : List Float} {P : ℕ} {xs₀ : List ℕ} {F : ℕ} {w₀ : Lis
     most-added = omega (arith, v .points-fit, v .faces-fit)
 
     -- every sum fits
-    sums-fit : N ≤ 1 + 10 * K → CountsBelow (2 ^ 64 - (p + 3 * n)) h
+    sums-fit : N ≤ 1 + report-counts * K → CountsBelow (2 ^ 64 - (p + 3 * n)) h
     sums-fit l = counts-below (omega (arith, most-added, a .stand .points, a .stand .few)) (v .few)
 
     -- what stands is as passes 1 to 5 ask
-    stands : p ≡ P → N ≤ 1 + 10 * K → SplitAsks ps p xs n w × CountsBelow (2 ^ 64 - (p + 3 * n)) h
+    stands : p ≡ P → N ≤ 1 + report-counts * K → SplitAsks ps p xs n w × CountsBelow (2 ^ 64 - (p + 3 * n)) h
     unfolding work-room
     stands e l =
         let f = a .stand in
@@ -102,7 +102,7 @@ module _ {ps₀ : List Float} {P : ℕ} {xs₀ : List ℕ} {F : ℕ} {w₀ : Lis
         )
 
     -- and as pass 6 asks
-    stands-last : N ≤ 1 + 10 * K → UnusedAsks ps p xs n w × CountsBelow (2 ^ 64 - (p + 3 * n)) h
+    stands-last : N ≤ 1 + report-counts * K → UnusedAsks ps p xs n w × CountsBelow (2 ^ 64 - (p + 3 * n)) h
     unfolding work-room
     stands-last l =
         let f = a .stand in

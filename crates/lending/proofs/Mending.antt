@@ -11,7 +11,7 @@ use Rattle.rows.specs.Region.{RowAsks, RowGives}
 use Rattle.rows.proofs.Regions.{only-both, only-more}
 use Rattle.rules.specs.Mesh.{pointsOf, facesOf}
 use Rattle.rules.specs.Repair.{passes, repaired}
-use Rattle.rules.specs.State.{start}
+use Rattle.rules.specs.State.{start, report-counts}
 use Rattle.split_bowtie_vertices.specs.Splits.{SplitAsks}
 use Rattle.lending.specs.declared.Mended.{Mended}
 use Rattle.lending.specs.Mended.{TurnsGive, MendAsks, MendGives}
@@ -62,10 +62,10 @@ module _ {points : List Float} {faces : List ℕ} {ps : List Float} {xs w : List
         }
 
     -- at first the state is the rules' start
-    first-state : stateOf ps₁ P xs₁ n (replicate 10 0) ≡ start (pointsOf points) (facesOf faces)
+    first-state : stateOf ps₁ P xs₁ n (replicate report-counts 0) ≡ start (pointsOf points) (facesOf faces)
     unfolding start
     first-state =
-        ap₂ (λ qs fs. record { points = pointsOf qs; faces = facesOf fs; report = replicate 10 0 }) (cp .copied ∙ whole-points) (cf .copied ∙ whole-faces)
+        ap₂ (λ qs fs. record { points = pointsOf qs; faces = facesOf fs; report = replicate report-counts 0 }) (cp .copied ∙ whole-points) (cf .copied ∙ whole-faces)
 
     -- the whole repair stands in the rooms
     pub mend-done : {s : Float} {o : ℕ} {ps₂ : List Float} {xs₂ w₂ : List ℕ} {m : Mended} → TurnsGive s o ps₁ P xs₁ n w ps₂ xs₂ w₂ m → MendGives points faces s o ps xs w ps₂ xs₂ w₂ m

@@ -7,15 +7,16 @@ use lib.Ieee.{Float, nan}
 use Rattle.leaving.specs.Pass.{stateOf}
 use Rattle.rows.specs.Region.{OnlyOf, Only}
 use Rattle.rules.specs.Mesh.{pointsOf, facesOf}
+use Rattle.rules.specs.State.{report-counts}
 use Rattle.rules.specs.Rooms.{work-room}
 use Rattle.rules.specs.Repair.{passes, repaired}
 use Rattle.refuse.specs.Accepted.{Accepted}
 use Rattle.lending.specs.declared.Mended.{Mended}
 use Rattle.lending.specs.Reports.{countsOf, CountsBelow}
 
--- the six passes on P points and F faces at the front of their rooms, from a report of ten zeros: what the rules make of them stands there, and nothing beyond the stated rooms is changed
+-- the six passes on P points and F faces at the front of their rooms, from a report of zeros: what the rules make of them stands there, and nothing beyond the stated rooms is changed
 pub record TurnsGive (s : Float) (options : ℕ) (ps : List Float) (P : ℕ) (xs : List ℕ) (F : ℕ) (w : List ℕ) (ps′ : List Float) (xs′ w′ : List ℕ) (m : Mended) : Type 0 where
-  pub state : stateOf ps′ (m .points) xs′ (m .faces) (countsOf (m .report)) ≡ passes s options (stateOf ps P xs F (replicate 10 0))
+  pub state : stateOf ps′ (m .points) xs′ (m .faces) (countsOf (m .report)) ≡ passes s options (stateOf ps P xs F (replicate report-counts 0))
   pub few : CountsBelow (2 ^ 32) (m .report)
   pub points-fit : m .points ≤ P + 3 * F
   pub faces-fit : m .faces ≤ F

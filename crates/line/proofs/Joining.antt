@@ -15,7 +15,7 @@ use lib.Seq.{take-suc, take-all}
 use Rattle.rules.specs.Lists.{filter, all}
 use Rattle.rules.specs.Line.{bytes, labels, joined, part, line}
 use Rattle.rules.proofs.Lists.{filter-append}
-use Rattle.line.specs.Put.{label, comma, more, shown, parts}
+use Rattle.line.specs.Put.{label-count, label, comma, more, shown, parts}
 
 -- ---- joined parts
 
@@ -82,20 +82,20 @@ shown-last es n k = ap text (filter-append (λ (e : ℕ × String). ltb 0 (e .0)
     go (yes z) = rw (le-ltb 0 n (omega arith), eq-eqb n 0 z, append-nil (shown es)) (sym (append-nil (text (shown es))))
     go (no z) = rw (lt-ltb 0 n (omega arith), ne-eqb n 0 z) (text-last (shown es) (n, label k) ∙ append-assoc (text (shown es)) (comma (length (text (shown es)))) (part (n, label k)))
 
-module _ (counts : List ℕ) (ten : length counts ≡ 10) where
+module _ (counts : List ℕ) (whole : length counts ≡ label-count) where
   -- the next pair is that of count k
-  pub so-far-next : (k : ℕ) → k < 10 → so-far counts (k + 1) ≡ so-far counts k ++ more (length (so-far counts k)) (getD counts k 0) k
+  pub so-far-next : (k : ℕ) → k < label-count → so-far counts (k + 1) ≡ so-far counts k ++ more (length (so-far counts k)) (getD counts k 0) k
   unfolding labels
   so-far-next k h =
-      let l = zip-long counts labels ten in
+      let l = zip-long counts labels whole in
       let q : k < length (zip counts labels) = omega arith in
       let r : k < length counts = omega arith in
-      rw (add-one, take-suc (zip counts labels) k (0, "") q, zip-at counts labels k r ten) (shown-last (take k (zip counts labels)) (getD counts k 0) k)
+      rw (add-one, take-suc (zip counts labels) k (0, "") q, zip-at counts labels k r whole) (shown-last (take k (zip counts labels)) (getD counts k 0) k)
 
-  -- after ten counts it is whole
-  pub so-far-all : so-far counts 10 ≡ parts counts
+  -- after all labels it is whole
+  pub so-far-all : so-far counts label-count ≡ parts counts
   unfolding labels parts
-  so-far-all = rw (take-all 10 (zip counts labels) (omega (arith, zip-long counts labels ten)))
+  so-far-all = rw (take-all label-count (zip counts labels) (omega (arith, zip-long counts labels whole)))
 
 -- ---- all zero
 
@@ -131,15 +131,15 @@ unfolding nothing joined
 some-bytes [] h = absurd (h refl)
 some-bytes (e ∷ es) h = refl
 
-module _ (counts : List ℕ) (ten : length counts ≡ 10) where
+module _ (counts : List ℕ) (whole : length counts ≡ label-count) where
   -- the line is the message where the counts give no bytes
   pub line-clean : length (parts counts) ≡ 0 → line counts ≡ parts counts ++ clean
   unfolding line parts labels
   line-clean h =
       let r = no-bytes (shown (zip counts labels)) h in
-      rw (all-nothing counts labels ten, r .0, r .1)
+      rw (all-nothing counts labels whole, r .0, r .1)
 
   -- and else it is their bytes
   pub line-parts : (length (parts counts) ≡ 0 → ⊥) → line counts ≡ parts counts
   unfolding line parts labels shown
-  line-parts h = rw (all-nothing counts labels ten, some-bytes (shown (zip counts labels)) h)
+  line-parts h = rw (all-nothing counts labels whole, some-bytes (shown (zip counts labels)) h)

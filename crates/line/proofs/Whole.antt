@@ -17,16 +17,16 @@ use Rattle.rules.specs.Refusal.{ok, no, decided}
 use Rattle.rules.specs.Rooms.{filled, outcome}
 use Rattle.rules.specs.Calls.{line-check, write-line}
 use Rattle.line.specs.declared.Lined.the-variants as lined
-use Rattle.line.specs.Put.{Puts, PartAsks, LineGives, more, shown, parts, outcomeOf}
+use Rattle.line.specs.Put.{label-count, Puts, PartAsks, LineGives, more, shown, parts, outcomeOf}
 use Rattle.line.proofs.Putting.{puts-none, puts-both, puts-front}
 use Rattle.line.proofs.Words.{more-short}
 use Rattle.line.proofs.Joining.{so-far, so-far-next, so-far-all, clean, line-clean, line-parts}
 
--- ---- the loop over the ten counts
+-- ---- the loop over the counts
 
 -- after k counts: their line stands in front, at most 42 bytes for each
 pub record Kept (counts w₀ w : List ℕ) (at k : ℕ) : Type 0 where
-  pub at-most : k ≤ 10
+  pub at-most : k ≤ label-count
   pub puts : Puts w₀ 0 (so-far counts k) w at
   pub short : at ≤ 42 * k
 
@@ -41,27 +41,27 @@ unfolding shown filter joined
 begin p = record { at-most = omega arith; puts = puts-none (omega arith); short = omega arith }
 
 module _ {counts w₀ w : List ℕ} {at k : ℕ} (p : LineAccepted counts (length w₀)) (v : Kept counts w₀ w at k) where
-  -- 42 bytes for each of ten counts are below 512
-  pub turn : k < 10 → Turn counts w at k
+  -- 42 bytes for each count are below 512
+  pub turn : k < label-count → Turn counts w at k
   turn h =
       let l = v .puts .only .long in
-      record { count = omega (arith, p .ten); asks = record { label = h; room = omega (arith, v .short, p .room-line) } }
+      record { count = omega (arith, p .whole); asks = record { label = h; room = omega (arith, v .short, p .room-line) } }
 
   -- one count more goes on where the line ends
-  pub again : {w′ : List ℕ} {end : ℕ} → k < 10 → Puts w at (more at (getD counts k 0) k) w′ end → Kept counts w₀ w′ end (k + 1)
+  pub again : {w′ : List ℕ} {end : ℕ} → k < label-count → Puts w at (more at (getD counts k 0) k) w′ end → Kept counts w₀ w′ end (k + 1)
   again {w′} {end} h q =
       let e : at ≡ length (so-far counts k) = omega (arith, v .puts .ends) in
       record {
         at-most = omega arith;
-        puts = rw (so-far-next counts (p .ten) k h, ← e) (puts-both (v .puts) q);
+        puts = rw (so-far-next counts (p .whole) k h, ← e) (puts-both (v .puts) q);
         short = omega (arith, v .short, q .ends, more-short at (getD counts k 0) k h);
       }
 
-  -- after ten counts it is the line of all
-  pub done : 10 ≤ k → LineGives w₀ (parts counts) w at
+  -- after all labels it is the line of all
+  pub done : label-count ≤ k → LineGives w₀ (parts counts) w at
   done h =
-      let e : k ≡ 10 = omega (arith, v .at-most) in
-      record { puts = rw (so-far-all counts (p .ten)) at (rw e at (v .puts)); short = omega (arith, v .short) }
+      let e : k ≡ label-count = omega (arith, v .at-most) in
+      record { puts = rw (so-far-all counts (p .whole)) at (rw e at (v .puts)); short = omega (arith, v .short) }
 
 -- ---- the message where all are zero
 
@@ -70,13 +70,13 @@ module _ {counts w w′ : List ℕ} {end : ℕ} (p : LineAccepted counts (length
   pub clean-done : {w″ : List ℕ} {last : ℕ} → end ≡ 0 → Puts w′ 0 clean w″ last → LineGives w (line counts) w″ last
   unfolding bytes
   clean-done e r =
-      record { puts = rw (line-clean counts (p .ten) (omega (arith, q .puts .ends))) (puts-both (rw e at (q .puts)) r); short = omega (arith, r .ends) }
+      record { puts = rw (line-clean counts (p .whole) (omega (arith, q .puts .ends))) (puts-both (rw e at (q .puts)) r); short = omega (arith, r .ends) }
 
   -- the line is the parts
   pub parts-done : (end ≡ 0 → ⊥) → LineGives w (line counts) w′ end
   parts-done h =
       let n : length (parts counts) ≡ 0 → ⊥ = omega (arith, q .puts .ends) in
-      record { puts = rw (line-parts counts (p .ten) n) (q .puts); short = q .short }
+      record { puts = rw (line-parts counts (p .whole) n) (q .puts); short = q .short }
 
 -- ---- the room
 
@@ -98,7 +98,7 @@ zeros-asks p q =
 -- ---- the call: what the checks found decides
 
 module _ (counts w : List ℕ) (v : Verdict) (e : checkOf v ≡ decided (line-list counts (length w))) where
-  -- nothing: ten counts and room for the line
+  -- nothing: as many counts as a report has, and room for the line
   pub fine : v ≡ verdict.Fine → LineAccepted counts (length w)
   fine t = line-accepted counts (length w) (found-none (decided (line-list counts (length w))) v e t)
 

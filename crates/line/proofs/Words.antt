@@ -10,7 +10,7 @@ use lib.Dec.{eqb}
 use lib.ListN.{length, set, length-append, length-set}
 use Rattle.rules.specs.Line.{bytes, labels, decimal, part}
 use Rattle.rules.proofs.Rising.{all-at}
-use Rattle.line.specs.Put.{Puts, NumberAsks, PartAsks, label, comma, more}
+use Rattle.line.specs.Put.{label-count, Puts, NumberAsks, PartAsks, label, comma, more}
 use Rattle.line.proofs.Putting.{puts-none, puts-one, puts-both}
 use Rattle.line.proofs.Digits.{decimal-short}
 
@@ -27,7 +27,7 @@ comma-some {w} {at} e h =
     rw (ne-eqb at 0 e) (rw z at (puts-both (puts-one w at 44 (omega arith)) (puts-one (set w at 44) (at + 1) 32 (rw length-set (omega arith)))))
 
 -- the label after nine others is the last: first past the lower five
-pub only-nine : {k : ℕ} → k < 10 → ((((((((Unit {0} × (k ≡ 0 → ⊥)) × (k ≡ 1 → ⊥)) × (k ≡ 2 → ⊥)) × (k ≡ 3 → ⊥)) × (k ≡ 4 → ⊥)) × (k ≡ 5 → ⊥)) × (k ≡ 6 → ⊥)) × (k ≡ 7 → ⊥)) × (k ≡ 8 → ⊥) → k ≡ 9
+pub only-nine : {k : ℕ} → k < label-count → ((((((((Unit {0} × (k ≡ 0 → ⊥)) × (k ≡ 1 → ⊥)) × (k ≡ 2 → ⊥)) × (k ≡ 3 → ⊥)) × (k ≡ 4 → ⊥)) × (k ≡ 5 → ⊥)) × (k ≡ 6 → ⊥)) × (k ≡ 7 → ⊥)) × (k ≡ 8 → ⊥) → k ≡ 9
 only-nine {k} h r = high (r .0 .0 .0 .1) (r .0 .0 .1) (r .0 .1) (r .1) (low (r .0 .0 .0 .0 .0 .0 .0 .0 .1) (r .0 .0 .0 .0 .0 .0 .0 .1) (r .0 .0 .0 .0 .0 .0 .1) (r .0 .0 .0 .0 .0 .1) (r .0 .0 .0 .0 .1))
   where
     low : (k ≡ 0 → ⊥) → (k ≡ 1 → ⊥) → (k ≡ 2 → ⊥) → (k ≡ 3 → ⊥) → (k ≡ 4 → ⊥) → 4 < k
@@ -39,7 +39,7 @@ only-nine {k} h r = high (r .0 .0 .0 .1) (r .0 .0 .1) (r .0 .1) (r .1) (low (r .
 -- ---- part k is put: number, blank, label
 
 -- the longest label has 29 bytes
-label-short : (k : ℕ) → k < 10 → length (bytes (label k)) ≤ 29
+label-short : (k : ℕ) → k < label-count → length (bytes (label k)) ≤ 29
 unfolding bytes labels
 label-short k h = all-at (λ (s : String). length (bytes s) ≤ 29) labels "" k (omega arith) h
 
@@ -95,7 +95,7 @@ module _ {w w′ : List ℕ} {at mid k : ℕ} (p : PartAsks w at 42 k) (q : Puts
   more-done {w″} {n} h r = rw (ne-eqb n 0 h) (puts-both q r)
 
 -- what a count adds is at most 42 bytes: a comma and a blank, ten digits, a blank and a label
-pub more-short : (at n k : ℕ) → k < 10 → length (more at n k) ≤ 42
+pub more-short : (at n k : ℕ) → k < label-count → length (more at n k) ≤ 42
 unfolding more part bytes
 more-short at n k h = go (eqb n 0)
   where

@@ -29,9 +29,13 @@ pub record DigitAsks (w : List ℕ) (at n : ℕ) : Type 0 where
 pub record NumberAsks (w : List ℕ) (at n : ℕ) : Type 0 where
   pub room : at + length (rule.decimal n) ≤ length w
 
+-- how many labels there are
+abbrev pub label-count : ℕ
+label-count = 10
+
 -- room for `most` bytes of part k
 pub record PartAsks (w : List ℕ) (at most k : ℕ) : Type 0 where
-  pub label : k < 10
+  pub label : k < label-count
   pub room : at + most ≤ length w
 
 -- label k

@@ -10,6 +10,7 @@ use lib.Ieee.{Float}
 use Rattle.rules.specs.Lists.{below}
 use Rattle.rules.specs.Mesh.{pointsOf, facesOf}
 use Rattle.rules.specs.Refusal.{Check, ok, no, decided, no1, no2, no3-threshold, no3-options, no4, no5, no6, most-points, most-faces}
+use Rattle.rules.specs.State.{report-counts}
 use Rattle.rules.specs.Rooms.{work-room, repair-rooms}
 use Rattle.rules.specs.Calls.{RepairRooms, repair-check}
 use Rattle.rules.specs.Text.{Job, job-check}
@@ -28,7 +29,7 @@ pub record Few (points : List Float) (faces : List ℕ) : Type 0 where
 pub record Roomy (r : RepairRooms) : Type 0 where
   pub points : 768 ≤ length (r .points)
   pub faces : 192 ≤ length (r .faces)
-  pub report : 10 ≤ length (r .report)
+  pub report : report-counts ≤ length (r .report)
   pub work : 5184 ≤ length (r .work)
 
 -- a last check that finds nothing
@@ -43,7 +44,7 @@ rooms-ok : (P F : ℕ) (r : RepairRooms) → P ≤ 64 → F ≤ 64 → Roomy r �
 unfolding no6 repair-rooms work-room below
 rooms-ok P F r p f e =
     at-first-ok 6 (λ k. ltb (getD given k 0) (getD (repair-rooms P F) k 0)) (below 4)
-    (le-ltb (length (r .points)) (3 * (P + 3 * F)) (omega (arith, e .points)), (le-ltb (length (r .faces)) (3 * F) (omega (arith, e .faces)), (le-ltb (length (r .report)) 10 (e .report), (le-ltb (length (r .work)) (16 * P + 64 * F + 64) (omega (arith, e .work)), tt))))
+    (le-ltb (length (r .points)) (3 * (P + 3 * F)) (omega (arith, e .points)), (le-ltb (length (r .faces)) (3 * F) (omega (arith, e .faces)), (le-ltb (length (r .report)) report-counts (e .report), (le-ltb (length (r .work)) (16 * P + 64 * F + 64) (omega (arith, e .work)), tt))))
   where
     given : List ℕ
     given = length (r .points) ∷ length (r .faces) ∷ length (r .report) ∷ length (r .work) ∷ []

@@ -8,7 +8,7 @@ use lib.Seq.{take-all}
 use lib.Ieee.{Float, nan}
 use Rattle.line.specs.Put.{Puts}
 use Rattle.rules.specs.Mesh.{pointsOf, facesOf, flatPoints, flatFaces, zero64}
-use Rattle.rules.specs.State.{State}
+use Rattle.rules.specs.State.{State, report-counts}
 use Rattle.rules.specs.Refusal.{Check, ok, no, no4}
 use Rattle.rules.specs.Rooms.{Answer, accepted, refused, Outcome, outcome, filled}
 use Rattle.rules.specs.Repair.{repaired}
@@ -65,9 +65,9 @@ module _ (s : Float) (o : ℕ) {points : List Float} {faces : List ℕ} {out : L
 
   module _ {a b : ℕ} {ps : List Float} {xs rs w : List ℕ} (e : outcomeOf (Done a b) ps xs rs w ≡ repair points faces s o r) where
     -- its parts
-    parts : (repair-check points faces s o r ≡ ok) × (3 * length (m .points) ∷ 3 * length (m .faces) ∷ 10 ∷ [] ≡ a ∷ b ∷ 10 ∷ [])
+    parts : (repair-check points faces s o r ≡ ok) × (3 * length (m .points) ∷ 3 * length (m .faces) ∷ report-counts ∷ [] ≡ a ∷ b ∷ report-counts ∷ [])
     unfolding repair m
-    parts = let t = outcome-ok (repair-check points faces s o r) r _ _ (a ∷ b ∷ 10 ∷ []) (ap (λ (t : Outcome RepairRooms). t .answer) (sym e)) in (t .0, t .1)
+    parts = let t = outcome-ok (repair-check points faces s o r) r _ _ (a ∷ b ∷ report-counts ∷ []) (ap (λ (t : Outcome RepairRooms). t .answer) (sym e)) in (t .0, t .1)
 
     a-is : 3 * length (m .points) ≡ a
     a-is = ap (λ (l : List ℕ). getD l 0 0) (parts .1)
@@ -91,20 +91,20 @@ module _ (s : Float) (o : ℕ) {points : List Float} {faces : List ℕ} {out : L
     points-are : take a ps ≡ flatPoints (m .points)
     unfolding repair m after
     points-are =
-        ap (λ (t : RepairRooms). take a (t .points)) (rooms-are ∙ outcome-ok (repair-check points faces s o r) r _ _ (a ∷ b ∷ 10 ∷ []) (ap (λ (t : Outcome RepairRooms). t .answer) (sym e)) .2)
+        ap (λ (t : RepairRooms). take a (t .points)) (rooms-are ∙ outcome-ok (repair-check points faces s o r) r _ _ (a ∷ b ∷ report-counts ∷ []) (ap (λ (t : Outcome RepairRooms). t .answer) (sym e)) .2)
         ∙ filled-front zero64 (3 * (length points / 3 + 3 * (length faces / 3))) a (flatPoints (m .points)) (r .points) (length-flat-points (m .points) ∙ a-is)
 
     faces-are : take b xs ≡ flatFaces (m .faces)
     unfolding repair m after
     faces-are =
-        ap (λ (t : RepairRooms). take b (t .faces)) (rooms-are ∙ outcome-ok (repair-check points faces s o r) r _ _ (a ∷ b ∷ 10 ∷ []) (ap (λ (t : Outcome RepairRooms). t .answer) (sym e)) .2)
+        ap (λ (t : RepairRooms). take b (t .faces)) (rooms-are ∙ outcome-ok (repair-check points faces s o r) r _ _ (a ∷ b ∷ report-counts ∷ []) (ap (λ (t : Outcome RepairRooms). t .answer) (sym e)) .2)
         ∙ filled-front 0 (3 * (length faces / 3)) b (flatFaces (m .faces)) (r .faces) (length-flat-faces (m .faces) ∙ b-is)
 
-    report-is : take 10 rs ≡ m .report
+    report-is : take report-counts rs ≡ m .report
     unfolding repair m after
     report-is =
-        ap (λ (t : RepairRooms). take 10 (t .report)) (rooms-are ∙ outcome-ok (repair-check points faces s o r) r _ _ (a ∷ b ∷ 10 ∷ []) (ap (λ (t : Outcome RepairRooms). t .answer) (sym e)) .2)
-        ∙ filled-front 0 10 10 (m .report) (r .report) (fits .kept .report)
+        ap (λ (t : RepairRooms). take report-counts (t .report)) (rooms-are ∙ outcome-ok (repair-check points faces s o r) r _ _ (a ∷ b ∷ report-counts ∷ []) (ap (λ (t : Outcome RepairRooms). t .answer) (sym e)) .2)
+        ∙ filled-front 0 report-counts report-counts (m .report) (r .report) (fits .kept .report)
 
     -- the fronts of the rooms are within them
     pub points-end : a ≤ 768
@@ -121,7 +121,7 @@ module _ (s : Float) (o : ℕ) {points : List Float} {faces : List ℕ} {out : L
         (record { each-is = λ i l. all-at IsNumber (flatPoints (m .points)) nan i (repaired-known s o (pointsOf points) (facesOf faces) (decided-all _ (parts .0) .1 .1 .1 .1 .1 .1 .0)) l })
 
     -- what writing them asks
-    pub mesh-asks : length rs ≡ 10 → MeshAsks out (take a ps) (take b xs) rs
+    pub mesh-asks : length rs ≡ report-counts → MeshAsks out (take a ps) (take b xs) rs
     mesh-asks long =
         let lp : length (take a ps) ≡ a = ap length points-are ∙ length-flat-points (m .points) ∙ a-is in
         let lf : length (take b xs) ≡ b = ap length faces-are ∙ length-flat-faces (m .faces) ∙ b-is in
@@ -130,7 +130,7 @@ module _ (s : Float) (o : ℕ) {points : List Float} {faces : List ℕ} {out : L
         record { room = omega (arith, asks .room); few-points = omega arith; few-faces = omega arith; numbers = numbers }
 
     -- what is then printed is the job's answer
-    pub is-mended : length rs ≡ 10 → lines o s points faces ≡ mesh-lines (stateOf (take a ps) (take b xs) rs)
+    pub is-mended : length rs ≡ report-counts → lines o s points faces ≡ mesh-lines (stateOf (take a ps) (take b xs) rs)
     unfolding m job-lines
     is-mended long =
         ap (job-lines (jobOf o s points faces)) (sym same ∙ parts .0)
@@ -143,7 +143,7 @@ module _ (s : Float) (o : ℕ) {points : List Float} {faces : List ℕ} {out : L
         f = ap facesOf faces-are ∙ faces-flat (m .faces)
 
         q : rs ≡ m .report
-        q = sym (take-all 10 rs (omega (arith, long))) ∙ report-is
+        q = sym (take-all report-counts rs (omega (arith, long))) ∙ report-is
 
 -- ---- in the rooms that the program brings
 
@@ -151,7 +151,7 @@ module _ (s : Float) (o : ℕ) {points : List Float} {faces : List ℕ} {out : L
 pub record Lent (ps : List Float) (xs rs w : List ℕ) : Type 0 where
   pub points : length ps ≡ 768
   pub faces : length xs ≡ 192
-  pub report : length rs ≡ 10
+  pub report : length rs ≡ report-counts
   pub work : length w ≡ 5184
 
 module _ (s : Float) (o : ℕ) {points : List Float} {faces : List ℕ} {out : List ℕ} (asks : MendAsks points faces out) {ps₀ : List Float} {xs₀ rs₀ w₀ : List ℕ} (lent : Lent ps₀ xs₀ rs₀ w₀) (res : Repaired)

@@ -12,6 +12,7 @@ use lib.Ieee.{Float}
 use Rattle.rules.specs.Lists.{below}
 use Rattle.rules.specs.Mesh.{pointsOf, facesOf}
 use Rattle.rules.specs.Refusal.{ok, decided, no1, no1-counts, no2, no3-options, no4, no5, no6, no9, no10, no-patch, most-points, most-faces, most-patches}
+use Rattle.rules.specs.State.{report-counts}
 use Rattle.rules.specs.Rooms.{repair-rooms, edges-rooms, check-rooms, patches-rooms, line-rooms, work-room}
 use Rattle.rules.proofs.Once.{Inside}
 use Rattle.rules.proofs.Rising.{All, all-at}
@@ -29,10 +30,10 @@ no1-fine : (p n : ℕ) → no1 p n ≡ ok → n % 3 ≡ 0
 unfolding no1
 no1-fine p n e = eqb→eq (n % 3) 0 (unless-ok 1 p (eqb (n % 3) 0) e)
 
--- 1, of the report line: ten counts
-ten-fine : (counts : List ℕ) → no1-counts counts ≡ ok → length counts ≡ 10
+-- 1, of the report line: as many counts as a report has
+counts-fine : (counts : List ℕ) → no1-counts counts ≡ ok → length counts ≡ report-counts
 unfolding no1-counts
-ten-fine counts e = eqb→eq (length counts) 10 (unless-ok 1 2 (eqb (length counts) 10) e)
+counts-fine counts e = eqb→eq (length counts) report-counts (unless-ok 1 2 (eqb (length counts) report-counts) e)
 
 -- 3: options of six bits
 options-fine : (o : ℕ) → no3-options o ≡ ok → o ≤ 63
@@ -114,7 +115,7 @@ repair-accepted points faces s o a b c d e =
       settings = options-fine o (r .1 .1 .1 .1 .1 .0);
       room-points = nltb→le a (3 * (P + 3 * F)) (g .0);
       room-faces = nltb→le b (3 * F) (g .1 .0);
-      room-report = nltb→le c 10 (g .1 .1 .0);
+      room-report = nltb→le c report-counts (g .1 .1 .0);
       room-work = nltb→le d (work-room P F) (g .1 .1 .1 .0);
     }
 
@@ -171,4 +172,4 @@ unfolding below line-rooms
 line-accepted counts a e =
     let r = decided-all (line-list counts a) e in
     let g = rooms-fine line-rooms (a ∷ []) (r .1 .0) in
-    record { ten = ten-fine counts (r .0); room-line = nltb→le a 512 (g .0) }
+    record { whole = counts-fine counts (r .0); room-line = nltb→le a 512 (g .0) }

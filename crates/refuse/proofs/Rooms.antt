@@ -5,9 +5,10 @@ use Prim.Native.Nat.{ℕ, _+_, _*_, _≤_, _<_}
 use borrow.Author.Tests.{le-ltb, lt-ltb}
 use Rattle.rules.specs.Lists.{below, all, first}
 use Rattle.rules.specs.Refusal.{Check, ok, no, unless, at-first, no6}
+use Rattle.rules.specs.State.{report-counts}
 use Rattle.rules.specs.Rooms.{work-room, repair-rooms, edges-rooms, check-rooms, patches-rooms}
 
--- ---- repair: points 3(P+3F), faces 3F, report 10, work
+-- ---- repair: points 3(P+3F), faces 3F, report, work
 module _ (P F points faces report work : ℕ) where
   -- what 6 finds
   abbrev repair-six : Check
@@ -24,17 +25,17 @@ module _ (P F points faces report work : ℕ) where
   repair-short-1 a b = rw (le-ltb _ _ a, lt-ltb _ _ b)
 
   -- room 2 is the first too short
-  pub repair-short-2 : 3 * (P + 3 * F) ≤ points → 3 * F ≤ faces → report < 10 → no 6 2 ≡ repair-six
+  pub repair-short-2 : 3 * (P + 3 * F) ≤ points → 3 * F ≤ faces → report < report-counts → no 6 2 ≡ repair-six
   unfolding no6 at-first below all first unless repair-rooms
   repair-short-2 a b c = rw (le-ltb _ _ a, le-ltb _ _ b, lt-ltb _ _ c)
 
   -- room 3 is the first too short
-  pub repair-short-3 : 3 * (P + 3 * F) ≤ points → 3 * F ≤ faces → 10 ≤ report → work < work-room P F → no 6 3 ≡ repair-six
+  pub repair-short-3 : 3 * (P + 3 * F) ≤ points → 3 * F ≤ faces → report-counts ≤ report → work < work-room P F → no 6 3 ≡ repair-six
   unfolding no6 at-first below all first unless repair-rooms
   repair-short-3 a b c d = rw (le-ltb _ _ a, le-ltb _ _ b, le-ltb _ _ c, lt-ltb _ _ d)
 
   -- none is too short
-  pub repair-long : 3 * (P + 3 * F) ≤ points → 3 * F ≤ faces → 10 ≤ report → work-room P F ≤ work → ok ≡ repair-six
+  pub repair-long : 3 * (P + 3 * F) ≤ points → 3 * F ≤ faces → report-counts ≤ report → work-room P F ≤ work → ok ≡ repair-six
   unfolding no6 at-first below all first unless repair-rooms
   repair-long a b c d = rw (le-ltb _ _ a, le-ltb _ _ b, le-ltb _ _ c, le-ltb _ _ d)
 

@@ -8,6 +8,7 @@ use lib.Ieee.{Float}
 use Rattle.rules.specs.Mesh.{pointsOf}
 use Rattle.rules.specs.Refusal.{ok, no4, no-patch, most-points, most-faces, most-patches}
 use Rattle.rules.specs.Rooms.{work-room}
+use Rattle.rules.specs.State.{report-counts}
 
 -- of the faces over P points
 pub record Faces (P : ℕ) (faces : List ℕ) : Type 0 where
@@ -28,7 +29,7 @@ pub record RepairAccepted (points : List Float) (faces : List ℕ) (options poin
   pub settings : options ≤ 63
   pub room-points : 3 * (length points / 3 + 3 * (length faces / 3)) ≤ points-room
   pub room-faces : 3 * (length faces / 3) ≤ faces-room
-  pub room-report : 10 ≤ report-room
+  pub room-report : report-counts ≤ report-room
   pub room-work : work-room (length points / 3) (length faces / 3) ≤ work
 
 -- of the edge call up to 6
@@ -59,5 +60,5 @@ pub record PatchesAccepted (points : List Float) (faces labels : List ℕ) (C fa
 
 -- of the report line
 pub record LineAccepted (counts : List ℕ) (line : ℕ) : Type 0 where
-  pub ten : length counts ≡ 10
+  pub whole : length counts ≡ report-counts
   pub room-line : 512 ≤ line

@@ -12,7 +12,7 @@ use Rattle.filling.proofs.Filling.{filled-in, filled-whole, cleared-is}
 use Rattle.rules.specs.Mesh.{pointsOf, facesOf, flatPoints, flatFaces, zero64}
 use Rattle.rules.specs.Refusal.{decided}
 use Rattle.rules.specs.Repair.{repaired}
-use Rattle.rules.specs.State.{State}
+use Rattle.rules.specs.State.{State, report-counts}
 use Rattle.rules.specs.Rooms.{work-room, filled, cleared, outcome, accepted}
 use Rattle.rules.specs.Calls.{RepairRooms, repair-check, repair}
 use Rattle.rules.proofs.Flat.{flat-points, flat-faces, length-faces-take}
@@ -36,7 +36,7 @@ pub record Sizes (P F p f points-room faces-room report-room work : ℕ) : Type 
   pub faces-end : f ≤ F
   pub points-long : 3 * (P + 3 * F) ≤ points-room
   pub faces-long : 3 * F ≤ faces-room
-  pub report-long : 10 ≤ report-room
+  pub report-long : report-counts ≤ report-room
   pub work-long : 16 * P + 64 * F + 64 ≤ work
 
 module _ (points : List Float) (faces : List ℕ) (s : Float) (o : ℕ) (ps : List Float) (xs rs w : List ℕ) (v : Verdict)
@@ -54,7 +54,7 @@ module _ (points : List Float) (faces : List ℕ) (s : Float) (o : ℕ) (ps : Li
 
   -- the entries that stand in each room
   abbrev entries : List ℕ
-  entries = 3 * length (m .points) ∷ 3 * length (m .faces) ∷ 10 ∷ []
+  entries = 3 * length (m .points) ∷ 3 * length (m .faces) ∷ report-counts ∷ []
 
   -- the rooms of an accepted repair
   abbrev after : RepairRooms
@@ -62,7 +62,7 @@ module _ (points : List Float) (faces : List ℕ) (s : Float) (o : ℕ) (ps : Li
       record {
         points = filled zero64 (3 * (P + 3 * F)) (flatPoints (m .points)) ps;
         faces = filled 0 (3 * F) (flatFaces (m .faces)) xs;
-        report = filled 0 10 (m .report) rs;
+        report = filled 0 report-counts (m .report) rs;
         work = cleared (work-room P F) w;
       }
 
@@ -106,7 +106,7 @@ module _ (points : List Float) (faces : List ℕ) (s : Float) (o : ℕ) (ps : Li
             work-long = omega (arith, a .room-work);
           }
 
-      -- the report room takes the ten counts
+      -- the report room takes the counts
       pub report-asks : ReportAsks rs (r .report)
       report-asks = record { room = sizes .report-long; few = g .few }
 
@@ -123,12 +123,12 @@ module _ (points : List Float) (faces : List ℕ) (s : Float) (o : ℕ) (ps : Li
           sym (flat-faces (take (3 * r .faces) xs₁) (let l = length-take-le (3 * r .faces) xs₁ (omega (arith, z)) in omega arith)) ∙ ap (λ t. flatFaces (t .faces)) (g .state)
 
       -- how many there are
-      entries-are : 3 * r .points ∷ 3 * r .faces ∷ 10 ∷ [] ≡ entries
+      entries-are : 3 * r .points ∷ 3 * r .faces ∷ report-counts ∷ [] ≡ entries
       entries-are =
           let z = sizes in
           let p : r .points ≡ length (m .points) = sym (length-points-take ps₁ (r .points) (omega (arith, z))) ∙ ap (λ t. length (t .points)) (g .state) in
           let f : r .faces ≡ length (m .faces) = sym (length-faces-take xs₁ (r .faces) (omega (arith, z))) ∙ ap (λ t. length (t .faces)) (g .state) in
-          ap₂ (λ i j. 3 * i ∷ 3 * j ∷ 10 ∷ []) p f
+          ap₂ (λ i j. 3 * i ∷ 3 * j ∷ report-counts ∷ []) p f
 
       -- the answers in their rooms, and the rest cleared: the rules' outcome
       pub is-done :

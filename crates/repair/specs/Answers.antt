@@ -5,6 +5,7 @@ use Prim.Native.Nat.{ℕ, _^_, _≤_}
 use lib.ListN.{length, take}
 use lib.Ieee.{Float}
 use Rattle.rows.specs.Region.{Only}
+use Rattle.rules.specs.State.{report-counts}
 use Rattle.rules.specs.Calls.{RepairRooms}
 use Rattle.rules.specs.Rooms.{Answer, accepted, refused, Outcome}
 use Rattle.lending.specs.Reports.{countsOf, CountsBelow}
@@ -18,19 +19,19 @@ roomsOf points faces report work = record { points = points; faces = faces; repo
 
 -- document 01's answer: how many entries stand in each answer room, or a number and a place
 abbrev pub answerOf : Repaired → Answer
-answerOf (Done points faces) = accepted (points ∷ faces ∷ 10 ∷ [])
+answerOf (Done points faces) = accepted (points ∷ faces ∷ report-counts ∷ [])
 answerOf (Refused n p) = refused n p
 
 -- with the rooms as the call leaves them
 abbrev pub outcomeOf : Repaired → List Float → List ℕ → List ℕ → List ℕ → Outcome RepairRooms
 outcomeOf r points faces report work = record { answer = answerOf r; rooms = roomsOf points faces report work }
 
--- a room for ten counts that are numbers of 32 bits
+-- a room for the counts, which are numbers of 32 bits
 pub record ReportAsks (r : List ℕ) (counts : Report) : Type 0 where
-  pub room : 10 ≤ length r
+  pub room : report-counts ≤ length r
   pub few : CountsBelow (2 ^ 32) counts
 
 -- they stand at its front
 pub record ReportGives (r : List ℕ) (counts : Report) (r′ : List ℕ) : Type 0 where
-  pub only : Only 0 10 r r′
-  pub written : take 10 r′ ≡ countsOf counts
+  pub only : Only 0 report-counts r r′
+  pub written : take report-counts r′ ≡ countsOf counts

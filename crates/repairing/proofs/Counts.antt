@@ -9,7 +9,7 @@ use lib.Ieee.{Float}
 use lib.ListN.{length, getD, set, drop, replicate, length-append}
 use Rattle.rules.specs.Lists.{below, count, through}
 use Rattle.rules.specs.Mesh.{Point, Face, point}
-use Rattle.rules.specs.State.{State, Count, place, more, start, counted, with-faces, dropped, crowded-edges, dropped-at-edges, dropped-for-direction, degenerates, duplicates, vertices-split, points-added, reoriented, components, isolated}
+use Rattle.rules.specs.State.{State, Count, report-counts, place, more, start, counted, with-faces, dropped, crowded-edges, dropped-at-edges, dropped-for-direction, degenerates, duplicates, vertices-split, points-added, reoriented, components, isolated}
 use Rattle.rules.specs.Steps.{users, edges}
 use Rattle.rules.specs.Pass1.{marked1, pass1}
 use Rattle.rules.specs.Pass2.{marked2, pass2}
@@ -164,7 +164,7 @@ passes-both N F s options m k =
     (optional-both {N = N} {M = N} {F = F} {B = 0} {C = F} (bit 0 options) (pass1 s) _ (omega arith) (omega arith)
     (λ n q. record { fits = pass1-fits s n (q .fits); low = low-at (omega arith) (pass1-low s n (q .fits .kept .faces) (q .low)) }) k)))))
 
--- no entry of ten zeros is above 0
+-- no entry of zeros is above 0
 zeros-low : (n : ℕ) (j : ℕ) → getD (replicate n 0) j 0 ≤ 0
 zeros-low zero j = omega arith
 zeros-low (suc n) zero = omega arith
@@ -175,7 +175,7 @@ pub repaired-low : (s : Float) (options : ℕ) (ps : List Point) (fs : List Face
 unfolding repaired start
 repaired-low s options ps fs h =
     passes-both (length ps) (length fs) s options (start ps fs)
-    (record { fits = record { points = omega arith; kept = record { faces = omega arith; inside = h; report = refl } }; low = record { each = zeros-low 10 } }) .low
+    (record { fits = record { points = omega arith; kept = record { faces = omega arith; inside = h; report = refl } }; low = record { each = zeros-low report-counts } }) .low
 
 -- so each is below 2^32 where the points and the faces are no more than document 01 allows
 pub repaired-small : (s : Float) (options : ℕ) (ps : List Point) (fs : List Face) → Inside (length ps) fs → length ps ≤ 4194304 → length fs ≤ 1048576 → (j : ℕ) → getD (repaired s options ps fs .report) j 0 < 2 ^ 32

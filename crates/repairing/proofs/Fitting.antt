@@ -68,7 +68,7 @@ passes-fit {N} {F} s options m k =
     (optional-fits {N = N} {M = N} (bit 1 options) pass2 _ (omega arith) pass2-fits
     (optional-fits {N = N} {M = N} (bit 0 options) (pass1 s) _ (omega arith) (pass1-fits s) k)))))
 
--- a repair leaves at most P + 3F points and F faces, corners that are points, and ten counts
+-- a repair leaves at most P + 3F points and F faces, corners that are points, and as many counts as a report has
 pub repaired-fits : (s : Float) (options : ℕ) (ps : List Point) (fs : List Face) → Inside (length ps) fs → Fits (length ps + 3 * length fs) (length fs) (repaired s options ps fs)
 unfolding repaired start
 repaired-fits s options ps fs h = passes-fit s options (start ps fs) (record { points = omega arith; kept = record { faces = omega arith; inside = h; report = refl } })

@@ -1,4 +1,4 @@
--- Each pass keeps: no more faces, corners that are points, a report of ten counts. Assumes nothing.
+-- Each pass keeps: no more faces, corners that are points, the length of the report. Assumes nothing.
 use mathlib.Core.Path.{_≡_, refl, _∙_}
 use mathlib.Core.Bool.{Bool, cond}
 use mathlib.Core.List.{List, List·Memᴰ, List·Memᴰ·head, List·Memᴰ·tail}
@@ -9,7 +9,7 @@ use lib.Ieee.{Float}
 use lib.ListN.{length, getD, drop, length-set, length-map}
 use Rattle.rules.specs.Lists.{below, leave}
 use Rattle.rules.specs.Mesh.{Face, renamed}
-use Rattle.rules.specs.State.{State, Count, place, more, counted, with-faces, dropped, degenerates, duplicates, crowded-edges, dropped-at-edges, dropped-for-direction, vertices-split, points-added, reoriented, components, isolated}
+use Rattle.rules.specs.State.{State, Count, report-counts, place, more, counted, with-faces, dropped, degenerates, duplicates, crowded-edges, dropped-at-edges, dropped-for-direction, vertices-split, points-added, reoriented, components, isolated}
 use Rattle.rules.specs.Pass1.{marked1, pass1}
 use Rattle.rules.specs.Pass2.{marked2, pass2}
 use Rattle.rules.specs.Pass3.{crowded, marked3, pass3}
@@ -27,16 +27,16 @@ use Rattle.rules.proofs.Splitting.{length-map-below}
 use Rattle.rules.proofs.Pass5.{pass5-inside}
 use Rattle.rules.proofs.Pass6.{corner-used}
 
--- at most F faces, corners that are points, ten counts
+-- at most F faces, corners that are points, as many counts as a report has
 pub record Kept (F : ℕ) (m : State) : Type 0 where
   pub faces : length (m .faces) ≤ F
   pub inside : Fine m
-  pub report : length (m .report) ≡ 10
+  pub report : length (m .report) ≡ report-counts
 
 -- the first and the last of these
 record Sized (F : ℕ) (m : State) : Type 0 where
   faces : length (m .faces) ≤ F
-  report : length (m .report) ≡ 10
+  report : length (m .report) ≡ report-counts
 
 -- a count more is no entry more
 length-more : (c : Count) (n : ℕ) (report : List ℕ) → length (more c n report) ≡ length report

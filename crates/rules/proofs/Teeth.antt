@@ -13,7 +13,7 @@ use Rattle.rules.specs.Lists.{all, below, count, each}
 use Rattle.rules.specs.Mesh.{Point, Face, zero64, pointsOf, facesOf}
 use Rattle.rules.specs.Float.{repeats}
 use Rattle.rules.specs.Steps.{step, steps, same}
-use Rattle.rules.specs.State.{State, dropped-at-edges}
+use Rattle.rules.specs.State.{State, report-counts, dropped-at-edges}
 use Rattle.rules.specs.Pass5.{fans}
 use Rattle.rules.specs.Pass6.{used}
 use Rattle.rules.specs.Repair.{repaired}
@@ -35,7 +35,7 @@ rooms P F =
     record {
       points = replicate (3 * (P + 3 * F)) zero64;
       faces = replicate (3 * F) 0;
-      report = replicate 10 0;
+      report = replicate report-counts 0;
       work = replicate (16 * P + 64 * F + 64) 0;
     }
 

@@ -9,6 +9,7 @@ use lib.IntN.{pos, negsuc}
 use lib.Ieee.{Float, fin, inf, nan, binary64, toBits}
 use Rattle.rules.specs.Mesh.{zero64}
 use Rattle.rules.specs.Float.{one64, half64}
+use Rattle.rules.specs.State.{report-counts}
 use Rattle.rules.specs.Refusal.{no2, no3-threshold, no4, no-patch, most-points, most-faces, most-patches}
 use Rattle.rules.specs.Rooms.{Answer, accepted, refused, Outcome, work-room}
 use Rattle.rules.specs.Patches.{Limit, absent, limit, Filter}
@@ -39,7 +40,7 @@ repairing points faces s options =
     (record {
       points = replicate (3 * (P + 3 * F)) zero64;
       faces = replicate (3 * F) 0;
-      report = replicate 10 0;
+      report = replicate report-counts 0;
       work = replicate (work-room P F) 0;
     }) .answer)
     ∷ []
@@ -204,9 +205,9 @@ refusals =
     -- 9 in all labels given, before 10
     ∷ row (patching (origins 1) (0 ∷ 0 ∷ 0 ∷ []) (0 ∷ 1 ∷ []) 1 all-kept) ((9 ∷ 1 ∷ []) ∷ (0 ∷ []) ∷ replicate 7 0 ∷ (0 ∷ []) ∷ [])
     ∷ row (patching (origins 1) (0 ∷ 0 ∷ 0 ∷ []) (0 ∷ no-patch ∷ []) 1 all-kept) ((10 ∷ 0 ∷ []) ∷ (0 ∷ []) ∷ replicate 7 0 ∷ (0 ∷ []) ∷ [])
-    -- the line: not ten counts, a room of 511 bytes; a refusal changes nothing
+    -- the line: a count too few, a room of 511 bytes; a refusal changes nothing
     ∷ row (lining (replicate 9 0)) ((1 ∷ 2 ∷ []) ∷ replicate 514 7 ∷ [])
-    ∷ row (answered (write-line (replicate 10 0) (replicate 511 7) .answer) ∷ []) ((6 ∷ 0 ∷ []) ∷ [])
+    ∷ row (answered (write-line (replicate report-counts 0) (replicate 511 7) .answer) ∷ []) ((6 ∷ 0 ∷ []) ∷ [])
     ∷ []
 
 -- each has its number and place
@@ -258,9 +259,9 @@ answers =
     ∷ row (flagging legs (0 ∷ 1 ∷ 2 ∷ 0 ∷ 0 ∷ 0 ∷ []) (0 ∷ 1 ∷ []) 2 (by-fraction (limit one64))) ((1 ∷ 0 ∷ []) ∷ [])
     ∷ row (flagging legs (0 ∷ 0 ∷ 0 ∷ []) (0 ∷ []) 1 (by-fraction (limit (inf false)))) ((1 ∷ []) ∷ [])
     -- the line: all zero, two that are not, all at their largest
-    ∷ row (lining (replicate 10 0)) (lined "mesh was already manifold, nothing changed")
+    ∷ row (lining (replicate report-counts 0)) (lined "mesh was already manifold, nothing changed")
     ∷ row (lining (10 ∷ 0 ∷ 2 ∷ replicate 7 0)) (lined "10 degenerate faces removed, 2 non-manifold edges")
-    ∷ row (lining (replicate 10 4294967295))
+    ∷ row (lining (replicate report-counts 4294967295))
     (lined
     "4294967295 degenerate faces removed, 4294967295 duplicate faces removed, 4294967295 non-manifold edges, 4294967295 faces dropped there, 4294967295 faces dropped as unorientable, 4294967295 bowtie vertices split, 4294967295 points added, 4294967295 faces reoriented, 4294967295 non-orientable components, 4294967295 isolated vertices removed")
     ∷ []

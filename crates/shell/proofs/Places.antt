@@ -5,7 +5,7 @@ use mathlib.Core.List.{List, [], _∷_, map, List·Memᴰ, Memᴰ·map, Memᴰ·
 use Prim.Native.Nat.{ℕ, suc, _*_, _/_, _≤_, _<_, _^_}
 use native.Mathlib.Omega.{arith}
 use lib.ListN.{length, getD, length-map}
-use lib.Dec.{eqb, leb, ltb}
+use lib.Dec.{leb, ltb}
 use lib.Ieee.{Float}
 use Rattle.rules.specs.Lists.{below, any, all, first}
 use Rattle.rules.specs.Mesh.{Face, facesOf, pointsOf, corners}
@@ -147,6 +147,6 @@ check-near P faces work =
 pub line-near : (counts line : List ℕ) → Near (line-check counts line)
 unfolding line-check line-rooms no1-counts
 line-near counts line =
-    step _ _ (unless-near 1 2 (eqb (length counts) 10) (omega arith))
+    step _ _ (unless-near 1 2 _ (omega arith))
     (λ _. step _ _ (no6-near line-rooms (length line ∷ []) (omega arith))
     (λ _. end))

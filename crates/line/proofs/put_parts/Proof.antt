@@ -1,6 +1,7 @@
 -- `line::put_parts` meets its contract: after k counts the line of these stands in front. Assumes nothing.
 use Prim.Native.Nat.{_-_}
 use native.Mathlib.Omega.{arith}
+use Rattle.line.specs.Put.{label-count}
 use Rattle.line.proofs.Whole.{Kept, begin, turn, again, done}
 use Rattle.line.proofs.put_parts.Statement.{statement}
 use Rattle.line.proofs.put_parts.Tie as tie
@@ -9,7 +10,7 @@ abbrev Inv-loop : tie.InvT-loop
 Inv-loop counts line₀ at₀ k₀ line at k = Kept counts line₀ line at k
 
 abbrev μ-loop : tie.MeasureT-loop
-μ-loop counts line₀ at₀ k₀ line at k = 10 - k
+μ-loop counts line₀ at₀ k₀ line at k = label-count - k
 
 loop-holds : tie.Need-loop-holds Inv-loop μ-loop
 loop-holds c = begin (c .before .before .pre)

@@ -1,4 +1,4 @@
-// The call "report line" of document 01: from any ten u32 counts, the line in a lent room of bytes.
+// The call "report line" of document 01: from any u32 counts of a report, the line in a lent room of bytes.
 use refuse::Verdict;
 ghost use mathlib.Core.Path.{_≡_};
 ghost use mathlib.Core.List.{[], _∷_};
@@ -8,6 +8,9 @@ ghost use Rattle.refuse.specs.Accepted.{LineAccepted};
 ghost use Rattle.rules.specs.Line as rule;
 ghost use Rattle.rules.specs.Calls.{write-line};
 ghost use Rattle.line.specs.Put as by;
+
+// How many labels there are.
+const LABELS: usize = 10;
 
 // What the call gives back: how many bytes stand in the room, or a refusal's number and place.
 pub enum Lined {
@@ -115,21 +118,21 @@ fn put_next(line: &mut [u8], at: usize, n: u32, k: usize) -> usize
     put_part(line, next, n, k)
 }
 
-// Puts the parts of ten counts, joined. Returns where the line ends.
+// Puts the parts of the counts, joined. Returns where the line ends.
 fn put_parts(counts: &[u32], line: &mut [u8]) -> usize
     requires { ⌜ LineAccepted (now counts) (length (now line)) ⌝ }
     ensures { λ r. ⌜ by.LineGives (now (line .entry)) (by.parts (now (counts .entry))) (now (line .exit)) r ⌝ }
 {
     let mut at = 0;
     let mut k = 0;
-    while k < 10 {
+    while k < LABELS {
         at = put_next(line, at, counts[k], k);
         k += 1;
     }
     at
 }
 
-// Puts the line of ten counts: their parts, or, all zero, that nothing changed. Returns where the line ends.
+// Puts the line of the counts: their parts, or, all zero, that nothing changed. Returns where the line ends.
 fn put_line(counts: &[u32], line: &mut [u8]) -> usize
     requires { ⌜ LineAccepted (now counts) (length (now line)) ⌝ }
     ensures { λ r. ⌜ by.LineGives (now (line .entry)) (rule.line (now (counts .entry))) (now (line .exit)) r ⌝ }

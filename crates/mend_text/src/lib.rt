@@ -14,7 +14,7 @@ fn mend(points: &[f64], faces: &[u32], threshold: f64, options: u32, out: &mut [
 {
     let mut mended = [0.0; 768];
     let mut triples = [0; 192];
-    let mut report = [0; 10];
+    let mut report = [0; rules::COUNTS];
     let mut work = [0; 5184];
     match repair::repair(
         points,

@@ -248,7 +248,7 @@ fn stated_work(p: usize, f: usize) -> usize
     16 * p + 64 * f + 64
 }
 
-// 6, of a repair: points 3(P+3F), faces 3F, report 10, work.
+// 6, of a repair: points 3(P+3F), faces 3F, report, work.
 fn repair_rooms(p: usize, f: usize, rooms: RepairRooms) -> Verdict
     requires { ⌜ by.Limits p f ⌝ }
     ensures { λ r. ⌜ by.checkOf r ≡ rule.no6 (room.repair-rooms p f) (rooms .points ∷ rooms .faces ∷ rooms .report ∷ rooms .work ∷ []) ⌝ }
@@ -259,7 +259,7 @@ fn repair_rooms(p: usize, f: usize, rooms: RepairRooms) -> Verdict
     if rooms.faces < 3 * f {
         return Verdict::Refused(6, 1);
     }
-    if rooms.report < 10 {
+    if rooms.report < rules::COUNTS {
         return Verdict::Refused(6, 2);
     }
     if rooms.work < stated_work(p, f) {
@@ -425,11 +425,11 @@ pub fn patches_check(
     patches_rooms(count, rooms)
 }
 
-// The report line: 1, of what is not ten counts, and 6, of a line under 512 bytes.
+// The report line: 1, of what is not as many counts as a report has, and 6, of a line under 512 bytes.
 pub fn line_check(counts: &[u32], line: usize) -> Verdict
     ensures { λ r. ⌜ by.checkOf r ≡ rule.decided (by.line-list (now (counts .entry)) line) ⌝ }
 {
-    if counts.len() != 10 {
+    if counts.len() != rules::COUNTS {
         return Verdict::Refused(1, 2);
     }
     if line < 512 {

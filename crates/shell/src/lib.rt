@@ -30,7 +30,7 @@ pub struct ShellRepaired {
     pub counts: u64,
 }
 
-// The repair: the mended points and faces, and the ten counts of the report.
+// The repair: the mended points and faces, and the counts of the report.
 #[no_mangle]
 pub extern "C" fn shell_repair(
     points: &[f64],
@@ -50,7 +50,7 @@ pub extern "C" fn shell_repair(
             place: 0,
             points: a as u64,
             faces: b as u64,
-            counts: 10,
+            counts: rules::COUNTS as u64,
         },
         Repaired::Refused(number, at) => {
             let place = at as u32;
@@ -154,7 +154,7 @@ pub struct ShellLine {
     pub bytes: u64,
 }
 
-// The report line: from any ten counts, the line of text in a room of 512 bytes.
+// The report line: from any counts of a report, the line of text in a room of 512 bytes.
 #[no_mangle]
 pub extern "C" fn shell_line(counts: &[u32], line: &mut [u8]) -> ShellLine
     ensures { λ r. ⌜ Given (r .number) (r .place) (r .bytes ∷ []) (now (line .exit)) (rule.write-line (now (counts .entry)) (now (line .entry))) ⌝ }

@@ -1,136 +1,95 @@
--- The ten fields of a report and the three counts that a pass returns, as `Thin.antt` takes them. They differ in a name and a place.
+-- The fields of a report and the three counts that a pass returns, as `Thin.antt` takes them. A field is told by its count's place alone.
 -- Assumes nothing.
-use mathlib.Core.Path.{refl}
-use Prim.Native.Nat.{ℕ, _+_, _-_, _≤_, _<_}
-use native.Mathlib.Omega.{arith}
+use mathlib.Core.Path.{_≡_, refl, sym, ap, subst, _∙_}
+use mathlib.Core.Option.{some as just}
+use mathlib.Core.List.{List, [], _∷_}
+use Prim.Native.Nat.{ℕ, zero, suc, _+_, _*_, _^_, _<_}
+use native.Mathlib.Nat.{not-suc-le-zero, le-of-suc-le-suc}
+use lib.ListN.{length, getD, set}
+use mir.Syntax.{w64, tyInt}
+use mir.Fields.{getV, setV}
+use mir.Val.{vint, vcons}
+use prog.Memory.{fieldOf}
+use denote.Laws.{Is}
+use denote.Builtin.{usize}
 use denote.Struct.Laws as LL
-use Rattle.rules.specs.State.{Count, degenerates, duplicates, crowded-edges, dropped-at-edges, dropped-for-direction, vertices-split, points-added, reoriented, components, isolated}
-use Rattle.lending.specs.Reports.{added}
+use Rattle.rules.specs.State.{Count, place, more, degenerates, duplicates, crowded-edges, dropped-at-edges, dropped-for-direction, vertices-split, points-added, reoriented, components, isolated}
+use Rattle.rules.proofs.Counts.{place-below}
+use Rattle.lending.specs.declared.Report.{Report}
+use Rattle.lending.specs.Reports.{countsOf, added}
 use Rattle.lending.proofs.Report as T
 use Rattle.lending.proofs.Report.Laws as T′
-use Rattle.lending.proofs.Thin.{Field, Part, Add}
+use Rattle.lending.proofs.Raised.{counts-added}
+use Rattle.lending.proofs.Thin.{words, fieldsOf, mach, Field, Part, Add}
+
+-- the field of a count lies at its place, each of eight bytes
+pub lies-at : (c : Count) → fieldOf T′.mir (place c) ≡ just (tyInt w64, 8 * place c)
+unfolding place
+lies-at degenerates = refl
+lies-at duplicates = refl
+lies-at crowded-edges = refl
+lies-at dropped-at-edges = refl
+lies-at dropped-for-direction = refl
+lies-at vertices-split = refl
+lies-at points-added = refl
+lies-at reoriented = refl
+lies-at components = refl
+lies-at isolated = refl
+
+-- an entry of a list is read among its machine values
+pub got-at : (xs : List ℕ) (k : ℕ) → k < length xs → getV (words xs) k ≡ vint w64 (getD xs k 0)
+got-at [] k h = absurd (not-suc-le-zero h)
+got-at (x ∷ xs) zero h = refl
+got-at (x ∷ xs) (suc k) h = got-at xs k (le-of-suc-le-suc h)
+
+-- and stored there
+put-at : (xs : List ℕ) (k v : ℕ) → setV (words xs) k (vint w64 v) ≡ words (set xs k v)
+put-at [] k v = refl
+put-at (x ∷ xs) zero v = refl
+put-at (x ∷ xs) (suc k) v = ap (λ vs. vcons (vint w64 x) vs) (put-at xs k v)
+
+-- numbers that fit into machine values
+abbrev Fit : List ℕ → Type 0
+Fit [] = Unit {0}
+Fit (x ∷ xs) = Is usize x (vint w64 x ∷ []) × Fit xs
+
+-- each of them does
+pub fit-at : (xs : List ℕ) (k : ℕ) → k < length xs → Fit xs → getD xs k 0 < 2 ^ 64
+fit-at [] k h f = absurd (not-suc-le-zero h)
+fit-at (x ∷ xs) zero h f = f .0 .1
+fit-at (x ∷ xs) (suc k) h f = fit-at xs k (le-of-suc-le-suc h) (f .1)
+
+-- and all still do where one that fits is stored
+fit-set : (xs : List ℕ) (k v : ℕ) → v < 2 ^ 64 → Fit xs → Fit (set xs k v)
+fit-set [] k v h f = tt
+fit-set (x ∷ xs) zero v h f = ((refl, h), f .1)
+fit-set (x ∷ xs) (suc k) v h f = (f .0, fit-set xs k v h (f .1))
+
+-- a report's machine values after more at a count: one of them is stored
+pub put-more : (c : Count) (h : Report) (r : ℕ) → setV (fieldsOf h) (place c) (vint w64 (getD (countsOf h) (place c) 0 + r)) ≡ fieldsOf (added c r h)
+unfolding more
+put-more c h r = put-at (countsOf h) (place c) (getD (countsOf h) (place c) 0 + r) ∙ ap words (sym (counts-added c r h))
+
+-- they still fit
+pub made-more : (c : Count) (h : Report) (r : ℕ) → getD (countsOf h) (place c) 0 + r < 2 ^ 64 → Is T.the-row h (mach h ∷ []) → Is T.the-row (added c r h) (mach (added c r h) ∷ [])
+unfolding more
+made-more c h r l was =
+    LL.owes T.the-type T′.the-laws (added c r h)
+    (subst Fit (sym (counts-added c r h)) (fit-set (countsOf h) (place c) (getD (countsOf h) (place c) 0 + r) l (LL.owed T.the-type T′.the-laws h _ was)))
 
 -- the field of a count
 abbrev pub fieldAt : Count → Field
-fieldAt degenerates =
+fieldAt c =
     record {
-      k = 0;
-      d = 0;
-      get = λ h. h .«degenerate_removed»;
-      after = λ h r. added degenerates r h;
-      lies = refl;
-      got = λ h. refl;
-      put = λ h r. refl;
-      fits = λ h was. LL.owed T.the-type T′.the-laws h _ was .0 .1;
-      made = λ h r fits was. let o = LL.owed T.the-type T′.the-laws h _ was in LL.owes T.the-type T′.the-laws (added degenerates r h) ((refl, fits), (o .1 .0, (o .1 .1 .0, (o .1 .1 .1 .0, (o .1 .1 .1 .1 .0, (o .1 .1 .1 .1 .1 .0, (o .1 .1 .1 .1 .1 .1 .0, (o .1 .1 .1 .1 .1 .1 .1 .0, (o .1 .1 .1 .1 .1 .1 .1 .1 .0, (o .1 .1 .1 .1 .1 .1 .1 .1 .1 .0, tt))))))))));
-    }
-fieldAt duplicates =
-    record {
-      k = 1;
-      d = 8;
-      get = λ h. h .«duplicate_faces_removed»;
-      after = λ h r. added duplicates r h;
-      lies = refl;
-      got = λ h. refl;
-      put = λ h r. refl;
-      fits = λ h was. LL.owed T.the-type T′.the-laws h _ was .1 .0 .1;
-      made = λ h r fits was. let o = LL.owed T.the-type T′.the-laws h _ was in LL.owes T.the-type T′.the-laws (added duplicates r h) (o .0, ((refl, fits), (o .1 .1 .0, (o .1 .1 .1 .0, (o .1 .1 .1 .1 .0, (o .1 .1 .1 .1 .1 .0, (o .1 .1 .1 .1 .1 .1 .0, (o .1 .1 .1 .1 .1 .1 .1 .0, (o .1 .1 .1 .1 .1 .1 .1 .1 .0, (o .1 .1 .1 .1 .1 .1 .1 .1 .1 .0, tt))))))))));
-    }
-fieldAt crowded-edges =
-    record {
-      k = 2;
-      d = 16;
-      get = λ h. h .«nonmanifold_edges»;
-      after = λ h r. added crowded-edges r h;
-      lies = refl;
-      got = λ h. refl;
-      put = λ h r. refl;
-      fits = λ h was. LL.owed T.the-type T′.the-laws h _ was .1 .1 .0 .1;
-      made = λ h r fits was. let o = LL.owed T.the-type T′.the-laws h _ was in LL.owes T.the-type T′.the-laws (added crowded-edges r h) (o .0, (o .1 .0, ((refl, fits), (o .1 .1 .1 .0, (o .1 .1 .1 .1 .0, (o .1 .1 .1 .1 .1 .0, (o .1 .1 .1 .1 .1 .1 .0, (o .1 .1 .1 .1 .1 .1 .1 .0, (o .1 .1 .1 .1 .1 .1 .1 .1 .0, (o .1 .1 .1 .1 .1 .1 .1 .1 .1 .0, tt))))))))));
-    }
-fieldAt dropped-at-edges =
-    record {
-      k = 3;
-      d = 24;
-      get = λ h. h .«faces_dropped_at_nonmanifold»;
-      after = λ h r. added dropped-at-edges r h;
-      lies = refl;
-      got = λ h. refl;
-      put = λ h r. refl;
-      fits = λ h was. LL.owed T.the-type T′.the-laws h _ was .1 .1 .1 .0 .1;
-      made = λ h r fits was. let o = LL.owed T.the-type T′.the-laws h _ was in LL.owes T.the-type T′.the-laws (added dropped-at-edges r h) (o .0, (o .1 .0, (o .1 .1 .0, ((refl, fits), (o .1 .1 .1 .1 .0, (o .1 .1 .1 .1 .1 .0, (o .1 .1 .1 .1 .1 .1 .0, (o .1 .1 .1 .1 .1 .1 .1 .0, (o .1 .1 .1 .1 .1 .1 .1 .1 .0, (o .1 .1 .1 .1 .1 .1 .1 .1 .1 .0, tt))))))))));
-    }
-fieldAt dropped-for-direction =
-    record {
-      k = 4;
-      d = 32;
-      get = λ h. h .«faces_dropped_for_orientation»;
-      after = λ h r. added dropped-for-direction r h;
-      lies = refl;
-      got = λ h. refl;
-      put = λ h r. refl;
-      fits = λ h was. LL.owed T.the-type T′.the-laws h _ was .1 .1 .1 .1 .0 .1;
-      made = λ h r fits was. let o = LL.owed T.the-type T′.the-laws h _ was in LL.owes T.the-type T′.the-laws (added dropped-for-direction r h) (o .0, (o .1 .0, (o .1 .1 .0, (o .1 .1 .1 .0, ((refl, fits), (o .1 .1 .1 .1 .1 .0, (o .1 .1 .1 .1 .1 .1 .0, (o .1 .1 .1 .1 .1 .1 .1 .0, (o .1 .1 .1 .1 .1 .1 .1 .1 .0, (o .1 .1 .1 .1 .1 .1 .1 .1 .1 .0, tt))))))))));
-    }
-fieldAt vertices-split =
-    record {
-      k = 5;
-      d = 40;
-      get = λ h. h .«bowtie_vertices_split»;
-      after = λ h r. added vertices-split r h;
-      lies = refl;
-      got = λ h. refl;
-      put = λ h r. refl;
-      fits = λ h was. LL.owed T.the-type T′.the-laws h _ was .1 .1 .1 .1 .1 .0 .1;
-      made = λ h r fits was. let o = LL.owed T.the-type T′.the-laws h _ was in LL.owes T.the-type T′.the-laws (added vertices-split r h) (o .0, (o .1 .0, (o .1 .1 .0, (o .1 .1 .1 .0, (o .1 .1 .1 .1 .0, ((refl, fits), (o .1 .1 .1 .1 .1 .1 .0, (o .1 .1 .1 .1 .1 .1 .1 .0, (o .1 .1 .1 .1 .1 .1 .1 .1 .0, (o .1 .1 .1 .1 .1 .1 .1 .1 .1 .0, tt))))))))));
-    }
-fieldAt points-added =
-    record {
-      k = 6;
-      d = 48;
-      get = λ h. h .«points_added_by_splitting»;
-      after = λ h r. added points-added r h;
-      lies = refl;
-      got = λ h. refl;
-      put = λ h r. refl;
-      fits = λ h was. LL.owed T.the-type T′.the-laws h _ was .1 .1 .1 .1 .1 .1 .0 .1;
-      made = λ h r fits was. let o = LL.owed T.the-type T′.the-laws h _ was in LL.owes T.the-type T′.the-laws (added points-added r h) (o .0, (o .1 .0, (o .1 .1 .0, (o .1 .1 .1 .0, (o .1 .1 .1 .1 .0, (o .1 .1 .1 .1 .1 .0, ((refl, fits), (o .1 .1 .1 .1 .1 .1 .1 .0, (o .1 .1 .1 .1 .1 .1 .1 .1 .0, (o .1 .1 .1 .1 .1 .1 .1 .1 .1 .0, tt))))))))));
-    }
-fieldAt reoriented =
-    record {
-      k = 7;
-      d = 56;
-      get = λ h. h .«faces_reoriented»;
-      after = λ h r. added reoriented r h;
-      lies = refl;
-      got = λ h. refl;
-      put = λ h r. refl;
-      fits = λ h was. LL.owed T.the-type T′.the-laws h _ was .1 .1 .1 .1 .1 .1 .1 .0 .1;
-      made = λ h r fits was. let o = LL.owed T.the-type T′.the-laws h _ was in LL.owes T.the-type T′.the-laws (added reoriented r h) (o .0, (o .1 .0, (o .1 .1 .0, (o .1 .1 .1 .0, (o .1 .1 .1 .1 .0, (o .1 .1 .1 .1 .1 .0, (o .1 .1 .1 .1 .1 .1 .0, ((refl, fits), (o .1 .1 .1 .1 .1 .1 .1 .1 .0, (o .1 .1 .1 .1 .1 .1 .1 .1 .1 .0, tt))))))))));
-    }
-fieldAt components =
-    record {
-      k = 8;
-      d = 64;
-      get = λ h. h .«nonorientable_components»;
-      after = λ h r. added components r h;
-      lies = refl;
-      got = λ h. refl;
-      put = λ h r. refl;
-      fits = λ h was. LL.owed T.the-type T′.the-laws h _ was .1 .1 .1 .1 .1 .1 .1 .1 .0 .1;
-      made = λ h r fits was. let o = LL.owed T.the-type T′.the-laws h _ was in LL.owes T.the-type T′.the-laws (added components r h) (o .0, (o .1 .0, (o .1 .1 .0, (o .1 .1 .1 .0, (o .1 .1 .1 .1 .0, (o .1 .1 .1 .1 .1 .0, (o .1 .1 .1 .1 .1 .1 .0, (o .1 .1 .1 .1 .1 .1 .1 .0, ((refl, fits), (o .1 .1 .1 .1 .1 .1 .1 .1 .1 .0, tt))))))))));
-    }
-fieldAt isolated =
-    record {
-      k = 9;
-      d = 72;
-      get = λ h. h .«isolated_vertices_removed»;
-      after = λ h r. added isolated r h;
-      lies = refl;
-      got = λ h. refl;
-      put = λ h r. refl;
-      fits = λ h was. LL.owed T.the-type T′.the-laws h _ was .1 .1 .1 .1 .1 .1 .1 .1 .1 .0 .1;
-      made = λ h r fits was. let o = LL.owed T.the-type T′.the-laws h _ was in LL.owes T.the-type T′.the-laws (added isolated r h) (o .0, (o .1 .0, (o .1 .1 .0, (o .1 .1 .1 .0, (o .1 .1 .1 .1 .0, (o .1 .1 .1 .1 .1 .0, (o .1 .1 .1 .1 .1 .1 .0, (o .1 .1 .1 .1 .1 .1 .1 .0, (o .1 .1 .1 .1 .1 .1 .1 .1 .0, ((refl, fits), tt))))))))));
+      k = place c;
+      d = 8 * place c;
+      get = λ h. getD (countsOf h) (place c) 0;
+      after = λ h r. added c r h;
+      lies = lies-at c;
+      got = λ h. got-at (countsOf h) (place c) (place-below c);
+      put = put-more c;
+      fits = λ h was. fit-at (countsOf h) (place c) (place-below c) (LL.owed T.the-type T′.the-laws h _ was);
+      made = made-more c;
     }
 
 -- the faces or points that left, the edges, components or vertices at fault, the faces or points that were turned or added
@@ -146,7 +105,3 @@ changed = record { k = 4; d = 32; get = λ r. r .changed; lies = refl; got = λ 
 -- one addition
 abbrev pub adding : Count → Part → Add
 adding c part = record { field = fieldAt c; part = part }
-
--- a sum fits where the field leaves room for m more
-pub fits : {N m a k : ℕ} → a < N - m → k ≤ m → a + k < N
-fits l b = omega arith

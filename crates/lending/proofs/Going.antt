@@ -10,7 +10,7 @@ use Rattle.rows.specs.Region.{OnlyOf, Only}
 use Rattle.rows.proofs.Regions.{only-none, only-both, only-more}
 use Rattle.rules.specs.Repair.{optional, bit, passes}
 use Rattle.rules.specs.Rooms.{work-room}
-use Rattle.rules.specs.State.{State, Count, report-counts, place, more, degenerates, duplicates, crowded-edges, dropped-at-edges, dropped-for-direction, vertices-split, points-added, reoriented, components, isolated}
+use Rattle.rules.specs.State.{State, report-counts, place, more, degenerates, duplicates, crowded-edges, dropped-at-edges, dropped-for-direction, vertices-split, points-added, reoriented, components, isolated}
 use Rattle.rules.specs.Pass1 as one
 use Rattle.rules.specs.Pass2 as two
 use Rattle.rules.specs.Pass3 as three
@@ -24,6 +24,7 @@ use Rattle.passes.specs.Passing.{PassGives}
 use Rattle.lending.specs.declared.Report.{Report}
 use Rattle.lending.specs.Reports.{empty, added, countsOf, CountsBelow}
 use Rattle.lending.specs.Mended.{TurnsGive}
+use Rattle.lending.proofs.Raised.{counts-below, grows, none-yet}
 
 -- P points and F faces stood in the rooms ps₀ and xs₀. Now p and n stand in ps and xs, as `pass` leaves them, and each count is below N.
 pub record Going (pass : State → State) (N : ℕ) (ps₀ : List Float) (P : ℕ) (xs₀ : List ℕ) (F : ℕ) (w₀ : List ℕ) (h : Report) (ps : List Float) (p : ℕ) (xs : List ℕ) (n : ℕ) (w : List ℕ) : Type 0 where
@@ -35,23 +36,6 @@ pub record Going (pass : State → State) (N : ℕ) (ps₀ : List Float) (P : �
   pub only-points : OnlyOf nan 0 (3 * (P + 3 * F)) ps₀ ps
   pub only-faces : Only 0 (3 * F) xs₀ xs
   pub only-work : Only 0 (work-room P F) w₀ w
-
--- counts below a number are below a greater one
-counts-below : {N N′ : ℕ} {h : Report} → N ≤ N′ → CountsBelow N h → CountsBelow N′ h
-counts-below l b = omega (arith, b)
-
--- a count to which at most K are added
-grows : (c : Count) {N K k : ℕ} {h : Report} → k ≤ K → CountsBelow N h → CountsBelow (N + K) (added c k h)
-grows degenerates l b = omega (arith, b)
-grows duplicates l b = omega (arith, b)
-grows crowded-edges l b = omega (arith, b)
-grows dropped-at-edges l b = omega (arith, b)
-grows dropped-for-direction l b = omega (arith, b)
-grows vertices-split l b = omega (arith, b)
-grows points-added l b = omega (arith, b)
-grows reoriented l b = omega (arith, b)
-grows components l b = omega (arith, b)
-grows isolated l b = omega (arith, b)
 
 -- one pass more
 turn :
@@ -149,7 +133,7 @@ module _ {ps₀ : List Float} {P : ℕ} {xs₀ : List ℕ} {F : ℕ} {w₀ : Lis
     begins h e =
         record {
           state = ap (λ r. stateOf ps₀ P xs₀ F (countsOf r)) e;
-          few = subst (CountsBelow 1) (sym e) (omega arith);
+          few = subst (CountsBelow 1) (sym e) none-yet;
           inside = a .stand .inside;
           points-fit = omega arith;
           faces-fit = omega arith;

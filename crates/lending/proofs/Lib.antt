@@ -1,5 +1,6 @@
 pub mod Again
 pub mod Lent
+pub mod Raised
 pub mod Thin
 pub mod Fields
 pub mod Six

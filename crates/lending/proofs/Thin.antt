@@ -54,6 +54,7 @@ use denote.Exit.{yes}
 use denote.Signature.{plain}
 use Rattle.passes.specs.declared.Passed.{Passed}
 use Rattle.lending.specs.declared.Report.{Report}
+use Rattle.lending.specs.Reports.{countsOf}
 use Rattle.passes.proofs.Passed as S
 use Rattle.passes.proofs.Passed.Laws as S′
 use Rattle.lending.proofs.Report as T
@@ -65,9 +66,14 @@ use Rattle.lending.proofs.drop_degenerate as f
 abbrev stayed : Stays (f.ended .signature .params) (f.ended .kept)
 stayed = (stay-ref (0 ∷ []) tt (plain (λ _. T.the-row)), (stay-none (λ _. u32) yes, (stay-none (λ _. f64) yes, (gave-slice (1 ∷ []) tt (plain (λ _. f64)), (stay-none (λ _. usize) yes, (gave-slice (2 ∷ []) tt (plain (λ _. u32)), (stay-none (λ _. usize) yes, (gave-slice (3 ∷ []) tt (plain (λ _. u32)), tt))))))))
 
+-- numbers as machine values
+abbrev pub words : List ℕ → Vals
+words [] = vnil
+words (x ∷ xs) = vcons (vint w64 x) (words xs)
+
 -- the report's machine value
 abbrev pub fieldsOf : Report → Vals
-fieldsOf h = vcons (vint w64 (h .«degenerate_removed»)) (vcons (vint w64 (h .«duplicate_faces_removed»)) (vcons (vint w64 (h .«nonmanifold_edges»)) (vcons (vint w64 (h .«faces_dropped_at_nonmanifold»)) (vcons (vint w64 (h .«faces_dropped_for_orientation»)) (vcons (vint w64 (h .«bowtie_vertices_split»)) (vcons (vint w64 (h .«points_added_by_splitting»)) (vcons (vint w64 (h .«faces_reoriented»)) (vcons (vint w64 (h .«nonorientable_components»)) (vcons (vint w64 (h .«isolated_vertices_removed»)) vnil)))))))))
+fieldsOf h = words (countsOf h)
 
 abbrev pub mach : Report → Val
 mach h = vstruct (fieldsOf h)

@@ -1,49 +1,55 @@
--- Ten counts written to the front of the report room. Assumes nothing.
-use mathlib.Core.Path.{_≡_, refl}
-use mathlib.Core.List.{List, [], _∷_}
-use Prim.Native.Nat.{ℕ, _≤_}
+-- The counts written to the front of the report room, one after the other. Assumes nothing.
+use mathlib.Core.Path.{_≡_, refl, _∙_}
+use mathlib.Core.List.{List}
+use Prim.Native.Nat.{ℕ, _+_, _^_, _≤_, _<_}
+use native.Mathlib.Nat.{zero-add}
 use native.Mathlib.Omega.{arith}
-use lib.ListN.{length, take, set}
-use Rattle.rows.specs.Region.{Only}
-use Rattle.rows.proofs.Regions.{only-both, only-set}
+use lib.ListN.{length, getD, set}
+use Rattle.rows.specs.Region.{Only, Holds}
+use Rattle.rows.proofs.Regions.{part-eq, only-none, only-next, holds-none, holds-next}
+use Rattle.rules.specs.State.{report-counts}
+use Rattle.lending.specs.declared.Report.{Report}
+use Rattle.lending.specs.Reports.{countsOf}
+use Rattle.repair.specs.Answers.{ReportAsks, ReportGives}
 
--- ten stores
-unfoldable pub stored : List ℕ → ℕ → ℕ → ℕ → ℕ → ℕ → ℕ → ℕ → ℕ → ℕ → ℕ → List ℕ
-stored r a b c d e f g h i j = set (set (set (set (set (set (set (set (set (set r 0 a) 1 b) 2 c) 3 d) 4 e) 5 f) 6 g) 7 h) 8 i) 9 j
+-- after k counts they stand in front, and nothing else is changed
+pub record Wrote (r₀ counts r : List ℕ) (k : ℕ) : Type 0 where
+  pub at-most : k ≤ report-counts
+  pub only : Only 0 k r₀ r
+  pub holds : Holds 0 k (λ i. getD counts i 0) r
 
--- they stand in front
-pub stored-front : (r : List ℕ) (a b c d e f g h i j : ℕ) → 10 ≤ length r → take 10 (stored r a b c d e f g h i j) ≡ a ∷ b ∷ c ∷ d ∷ e ∷ f ∷ g ∷ h ∷ i ∷ j ∷ []
-unfolding stored
-stored-front [] a b c d e f g h i j l = absurd (omega arith)
-stored-front (_ ∷ []) a b c d e f g h i j l = absurd (omega arith)
-stored-front (_ ∷ _ ∷ []) a b c d e f g h i j l = absurd (omega arith)
-stored-front (_ ∷ _ ∷ _ ∷ []) a b c d e f g h i j l = absurd (omega arith)
-stored-front (_ ∷ _ ∷ _ ∷ _ ∷ []) a b c d e f g h i j l = absurd (omega arith)
-stored-front (_ ∷ _ ∷ _ ∷ _ ∷ _ ∷ []) a b c d e f g h i j l = absurd (omega arith)
-stored-front (_ ∷ _ ∷ _ ∷ _ ∷ _ ∷ _ ∷ []) a b c d e f g h i j l = absurd (omega arith)
-stored-front (_ ∷ _ ∷ _ ∷ _ ∷ _ ∷ _ ∷ _ ∷ []) a b c d e f g h i j l = absurd (omega arith)
-stored-front (_ ∷ _ ∷ _ ∷ _ ∷ _ ∷ _ ∷ _ ∷ _ ∷ []) a b c d e f g h i j l = absurd (omega arith)
-stored-front (_ ∷ _ ∷ _ ∷ _ ∷ _ ∷ _ ∷ _ ∷ _ ∷ _ ∷ []) a b c d e f g h i j l = absurd (omega arith)
-stored-front (_ ∷ _ ∷ _ ∷ _ ∷ _ ∷ _ ∷ _ ∷ _ ∷ _ ∷ _ ∷ r) a b c d e f g h i j l = refl
+-- what a turn needs: a count that is a number of 32 bits, and room for it
+pub record Turn (counts : Report) (r : List ℕ) (k : ℕ) : Type 0 where
+  pub few : getD (countsOf counts) k 0 < 2 ^ 32
+  pub room : k < length r
 
--- and nothing else is changed
-pub stored-only : (r : List ℕ) (a b c d e f g h i j : ℕ) → Only 0 10 r (stored r a b c d e f g h i j)
-unfolding stored
-stored-only r a b c d e f g h i j =
-    only-both
-    (only-both
-    (only-both
-    (only-both
-    (only-both
-    (only-both
-    (only-both
-    (only-both
-    (only-both (only-set r 0 a (omega arith) (omega arith)) (only-set _ 1 b (omega arith) (omega arith)))
-    (only-set _ 2 c (omega arith) (omega arith)))
-    (only-set _ 3 d (omega arith) (omega arith)))
-    (only-set _ 4 e (omega arith) (omega arith)))
-    (only-set _ 5 f (omega arith) (omega arith)))
-    (only-set _ 6 g (omega arith) (omega arith)))
-    (only-set _ 7 h (omega arith) (omega arith)))
-    (only-set _ 8 i (omega arith) (omega arith)))
-    (only-set _ 9 j (omega arith) (omega arith))
+-- before the first turn nothing is changed
+pub begin : (r counts : List ℕ) → Wrote r counts r 0
+begin r counts = record { at-most = omega arith; only = only-none 0 0 r; holds = holds-none }
+
+module _ {r₀ : List ℕ} {counts : Report} {r : List ℕ} {k : ℕ} (p : ReportAsks r₀ counts) (v : Wrote r₀ (countsOf counts) r k) where
+  -- the room is as long as it was
+  pub turn : k < report-counts → Turn counts r k
+  turn h =
+      let l = v .only .long in
+      record { few = p .few .each k h; room = omega (arith, p .room) }
+
+  -- one count more stands behind the others
+  pub again : k < report-counts → Wrote r₀ (countsOf counts) (set r k (getD (countsOf counts) k 0)) (k + 1)
+  again h =
+      let t = turn h .room in
+      record {
+        at-most = omega arith;
+        only = rw (zero-add k) at (only-next (getD (countsOf counts) k 0) (v .only));
+        holds = rw (zero-add k) at (holds-next (getD (countsOf counts) k 0) (omega arith) refl (v .holds));
+      }
+
+  -- after all of them the room has the report
+  pub done : report-counts ≤ k → ReportGives r₀ counts r
+  done h =
+      let e : k ≡ report-counts = omega (arith, v .at-most) in
+      let l = v .only .long in
+      record {
+        only = rw e at (v .only);
+        written = part-eq r (countsOf counts) 0 0 report-counts (omega (arith, p .room)) (omega arith) (λ i q. v .holds .each i (omega arith) ∙ rw (zero-add i) refl);
+      }

@@ -12,21 +12,28 @@ pub enum Repaired {
     Refused(u32, usize),
 }
 
-// Writes the ten counts, in report order.
+// Writes the counts, in report order.
 fn write_report(report: &mut [u32], counts: Report)
     requires { ⌜ ReportAsks (now report) counts ⌝ }
     ensures { λ _. ⌜ ReportGives (now (report .entry)) counts (now (report .exit)) ⌝ }
 {
-    report[0] = counts.degenerate_removed as u32;
-    report[1] = counts.duplicate_faces_removed as u32;
-    report[2] = counts.nonmanifold_edges as u32;
-    report[3] = counts.faces_dropped_at_nonmanifold as u32;
-    report[4] = counts.faces_dropped_for_orientation as u32;
-    report[5] = counts.bowtie_vertices_split as u32;
-    report[6] = counts.points_added_by_splitting as u32;
-    report[7] = counts.faces_reoriented as u32;
-    report[8] = counts.nonorientable_components as u32;
-    report[9] = counts.isolated_vertices_removed as u32;
+    let all = [
+        counts.degenerate_removed,
+        counts.duplicate_faces_removed,
+        counts.nonmanifold_edges,
+        counts.faces_dropped_at_nonmanifold,
+        counts.faces_dropped_for_orientation,
+        counts.bowtie_vertices_split,
+        counts.points_added_by_splitting,
+        counts.faces_reoriented,
+        counts.nonorientable_components,
+        counts.isolated_vertices_removed,
+    ];
+    let mut k = 0;
+    while k < rules::COUNTS {
+        report[k] = all[k] as u32;
+        k += 1;
+    }
 }
 
 // The repair: the passes by option bits, then the rooms: each answer in front, zero to the stated room, the work room all zero.

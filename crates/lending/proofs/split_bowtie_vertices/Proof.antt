@@ -2,6 +2,7 @@
 use contract.Running.{givenOf, tables, tablesOf}
 use denote.Triple.Spec.{tripleOf}
 use denote.Triple.Table.{entered, cited}
+use Rattle.rules.specs.State.{place}
 use Rattle.lending.proofs.Thin.{G, meets}
 use Rattle.lending.proofs.Six.{pass5}
 use Rattle.passes.proofs.pass5.Symbol as g-def
@@ -13,7 +14,7 @@ use Rattle.lending.proofs.split_bowtie_vertices.Statement as stated
 use Rattle.lending.proofs.split_bowtie_vertices.Code as code
 
 pub split-bowtie-vertices-spec : {M : Type 1} → stated.statement M
-unfolding code.routine tablesOf
+unfolding code.routine tablesOf place
 split-bowtie-vertices-spec 𝓤 H 𝓜 𝓖 𝓡 =
     entered 𝓤 H (tripleOf 𝓤 H (𝓖 .A) f.signature (f.spec 𝓤 H (𝓖 .A) (𝓜 .mem) (𝓡 .run)))
     (tables 𝓤 H 𝓜 𝓡 code.env .C) (tables 𝓤 H 𝓜 𝓡 code.env .Λ) #lending·split-bowtie-vertices code.function (code.unfolded 𝓤 H 𝓜 𝓡)

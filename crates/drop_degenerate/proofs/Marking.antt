@@ -12,7 +12,6 @@ use Rattle.rows.proofs.Regions.{only-none, only-next, holds-none, holds-next}
 use Rattle.rules.specs.Mesh.{pointsOf}
 use Rattle.rules.specs.Float.{degenerate}
 use Rattle.rules.specs.Pass1.{marked1}
-use Rattle.rules.specs.Rooms.{work-room}
 use Rattle.measure.specs.Measure.{faceOf, Corners}
 use Rattle.leaving.specs.Pass.{standing, PassAsks, MarkGives}
 use Rattle.leaving.proofs.Standing.{standing-face}
@@ -32,13 +31,12 @@ pub record Turn (xs : List ℕ) (n : ℕ) (w : List ℕ) (i : ℕ) : Type 0 wher
   pub room : n ≤ length w
 
 -- before the first turn no flag is written
-pub begin : {ps : List Float} {s : Float} {xs : List ℕ} {n : ℕ} {w : List ℕ} → PassAsks ps xs n w → Marked ps s xs n w w 0
+pub begin : {ps : List Float} {s : Float} {xs : List ℕ} {n : ℕ} {w : List ℕ} → PassAsks n ps xs n w → Marked ps s xs n w w 0
 begin p = record { at-most = omega arith; only = only-none _ _ _; flags = holds-none }
 
-module _ {ps : List Float} {s : Float} {xs : List ℕ} {n : ℕ} {w₀ w : List ℕ} {i : ℕ} (p : PassAsks ps xs n w₀) (v : Marked ps s xs n w₀ w i) where
+module _ {ps : List Float} {s : Float} {xs : List ℕ} {n : ℕ} {w₀ w : List ℕ} {i : ℕ} (p : PassAsks n ps xs n w₀) (v : Marked ps s xs n w₀ w i) where
   -- the bounds of a turn
   pub turn : i < n → Turn xs n w i
-  unfolding work-room
   turn h = let l = v .only .long in record { here = h; fit = p .stand .fit; few = p .stand .few; room = omega (arith, p .stand .room) }
 
   -- the corners that are measured are points

@@ -19,7 +19,7 @@ fn flag(leaves: bool) -> u32
 
 // Flags each of the n faces that is degenerate at the threshold s.
 fn flag_all(points: &[f64], s: f64, faces: &[u32], n: usize, work: &mut [u32])
-    requires { ⌜ PassAsks (now points) (now faces) n (now work) ⌝ }
+    requires { ⌜ PassAsks n (now points) (now faces) n (now work) ⌝ }
     ensures { λ _. ⌜ MarkGives (marked1 s (pointsOf (now (points .entry))) (standing (now (faces .entry)) n)) n n (now (work .entry)) (now (work .exit)) 0 ⌝ }
 {
     let mut i = 0;
@@ -35,7 +35,7 @@ fn flag_all(points: &[f64], s: f64, faces: &[u32], n: usize, work: &mut [u32])
 
 // Pass 1 marks those of the n faces that are degenerate at the threshold s.
 pub fn mark(points: &[f64], s: f64, faces: &[u32], n: usize, work: &mut [u32]) -> Marked
-    requires { ⌜ PassAsks (now points) (now faces) n (now work) ⌝ }
+    requires { ⌜ PassAsks n (now points) (now faces) n (now work) ⌝ }
     ensures { λ r. ⌜ MarkGives (marked1 s (pointsOf (now (points .entry))) (standing (now (faces .entry)) n)) n n (now (work .entry)) (now (work .exit)) (r .at) ⌝ }
     ensures { λ r. ⌜ r .found ≡ 0 ⌝ }
 {

@@ -8,20 +8,19 @@ use lib.Dec.{leb}
 use lib.Ieee.{Float}
 use lib.ListN.{length}
 use borrow.Author.Tests.{leb-true}
-use Rattle.rules.specs.Rooms.{work-room}
 use Rattle.leaving.specs.Pass.{FacesStand}
 use Rattle.drop_isolated_vertices.specs.Unused.{UnusedAsks}
 use Rattle.drops_try.proofs.Bounded.{within, bounded}
 
 -- n faces over P points, in a work room that is long enough
-pub stands : (P : ℕ) (xs : List ℕ) (n : ℕ) (w : List ℕ) → leb P 100 ≡ true → leb n 100 ≡ true → leb (3 * n) (length xs) ≡ true → within xs (3 * n) P ≡ true → leb (work-room P n) (length w) ≡ true → FacesStand P xs n w
-stands P xs n w a b c d e =
+pub stands : (taken P : ℕ) (xs : List ℕ) (n : ℕ) (w : List ℕ) → leb P 100 ≡ true → leb n 100 ≡ true → leb (3 * n) (length xs) ≡ true → within xs (3 * n) P ≡ true → leb taken (length w) ≡ true → FacesStand taken P xs n w
+stands taken P xs n w a b c d e =
     record {
       points = omega (arith, leb-true P 100 a);
       few = omega (arith, leb-true n 100 b);
       fit = leb-true (3 * n) (length xs) c;
       inside = bounded xs (3 * n) P d;
-      room = leb-true (work-room P n) (length w) e;
+      room = leb-true taken (length w) e;
     }
 
 -- the points of pass 6, of which P stand at the front

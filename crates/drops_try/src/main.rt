@@ -1,6 +1,7 @@
 // Runs passes 1, 2 and 6 on small rooms. A line has how many faces or points stay, and the room of the faces after the pass: beyond the faces that
 // the pass was given it holds 9, as before.
 ghost use Rattle.leaving.specs.Pass.{FacesStand, PassAsks};
+ghost use Rattle.drop_duplicate_faces.specs.Keys.{taken};
 ghost use Rattle.drop_isolated_vertices.specs.Unused.{UnusedAsks};
 
 // A u32 as a u64.
@@ -42,7 +43,7 @@ fn show_equal(row: &[f64], other: &[f64]) {
 
 // Pass 1.
 fn degenerate(points: &[f64], s: f64, faces: &mut [u32], n: usize, work: &mut [u32])
-    requires { ⌜ PassAsks (now points) (now faces) n (now work) ⌝ }
+    requires { ⌜ PassAsks n (now points) (now faces) n (now work) ⌝ }
 {
     let marked = drop_degenerate::mark(points, s, faces, n, work);
     show_number(leaving::leave(faces, work, marked.at, n) as u64);
@@ -51,7 +52,7 @@ fn degenerate(points: &[f64], s: f64, faces: &mut [u32], n: usize, work: &mut [u
 
 // Pass 2.
 fn duplicate(faces: &mut [u32], n: usize, count: usize, work: &mut [u32])
-    requires { ⌜ FacesStand count (now faces) n (now work) ⌝ }
+    requires { ⌜ FacesStand (taken count n) count (now faces) n (now work) ⌝ }
 {
     let marked = drop_duplicate_faces::mark(faces, n, count, work);
     show_number(leaving::leave(faces, work, marked.at, n) as u64);

@@ -37,17 +37,17 @@ dropped-state {marked} {xs} {n} {xs′} {r} c ps report fit g =
     λ i. record { points = ps; faces = b i; report = more c (k i) report }
 
 -- the corners of the faces that stand are of the P points
-standing-inside : {P : ℕ} {xs : List ℕ} {n : ℕ} {w : List ℕ} → FacesStand P xs n w → All (λ f. All (λ v. v < P) (corners f)) (standing xs n)
+standing-inside : {taken P : ℕ} {xs : List ℕ} {n : ℕ} {w : List ℕ} → FacesStand taken P xs n w → All (λ f. All (λ v. v < P) (corners f)) (standing xs n)
 unfolding face
-standing-inside {P} {xs} {n} p =
+standing-inside {taken} {P} {xs} {n} p =
     all-from (λ f. All (λ v. v < P) (corners f)) (record { a = 0; b = 0; c = 0 }) (standing xs n)
     (λ i h.
     let l : i < n = omega (arith, length-faces-take xs n (p .fit)) in
     rw (standing-face xs n (p .fit) i l) (p .inside (3 * i) (omega arith), (p .inside (3 * i + 1) (omega arith), (p .inside (3 * i + 2) (omega arith), tt))))
 
 -- so are the corners of those that stay
-pub left-inside : {marked : ℕ → Bool} {P : ℕ} {xs : List ℕ} {n : ℕ} {w xs′ : List ℕ} {r : ℕ} → FacesStand P xs n w → LeaveGives marked xs n xs′ r → (i : ℕ) → i < 3 * r → getD xs′ i 0 < P
-left-inside {marked} {P} {xs} {n} {w} {xs′} {r} p g i h =
+pub left-inside : {marked : ℕ → Bool} {taken P : ℕ} {xs : List ℕ} {n : ℕ} {w xs′ : List ℕ} {r : ℕ} → FacesStand taken P xs n w → LeaveGives marked xs n xs′ r → (i : ℕ) → i < 3 * r → getD xs′ i 0 < P
+left-inside {marked} {taken} {P} {xs} {n} {w} {xs′} {r} p g i h =
     let l = g .only-faces .long in
     let c = g .number in
     let e = length-take-le (3 * r) xs′ (omega (arith, p .fit)) in
@@ -55,3 +55,7 @@ left-inside {marked} {P} {xs} {n} {w} {xs′} {r} p g i h =
   where
     flat-inside : All (λ v. v < P) (flatFaces (leave marked (standing xs n)))
     flat-inside = unfold flatFaces in (all-each (λ v. v < P) corners (leave marked (standing xs n)) (all-leave (λ f. All (λ v. v < P) (corners f)) marked (standing xs n) (standing-inside p)))
+
+-- where more entries are taken fewer may be
+pub fewer-taken : {k taken P : ℕ} {xs : List ℕ} {n : ℕ} {w : List ℕ} → k ≤ taken → FacesStand taken P xs n w → FacesStand k P xs n w
+fewer-taken h p = record { points = p .points; few = p .few; fit = p .fit; inside = p .inside; room = omega (arith, p .room) }

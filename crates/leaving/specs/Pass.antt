@@ -9,7 +9,6 @@ use Rattle.rows.specs.Region.{Only, Holds}
 use Rattle.rules.specs.Lists.{below, count, leave}
 use Rattle.rules.specs.Mesh.{Face, facesOf, flatFaces, pointsOf}
 use Rattle.rules.specs.Refusal.{most-points, most-faces}
-use Rattle.rules.specs.Rooms.{work-room}
 use Rattle.rules.specs.State.{State}
 
 -- the n faces at the front of the room xs
@@ -20,18 +19,18 @@ standing xs n = facesOf (take (3 * n) xs)
 abbrev pub stateOf : List Float → ℕ → List ℕ → ℕ → List ℕ → State
 stateOf ps p xs n report = record { points = pointsOf (take (3 * p) ps); faces = standing xs n; report = report }
 
--- n faces stand at the front of the room xs, their corners are of the P points, and the work room is there
-pub record FacesStand (P : ℕ) (xs : List ℕ) (n : ℕ) (w : List ℕ) : Type 0 where
+-- n faces stand at the front of the room xs, their corners are of the P points, and the work room has the entries that are taken
+pub record FacesStand (taken P : ℕ) (xs : List ℕ) (n : ℕ) (w : List ℕ) : Type 0 where
   pub points : P ≤ most-points
   pub few : n ≤ most-faces
   pub fit : 3 * n ≤ length xs
   pub inside : (i : ℕ) → i < 3 * n → getD xs i 0 < P
-  pub room : work-room P n ≤ length w
+  pub room : taken ≤ length w
 
 -- the same over the points ps, which a pass reads
-pub record PassAsks (ps : List Float) (xs : List ℕ) (n : ℕ) (w : List ℕ) : Type 0 where
+pub record PassAsks (taken : ℕ) (ps : List Float) (xs : List ℕ) (n : ℕ) (w : List ℕ) : Type 0 where
   pub whole : length ps % 3 ≡ 0
-  pub stand : FacesStand (length ps / 3) xs n w
+  pub stand : FacesStand taken (length ps / 3) xs n w
 
 -- the flags from `marks` on are 1 for what leaves, and 0 for what stays
 abbrev pub Flagged : List ℕ → ℕ → ℕ → (ℕ → Bool) → Type 0

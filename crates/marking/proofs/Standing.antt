@@ -8,18 +8,16 @@ use lib.ListN.{length, take}
 use lib.Seq.{length-take-le, getD-take}
 use lib.Ieee.{Float}
 use Rattle.rows.proofs.Regions.{only-more}
-use Rattle.rules.specs.Rooms.{work-room}
 use Rattle.leaving.specs.Pass.{PassAsks, MarkGives}
-use Rattle.marking.specs.Marking.{pointCount, faceCount, MarkAsks}
+use Rattle.marking.specs.Marking.{taken, pointCount, faceCount, MarkAsks}
 
-module _ {ps : List Float} {xs : List ℕ} {n : ℕ} {w : List ℕ} (p : PassAsks ps xs n w) where
+module _ {ps : List Float} {xs : List ℕ} {n : ℕ} {w : List ℕ} (p : PassAsks (taken (pointCount ps) n) ps xs n w) where
   -- the front of the room has 3n entries
   pub front-long : length (take (3 * n) xs) ≡ 3 * n
   front-long = length-take-le (3 * n) xs (p .stand .fit)
 
   -- the table of the faces and their marks fit into the work room
   pub mark-ok : MarkAsks ps (take (3 * n) xs) w (15 * n + 1 + pointCount ps)
-  unfolding work-room
   mark-ok =
       let l = front-long in
       let s = p .stand in
@@ -37,7 +35,7 @@ module _ {ps : List Float} {xs : List ℕ} {n : ℕ} {w : List ℕ} (p : PassAsk
   -- the marks of the front are those of the n faces
   pub marks-are :
       {marked : ℕ → Bool} {w₁ : List ℕ} → MarkGives marked (15 * n + 1 + pointCount ps + faceCount (take (3 * n) xs)) (faceCount (take (3 * n) xs)) w w₁ (15 * n + 1 + pointCount ps)
-      → MarkGives marked (16 * n + 1 + pointCount ps) n w w₁ (15 * n + 1 + pointCount ps)
+      → MarkGives marked (taken (pointCount ps) n) n w w₁ (15 * n + 1 + pointCount ps)
   marks-are g =
       let l = front-long in
       record { within = omega arith; only = only-more (omega arith) (omega arith) (g .only); flags = record { each = λ i h. g .flags .each i (omega arith) } }

@@ -19,6 +19,10 @@ pointCount ps = length ps / 3
 abbrev pub faceCount : List ℕ → ℕ
 faceCount xs = length xs / 3
 
+-- what pass 3, and pass 4's second half, take of the work room: a table of the faces, and their marks
+abbrev pub taken : ℕ → ℕ → ℕ
+taken P n = 16 * n + 1 + P
+
 -- the edge of run r
 abbrev pub edgeAt : Bool → List Float → List ℕ → ℕ → Step
 edgeAt d ps xs r = getD (keysOf d (pointCount ps) (facesOf xs)) r (step 0 0)

@@ -8,7 +8,6 @@ use lib.ListN.{length, getD, take}
 use Rattle.rows.specs.Region.{Apart.before, Apart.after, Only, Filled}
 use Rattle.rows.proofs.Regions.{length-part, getD-part, only-both, only-more, holds-kept}
 use Rattle.rules.specs.Mesh.{flatFaces}
-use Rattle.rules.specs.Rooms.{work-room}
 use Rattle.leaving.specs.Pass.{FacesStand}
 use Rattle.table.specs.Table.{TableAsks, Tabled, TableGives}
 use Rattle.table.proofs.Places.{tabled-kept}
@@ -16,7 +15,7 @@ use Rattle.table.proofs.Handing.{at-run}
 use Rattle.reaching.specs.Walking.{walkOf, Fits}
 use Rattle.crossing.specs.Crossing.{MateAllAsks, MateGives}
 use Rattle.crossing.proofs.Mating.{mated-none}
-use Rattle.orient_consistently.specs.Walked.{LayAsks, LayGives, AllGives, TurnAsks, TurnGives, OrientGives}
+use Rattle.orient_consistently.specs.Walked.{taken, LayAsks, LayGives, AllGives, TurnAsks, TurnGives, OrientGives}
 use Rattle.orient_consistently.proofs.Beginning.{zero-at, blank-ready}
 
 -- ---- lay
@@ -74,13 +73,12 @@ pub record Bounds (P : ℕ) (xs : List ℕ) (n : ℕ) (w : List ℕ) : Type 0 wh
   pub points : P ≤ 4194304
   pub few : n ≤ 4194304
   pub fit : 3 * n ≤ length xs
-  pub room : 16 * P + 64 * n + 64 ≤ length w
+  pub room : taken P n ≤ length w
   pub front : length (take (3 * n) xs) ≡ 3 * n
 
-module _ {P : ℕ} {xs : List ℕ} {n : ℕ} {w : List ℕ} (p : FacesStand P xs n w) where
+module _ {P : ℕ} {xs : List ℕ} {n : ℕ} {w : List ℕ} (p : FacesStand (taken P n) P xs n w) where
   -- they hold
   pub bounds : Bounds P xs n w
-  unfolding work-room
   bounds = record { points = p .points; few = omega (arith, p .few); fit = p .fit; room = p .room; front = length-part xs 0 (3 * n) (omega (arith, p .fit)) }
 
   module _ {w₁ : List ℕ} (o : Only 3 n w w₁) where
@@ -115,8 +113,7 @@ module _ {P : ℕ} {xs : List ℕ} {n : ℕ} {w : List ℕ} (p : FacesStand P xs
         few-exchanges = omega (arith, g .going .ready .sound .turns)
 
         -- nothing beyond the stated work room is changed
-        pub only-all : Only 0 (work-room P n) w w₄
-        unfolding work-room
+        pub only-all : Only 0 (taken P n) w w₄
         only-all =
             let u = bounds in
             only-both (only-more (omega arith) (omega arith) o)

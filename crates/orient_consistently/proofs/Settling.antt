@@ -8,7 +8,6 @@ use lib.ListN.{length, take}
 use Rattle.rows.specs.Region.{part, Apart.before, Apart.after, Only, Filled}
 use Rattle.rows.proofs.Regions.{only-none, only-both, only-more, holds-kept}
 use Rattle.rules.specs.Mesh.{facesOf, flatFaces}
-use Rattle.rules.specs.Rooms.{work-room}
 use Rattle.rules.proofs.Flat.{faces-flat, flat-faces}
 use Rattle.rules.proofs.Once.{Once}
 use Rattle.leaving.specs.Pass.{standing, FacesStand}
@@ -17,11 +16,11 @@ use Rattle.table.proofs.Places.{tabled-kept}
 use Rattle.orienting.specs.Reaching.{turnedBy}
 use Rattle.single_use.specs.Single.{SingleAsks}
 use Rattle.single_use.proofs.Calm.{same-faces, no-exchanges, no-marks}
-use Rattle.orient_consistently.specs.Walked.{LayGives, AllGives, TurnGives, OrientGives}
+use Rattle.orient_consistently.specs.Walked.{taken, LayGives, AllGives, TurnGives, OrientGives}
 use Rattle.orient_consistently.proofs.Beginning.{turned-none, states-cleared}
 use Rattle.orient_consistently.proofs.Orienting.{bounds}
 
-module _ {P : ℕ} {xs : List ℕ} {n : ℕ} {w : List ℕ} (p : FacesStand P xs n w) {w₁ : List ℕ} (o : Only 3 n w w₁)
+module _ {P : ℕ} {xs : List ℕ} {n : ℕ} {w : List ℕ} (p : FacesStand (taken P n) P xs n w) {w₁ : List ℕ} (o : Only 3 n w w₁)
     {w₂ : List ℕ} {m : ℕ} (t : TableGives w₁ (take (3 * n) xs) P false (3 + 14 * n) w₂ m) where
   -- the table may be scanned
   pub single-asks : SingleAsks w₂ (take (3 * n) xs) 3 (3 + 14 * n) m
@@ -45,7 +44,6 @@ module _ {P : ℕ} {xs : List ℕ} {n : ℕ} {w : List ℕ} (p : FacesStand P xs
 
     -- so the walk would change nothing
     pub calm-gives : OrientGives P xs n w xs w₂ 0 0
-    unfolding work-room
     calm-gives =
         let u = bounds p in
         record {

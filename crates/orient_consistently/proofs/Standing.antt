@@ -21,7 +21,7 @@ unfolding exchanged
 exchanged-below P f g (inl e) h = rw e h
 exchanged-below P f g (inr e) h = rw e (h .0, h .2, h .1)
 
-module _ {P : ℕ} {xs : List ℕ} {n : ℕ} {w xs′ w′ : List ℕ} {r c : ℕ} (p : FacesStand P xs n w) (g : OrientGives P xs n w xs′ w′ r c) where
+module _ {k P : ℕ} {xs : List ℕ} {n : ℕ} {w xs′ w′ : List ℕ} {r c : ℕ} (p : FacesStand k P xs n w) (g : OrientGives P xs n w xs′ w′ r c) where
   -- the faces of the room are the rule's
   face-is : (k : ℕ) → k < n → face (oriented (standing xs n) .walk .faces) k ≡ corner-face xs′ k
   face-is k h =
@@ -48,7 +48,7 @@ module _ {P : ℕ} {xs : List ℕ} {n : ℕ} {w xs′ w′ : List ℕ} {r c : �
       go (no e) (no d) = let k : i ≡ 3 * (i / 3) + 2 = omega arith in omega (arith, ap (λ z. getD xs′ z 0) k, b .2)
 
   -- the faces stand
-  pub still-stand : FacesStand P xs′ n w′
+  pub still-stand : FacesStand k P xs′ n w′
   still-stand =
       record {
         points = p .points;

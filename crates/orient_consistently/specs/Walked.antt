@@ -7,7 +7,6 @@ use lib.ListN.{length, getD, take}
 use Rattle.rows.specs.Region.{part, Only, Filled}
 use Rattle.rules.specs.Mesh.{Face, facesOf, flatFaces}
 use Rattle.rules.specs.Pass4.{Oriented, run, started, begin, oriented}
-use Rattle.rules.specs.Rooms.{work-room}
 use Rattle.leaving.specs.Pass.{standing}
 use Rattle.table.specs.Table.{Tabled}
 use Rattle.orienting.specs.Reaching.{turnedBy}
@@ -100,6 +99,10 @@ pub record TurnGives (xs w : List ℕ) (n : ℕ) (xs′ : List ℕ) : Type 0 whe
   pub only : Only 0 (3 * n) xs xs′
   pub faces : take (3 * n) xs′ ≡ flatFaces (turnedBy (part w 3 n) (standing xs n))
 
+-- what it takes of the work room
+abbrev pub taken : ℕ → ℕ → ℕ
+taken P n = 29 * n + 4 + P
+
 -- the first half of pass 4: the faces as the rule has them, and its two counts, which are not more than the faces
 pub record OrientGives (P : ℕ) (xs : List ℕ) (n : ℕ) (w xs′ w′ : List ℕ) (reoriented components : ℕ) : Type 0 where
   pub faces : take (3 * n) xs′ ≡ flatFaces (oriented (standing xs n) .walk .faces)
@@ -108,4 +111,4 @@ pub record OrientGives (P : ℕ) (xs : List ℕ) (n : ℕ) (w xs′ w′ : List 
   pub few-exchanges : reoriented ≤ n
   pub few-marks : components ≤ n
   pub only-faces : Only 0 (3 * n) xs xs′
-  pub only-work : Only 0 (work-room P n) w w′
+  pub only-work : Only 0 (taken P n) w w′

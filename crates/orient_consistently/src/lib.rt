@@ -16,7 +16,7 @@ ghost use mathlib.Core.Path.{_≡_};
 ghost use mathlib.Core.Bool.{true};
 ghost use Rattle.rules.proofs.Once.{Once};
 ghost use Rattle.leaving.specs.Pass.{standing, FacesStand};
-ghost use Rattle.orient_consistently.specs.Walked.{LayAsks, LayGives, PopAsks, PopGives, EmptyAsks, EmptyGives, StartAsks, StartGives, BeginAsks, BeginGives, AllAsks, AllGives, TurnAsks, TurnGives, OrientGives};
+ghost use Rattle.orient_consistently.specs.Walked.{taken, LayAsks, LayGives, PopAsks, PopGives, EmptyAsks, EmptyGives, StartAsks, StartGives, BeginAsks, BeginGives, AllAsks, AllGives, TurnAsks, TurnGives, OrientGives};
 
 // How many faces were exchanged, and how many components are at odds.
 pub struct Turned {
@@ -127,7 +127,7 @@ pub struct Settled {
 // Orients the n faces at the front of their room, of `count` points, and says whether each directed edge is surely used at most once then. Where it
 // is before, nothing is at odds, and no walk is needed.
 pub fn settle(faces: &mut [u32], n: usize, count: usize, work: &mut [u32]) -> Settled
-    requires { ⌜ FacesStand count (now faces) n (now work) ⌝ }
+    requires { ⌜ FacesStand (taken count n) count (now faces) n (now work) ⌝ }
     ensures { λ r. ⌜ OrientGives count (now (faces .entry)) n (now (work .entry)) (now (faces .exit)) (now (work .exit)) (r .reoriented) (r .components) ⌝ }
     ensures { λ r. ⌜ (r .single ≡ true → Once (standing (now (faces .exit)) n)) ⌝ }
 {
@@ -155,7 +155,7 @@ pub fn settle(faces: &mut [u32], n: usize, count: usize, work: &mut [u32]) -> Se
 // Orients the n faces at the front of their room, of `count` points: each face agrees with the one from which it was reached. Returns how many
 // faces were exchanged, and how many components have faces that disagree.
 pub fn orient_consistently(faces: &mut [u32], n: usize, count: usize, work: &mut [u32]) -> Turned
-    requires { ⌜ FacesStand count (now faces) n (now work) ⌝ }
+    requires { ⌜ FacesStand (taken count n) count (now faces) n (now work) ⌝ }
     ensures { λ r. ⌜ OrientGives count (now (faces .entry)) n (now (work .entry)) (now (faces .exit)) (now (work .exit)) (r .reoriented) (r .components) ⌝ }
 {
     let s = settle(faces, n, count, work);

@@ -5,14 +5,13 @@ use mathlib.Core.List.{List}
 use Prim.Native.Nat.{ℕ, _*_, _≤_}
 use native.Mathlib.Omega.{arith}
 use lib.ListN.{length}
-use Rattle.rules.specs.Rooms.{work-room}
 use Rattle.leaving.specs.Pass.{FacesStand}
+use Rattle.orient_consistently.specs.Walked.{taken}
 use Rattle.orient_consistently_try.specs.Asks.{RunAsks}
 use Rattle.orient_consistently_try.proofs.Bounded.{within, bounded}
 
 -- a work room of 464 entries is enough for them
-pub stand : {xs w : List ℕ} {n P : ℕ} → RunAsks xs n P → length w ≡ 464 → FacesStand P xs n w
-unfolding work-room
+pub stand : {xs w : List ℕ} {n P : ℕ} → RunAsks xs n P → length w ≡ 464 → FacesStand (taken P n) P xs n w
 stand a l = record { points = omega (arith, a .points); few = omega (arith, a .few); fit = a .fit; inside = a .inside; room = omega (arith, a .few, a .points) }
 
 -- corners that are computed

@@ -10,8 +10,8 @@ use lib.Ieee.{Float}
 use Rattle.rows.specs.Region.{Only}
 use Rattle.rows.specs.Retain.{RetainAsks}
 use Rattle.rows.proofs.Regions.{only-more}
-use Rattle.leaving.specs.Pass.{standing, PassAsks, MarkGives, LeaveGives, stateOf}
-use Rattle.leaving.proofs.ByFlags.{may-leave}
+use Rattle.leaving.specs.Pass.{standing, FacesStand, PassAsks, MarkGives, LeaveGives}
+use Rattle.leaving.proofs.Standing.{fewer-taken}
 use Rattle.rules.specs.Mesh.{Face, pointsOf, facesOf}
 use Rattle.rules.specs.Repair.{optional}
 use Rattle.rules.specs.Rooms.{work-room}
@@ -27,73 +27,93 @@ use Rattle.rules.proofs.Flat.{faces-flat, length-points, length-faces-take}
 use Rattle.rules.proofs.Manifold.{turned-inside}
 use Rattle.rules.proofs.Turning.{oriented-turned}
 use Rattle.splitting.proofs.Reports.{more-none}
+use Rattle.orient_consistently.specs.Walked as walked
 use Rattle.orient_consistently.specs.Walked.{OrientGives}
-use Rattle.split_bowtie_vertices.specs.Splits.{SplitAsks}
-use Rattle.passes.specs.Passing.{PassGives}
+use Rattle.drop_duplicate_faces.specs.Keys as keys
+use Rattle.marking.specs.Marking as marking
+use Rattle.passes.specs.Passing.{Lists, lists, stateIn, stated, Stands, PassGives, keeps}
 use Rattle.passes.proofs.Standing.{corners-inside, inside-corners}
-use Rattle.passes.proofs.Steps.{unchanged, off, as-many, reads, step-left, step-after}
+use Rattle.passes.proofs.Steps.{unchanged, off, pointsIn, as-many, reads, may, left, step-left, step-after}
 
-module _ {ps : List Float} {p : ℕ} {xs : List ℕ} {n : ℕ} {w : List ℕ} (a : SplitAsks ps p xs n w) where
-  -- the points that a pass reads
+module _ {m : Lists} (a : Stands (stated m) m) where
+  -- the points that a pass reads, and the faces
   abbrev qs : List Float
-  qs = take (3 * p) ps
+  qs = pointsIn m
+
+  abbrev fs : List Face
+  fs = standing (m .faces) (m .n)
 
   -- marks within the stated work room
-  in-room : {marked : ℕ → Bool} {m : ℕ} {w′ : List ℕ} (taken : ℕ) → taken ≤ work-room p n → MarkGives marked taken n w w′ m → Only 0 (work-room p n) w w′
-  in-room taken h g = only-more (omega arith) (omega arith) (g .only)
+  in-room : {marked : ℕ → Bool} {at : ℕ} {w′ : List ℕ} (j : ℕ) → j ≤ stated m → MarkGives marked j (m .n) (m .work) w′ at → Only 0 (stated m) (m .work) w′
+  in-room j h g = only-more (omega arith) (omega arith) (g .only)
 
-  -- and the faces may leave by them
-  may : {marked : ℕ → Bool} {m : ℕ} {w′ : List ℕ} (taken : ℕ) → taken ≤ work-room p n → MarkGives marked taken n w w′ m → RetainAsks xs w′ m n
-  may taken h g = may-leave (a .stand .fit) (omega (arith, a .stand .room)) g
-
-  -- pass 1 takes n entries, pass 2 takes 6n + P, pass 3 takes 16n + 1 + P
-  one-fits : n ≤ work-room p n
+  -- what each pass takes is there
+  one-fits : m .n ≤ stated m
   unfolding work-room
   one-fits = omega arith
 
-  two-fits : 6 * n + p ≤ work-room p n
+  two-fits : keys.taken (m .p) (m .n) ≤ stated m
   unfolding work-room
   two-fits = omega arith
 
-  three-fits : 16 * n + 1 + length qs / 3 ≤ work-room p n
+  three-fits : marking.taken (length qs / 3) (m .n) ≤ stated m
   unfolding work-room
   three-fits = omega (arith, as-many a)
 
-  pub leaves-1 : {marked : ℕ → Bool} {m : ℕ} {w′ : List ℕ} → MarkGives marked n n w w′ m → RetainAsks xs w′ m n
-  leaves-1 = may n one-fits
+  four-fits : walked.taken (m .p) (m .n) ≤ stated m
+  unfolding work-room
+  four-fits = omega arith
 
-  pub leaves-2 : {marked : ℕ → Bool} {m : ℕ} {w′ : List ℕ} → MarkGives marked (6 * n + p) n w w′ m → RetainAsks xs w′ m n
-  leaves-2 = may (6 * n + p) two-fits
+  -- each may read the points and the faces
+  pub reads1 : PassAsks (m .n) qs (m .faces) (m .n) (m .work)
+  reads1 = reads a (m .n) one-fits
 
-  pub leaves-3 : {marked : ℕ → Bool} {m : ℕ} {w′ : List ℕ} → MarkGives marked (16 * n + 1 + length qs / 3) n w w′ m → RetainAsks xs w′ m n
-  leaves-3 = may (16 * n + 1 + length qs / 3) three-fits
+  pub reads2 : FacesStand (keys.taken (m .p) (m .n)) (m .p) (m .faces) (m .n) (m .work)
+  reads2 = fewer-taken two-fits (a .stand)
+
+  pub reads3 : PassAsks (marking.taken (length qs / 3) (m .n)) qs (m .faces) (m .n) (m .work)
+  reads3 = reads a (marking.taken (length qs / 3) (m .n)) three-fits
+
+  pub reads4 : FacesStand (walked.taken (m .p) (m .n)) (m .p) (m .faces) (m .n) (m .work)
+  reads4 = fewer-taken four-fits (a .stand)
+
+  module _ {marked : ℕ → Bool} {at : ℕ} {w′ : List ℕ} where
+    -- and what it has marked may leave
+    pub leaves1 : MarkGives marked (m .n) (m .n) (m .work) w′ at → RetainAsks (m .faces) w′ at (m .n)
+    leaves1 = may a one-fits
+
+    pub leaves2 : MarkGives marked (keys.taken (m .p) (m .n)) (m .n) (m .work) w′ at → RetainAsks (m .faces) w′ at (m .n)
+    leaves2 = may a two-fits
+
+    pub leaves3 : MarkGives marked (marking.taken (length qs / 3) (m .n)) (m .n) (m .work) w′ at → RetainAsks (m .faces) w′ at (m .n)
+    leaves3 = may a three-fits
 
   -- pass 1 that is off
-  pub off1 : (s : Float) → PassGives (optional false (pass1 s)) (more degenerates 0) p p (work-room p n) ps p xs n w ps xs w (unchanged p n)
-  off1 s = off (pass1 s) (more degenerates 0) p p (work-room p n) (more-none degenerates) (omega arith) (omega arith) (a .stand .inside)
+  pub off1 : (s : Float) → PassGives (optional false (pass1 s)) (more degenerates 0) (keeps m) m m (unchanged m)
+  off1 s = off (pass1 s) (more degenerates 0) (keeps m) (more-none degenerates) (omega arith) (omega arith) (a .stand .inside)
 
   -- pass 1 that is on: degenerate faces leave
   pub on1 :
-      (s : Float) {xs′ w′ : List ℕ} {r m : ℕ} → MarkGives (marked1 s (pointsOf qs) (standing xs n)) n n w w′ m → LeaveGives (marked1 s (pointsOf qs) (standing xs n)) xs n xs′ r
-      → PassGives (optional true (pass1 s)) (more degenerates (n - r)) p p (work-room p n) ps p xs n w ps xs′ w′ (record { points = p; faces = r; dropped = n - r; found = 0; changed = 0 })
+      (s : Float) {xs′ w′ : List ℕ} {r at : ℕ} → MarkGives (marked1 s (pointsOf qs) fs) (m .n) (m .n) (m .work) w′ at → LeaveGives (marked1 s (pointsOf qs) fs) (m .faces) (m .n) xs′ r
+      → PassGives (optional true (pass1 s)) (more degenerates (m .n - r)) (keeps m) m (left m xs′ r w′) (record { points = m .p; faces = r; dropped = m .n - r; found = 0; changed = 0 })
   unfolding pass1
-  on1 s m g = step-left (pass1 s) degenerates (λ report. report) (marked1 s (pointsOf qs) (standing xs n)) 0 0 (omega arith) (omega arith) (λ report. refl) a (in-room n one-fits m) g
+  on1 s k g = step-left (pass1 s) degenerates (λ report. report) (marked1 s (pointsOf qs) fs) 0 0 (omega arith) (omega arith) (λ report. refl) a (in-room (m .n) one-fits k) g
 
   -- pass 2 that is off
-  pub off2 : PassGives (optional false pass2) (more duplicates 0) p p (work-room p n) ps p xs n w ps xs w (unchanged p n)
-  off2 = off pass2 (more duplicates 0) p p (work-room p n) (more-none duplicates) (omega arith) (omega arith) (a .stand .inside)
+  pub off2 : PassGives (optional false pass2) (more duplicates 0) (keeps m) m m (unchanged m)
+  off2 = off pass2 (more duplicates 0) (keeps m) (more-none duplicates) (omega arith) (omega arith) (a .stand .inside)
 
   -- pass 2 that is on: all but the first of faces alike leave
   pub on2 :
-      {xs′ w′ : List ℕ} {r m : ℕ} → MarkGives (marked2 (standing xs n)) (6 * n + p) n w w′ m → LeaveGives (marked2 (standing xs n)) xs n xs′ r
-      → PassGives (optional true pass2) (more duplicates (n - r)) p p (work-room p n) ps p xs n w ps xs′ w′ (record { points = p; faces = r; dropped = n - r; found = 0; changed = 0 })
+      {xs′ w′ : List ℕ} {r at : ℕ} → MarkGives (marked2 fs) (keys.taken (m .p) (m .n)) (m .n) (m .work) w′ at → LeaveGives (marked2 fs) (m .faces) (m .n) xs′ r
+      → PassGives (optional true pass2) (more duplicates (m .n - r)) (keeps m) m (left m xs′ r w′) (record { points = m .p; faces = r; dropped = m .n - r; found = 0; changed = 0 })
   unfolding pass2
-  on2 m g = step-left pass2 duplicates (λ report. report) (marked2 (standing xs n)) 0 0 (omega arith) (omega arith) (λ report. refl) a (in-room (6 * n + p) two-fits m) g
+  on2 k g = step-left pass2 duplicates (λ report. report) (marked2 fs) 0 0 (omega arith) (omega arith) (λ report. refl) a (in-room (keys.taken (m .p) (m .n)) two-fits k) g
 
   -- pass 3 that is off
-  pub off3 : PassGives (optional false pass3) (λ report. more dropped-at-edges 0 (more crowded-edges 0 report)) p p (work-room p n) ps p xs n w ps xs w (unchanged p n)
+  pub off3 : PassGives (optional false pass3) (λ report. more dropped-at-edges 0 (more crowded-edges 0 report)) (keeps m) m m (unchanged m)
   off3 =
-      off pass3 (λ report. more dropped-at-edges 0 (more crowded-edges 0 report)) p p (work-room p n)
+      off pass3 (λ report. more dropped-at-edges 0 (more crowded-edges 0 report)) (keeps m)
       (λ report. more-none dropped-at-edges (more crowded-edges 0 report) ∙ more-none crowded-edges report) (omega arith) (omega arith) (a .stand .inside)
 
   -- how many points are read
@@ -101,67 +121,72 @@ module _ {ps : List Float} {p : ℕ} {xs : List ℕ} {n : ℕ} {w : List ℕ} (a
   points-read = length-points qs
 
   -- crowded edges are edges, of which each face has three
-  few-crowded : {k : ℕ} → k ≡ length (crowded (length qs / 3) (standing xs n)) → k ≤ p + 3 * n
+  few-crowded : {k : ℕ} → k ≡ length (crowded (length qs / 3) fs) → k ≤ m .p + 3 * m .n
   unfolding crowded
   few-crowded e =
-      let l = length-faces-take xs n (a .stand .fit) in
-      omega (arith, e, few-edges (length qs / 3) (standing xs n), filter-le (λ d. ltb 2 (length (users (standing xs n) d))) (edges (length qs / 3) (standing xs n)))
+      let l = length-faces-take (m .faces) (m .n) (a .stand .fit) in
+      omega (arith, e, few-edges (length qs / 3) fs, filter-le (λ d. ltb 2 (length (users fs d))) (edges (length qs / 3) fs))
 
   -- pass 3 that is on: crowded edges are counted, and marked faces leave
   pub on3 :
-      {xs′ w′ : List ℕ} {r m k : ℕ} → MarkGives (marked3 (pointsOf qs) (standing xs n)) (16 * n + 1 + length qs / 3) n w w′ m → LeaveGives (marked3 (pointsOf qs) (standing xs n)) xs n xs′ r → k ≡ length (crowded (length qs / 3) (standing xs n))
-      → PassGives (optional true pass3) (λ report. more dropped-at-edges (n - r) (more crowded-edges k report)) p p (work-room p n) ps p xs n w ps xs′ w′ (record { points = p; faces = r; dropped = n - r; found = k; changed = 0 })
+      {xs′ w′ : List ℕ} {r at k : ℕ} → MarkGives (marked3 (pointsOf qs) fs) (marking.taken (length qs / 3) (m .n)) (m .n) (m .work) w′ at → LeaveGives (marked3 (pointsOf qs) fs) (m .faces) (m .n) xs′ r
+      → k ≡ length (crowded (length qs / 3) fs)
+      → PassGives (optional true pass3) (λ report. more dropped-at-edges (m .n - r) (more crowded-edges k report)) (keeps m) m (left m xs′ r w′) (record { points = m .p; faces = r; dropped = m .n - r; found = k; changed = 0 })
   unfolding pass3 counted
-  on3 {k = k} m g e =
-      step-left pass3 dropped-at-edges (more crowded-edges k) (marked3 (pointsOf qs) (standing xs n)) k 0 (few-crowded e) (omega arith)
-      (λ report. ap (λ j. dropped dropped-at-edges (marked3 (pointsOf qs) (standing xs n)) (stateOf ps p xs n (more crowded-edges j report))) (ap (λ P. length (crowded P (standing xs n))) points-read ∙ sym e))
-      a (in-room (16 * n + 1 + length qs / 3) three-fits m) g
+  on3 {k = k} h g e =
+      step-left pass3 dropped-at-edges (more crowded-edges k) (marked3 (pointsOf qs) fs) k 0 (few-crowded e) (omega arith)
+      (λ report. ap (λ j. dropped dropped-at-edges (marked3 (pointsOf qs) fs) (stateIn m (more crowded-edges j report))) (ap (λ P. length (crowded P fs)) points-read ∙ sym e))
+      a (in-room (marking.taken (length qs / 3) (m .n)) three-fits h) g
 
   -- pass 4 that is off
-  pub off4 : PassGives (optional false pass4) (λ report. more dropped-for-direction 0 (more components 0 (more reoriented 0 report))) p p (work-room p n) ps p xs n w ps xs w (unchanged p n)
+  pub off4 : PassGives (optional false pass4) (λ report. more dropped-for-direction 0 (more components 0 (more reoriented 0 report))) (keeps m) m m (unchanged m)
   off4 =
-      off pass4 (λ report. more dropped-for-direction 0 (more components 0 (more reoriented 0 report))) p p (work-room p n)
+      off pass4 (λ report. more dropped-for-direction 0 (more components 0 (more reoriented 0 report))) (keeps m)
       (λ report. more-none dropped-for-direction (more components 0 (more reoriented 0 report)) ∙ more-none components (more reoriented 0 report) ∙ more-none reoriented report) (omega arith) (omega arith) (a .stand .inside)
 
-  module _ {xs₁ w₁ : List ℕ} {e k : ℕ} (t : OrientGives p xs n w xs₁ w₁ e k) where
+  module _ {xs₁ w₁ : List ℕ} {e k : ℕ} (t : OrientGives (m .p) (m .faces) (m .n) (m .work) xs₁ w₁ e k) where
+    -- the lists once faces are turned
+    abbrev m₁ : Lists
+    m₁ = left m xs₁ (m .n) w₁
+
     -- what stands is what the first half leaves
-    turned-standing : standing xs₁ n ≡ oriented (standing xs n) .walk .faces
-    turned-standing = ap facesOf (t .faces) ∙ faces-flat (oriented (standing xs n) .walk .faces)
+    turned-standing : standing xs₁ (m .n) ≡ oriented fs .walk .faces
+    turned-standing = ap facesOf (t .faces) ∙ faces-flat (oriented fs .walk .faces)
 
     -- it stands as a pass asks
-    turned-asks : SplitAsks ps p xs₁ n w₁
+    turned-asks : Stands (stated m₁) m₁
     turned-asks =
         let f = a .stand in
         let l = t .only-faces .long in
-        let m = t .only-work .long in
+        let j = t .only-work .long in
         record {
           stand = record {
             points = f .points;
             few = f .few;
             fit = omega (arith, f .fit);
             inside =
-                inside-corners xs₁ n (omega (arith, f .fit)) p
-                (rw turned-standing (turned-inside p (standing xs n) (oriented (standing xs n) .walk .faces) (oriented-turned (standing xs n)) (corners-inside xs n (f .fit) p (f .inside))));
+                inside-corners xs₁ (m .n) (omega (arith, f .fit)) (m .p)
+                (rw turned-standing (turned-inside (m .p) fs (oriented fs .walk .faces) (oriented-turned fs) (corners-inside (m .faces) (m .n) (f .fit) (m .p) (f .inside))));
             room = omega (arith, f .room);
           };
           room = a .room;
         }
 
     -- the second half may read the points
-    pub turned-reads : PassAsks qs xs₁ n w₁
-    turned-reads = reads turned-asks
+    pub turned-reads : PassAsks (marking.taken (length qs / 3) (m .n)) qs xs₁ (m .n) w₁
+    turned-reads = reads turned-asks (marking.taken (length qs / 3) (m .n)) three-fits
 
     -- pass 4 that is on: the faces that the first half leaves, less those that collide
     pub on4 :
-        {xs′ w′ : List ℕ} {r : ℕ} → Only 0 (16 * n + 1 + length qs / 3) w₁ w′ → LeaveGives (marked4 (pointsOf qs) (standing xs₁ n)) xs₁ n xs′ r
-        → PassGives (optional true pass4) (λ report. more dropped-for-direction (n - r) (more components k (more reoriented e report))) p p (work-room p n) ps p xs n w ps xs′ w′ (record { points = p; faces = r; dropped = n - r; found = k; changed = e })
+        {xs′ w′ : List ℕ} {r : ℕ} → Only 0 (marking.taken (length qs / 3) (m .n)) w₁ w′ → LeaveGives (marked4 (pointsOf qs) (standing xs₁ (m .n))) xs₁ (m .n) xs′ r
+        → PassGives (optional true pass4) (λ report. more dropped-for-direction (m .n - r) (more components k (more reoriented e report))) (keeps m) m (left m xs′ r w′) (record { points = m .p; faces = r; dropped = m .n - r; found = k; changed = e })
     unfolding optional pass4 counted with-faces
     on4 {r = r} o g =
-        step-after (optional true pass4) (λ report. more components k (more reoriented e report)) (t .only-faces) (t .only-work)
+        step-after (optional true pass4) (λ report. more components k (more reoriented e report)) (t .only-faces) (only-more {n = walked.taken (m .p) (m .n)} (omega arith) (omega (arith, four-fits)) (t .only-work))
         (λ report.
-        ap (λ fs. dropped dropped-for-direction (marked4 (pointsOf qs) fs) (record { points = pointsOf qs; faces = fs; report = more components k (more reoriented e report) })) turned-standing
+        ap (λ hs. dropped dropped-for-direction (marked4 (pointsOf qs) hs) (record { points = pointsOf qs; faces = hs; report = more components k (more reoriented e report) })) turned-standing
         ∙ ap₂ (λ i j. dropped dropped-for-direction (marked4 (pointsOf qs) gs) (record { points = pointsOf qs; faces = gs; report = more components i (more reoriented j report) })) (t .marks) (t .exchanges))
-        (step-left {xs = xs₁} {w = w₁} (dropped dropped-for-direction (marked4 (pointsOf qs) (standing xs₁ n))) dropped-for-direction (λ report. report) (marked4 (pointsOf qs) (standing xs₁ n)) k e (omega (arith, t .few-marks)) (omega (arith, t .few-exchanges)) (λ report. refl) turned-asks (only-more {n = 16 * n + 1 + length qs / 3} (omega arith) (omega (arith, three-fits)) o) g)
+        (step-left {m = m₁} (dropped dropped-for-direction (marked4 (pointsOf qs) (standing xs₁ (m .n)))) dropped-for-direction (λ report. report) (marked4 (pointsOf qs) (standing xs₁ (m .n))) k e (omega (arith, t .few-marks)) (omega (arith, t .few-exchanges)) (λ report. refl) turned-asks (only-more {n = marking.taken (length qs / 3) (m .n)} (omega arith) (omega (arith, three-fits)) o) g)
       where
         gs : List Face
-        gs = oriented (standing xs n) .walk .faces
+        gs = oriented fs .walk .faces

@@ -8,6 +8,8 @@ use lib.ListN.{length, getD}
 use lib.Ieee.{Float}
 use Rattle.leaving.proofs.Leaving.{length-points-take}
 use Rattle.leaving.specs.Pass.{standing, stateOf}
+use Rattle.rows.proofs.Regions.{only-more}
+use Rattle.leaving.proofs.Standing.{fewer-taken}
 use Rattle.rules.specs.Mesh.{pointsOf, facesOf}
 use Rattle.rules.specs.Repair.{optional}
 use Rattle.rules.specs.Rooms.{work-room}
@@ -17,10 +19,10 @@ use Rattle.rules.specs.Pass6.{pass6, number}
 use Rattle.rules.proofs.Flat.{faces-flat, points-flat}
 use Rattle.rules.proofs.Once.{Inside}
 use Rattle.rules.proofs.Output.{pass6-inside}
-use Rattle.passes.specs.Passing.{PassGives}
+use Rattle.passes.specs.Passing.{Lists, lists, stateIn, stated, Stands, StandsLast, PassGives, adds, drops}
 use Rattle.split_bowtie_vertices.specs.declared.Split.{Split}
-use Rattle.split_bowtie_vertices.specs.Splits.{SplitAsks, SplitGives}
-use Rattle.drop_isolated_vertices.specs.Unused.{UnusedAsks, UnusedGives}
+use Rattle.split_bowtie_vertices.specs.Splits.{taken, SplitAsks, SplitGives}
+use Rattle.drop_isolated_vertices.specs.Unused.{UnusedGives}
 use Rattle.drop_isolated_vertices.proofs.Resulting.{unused-state}
 use Rattle.splitting.proofs.Reports.{more-none}
 use Rattle.passes.proofs.Standing.{corners-inside, inside-corners}
@@ -34,25 +36,34 @@ inside-by ps p xs n report m hp hn e inside =
     inside-corners xs n hn p
     (subst (λ k. Inside k (standing xs n)) (length-points-take ps p hp) (subst (λ t. Inside (length (t .points)) (t .faces)) (sym e) inside))
 
-module _ {ps : List Float} {p : ℕ} {xs : List ℕ} {n : ℕ} {w : List ℕ} (a : SplitAsks ps p xs n w) where
+module _ {m : Lists} (a : Stands (stated m) m) where
+  -- what pass 5 takes is there
+  five-fits : taken (m .p) (m .n) ≤ stated m
+  unfolding work-room
+  five-fits = omega arith
+
+  -- so it may split
+  pub splits : SplitAsks (m .points) (m .p) (m .faces) (m .n) (m .work)
+  splits = record { stand = fewer-taken five-fits (a .stand); room = a .room }
+
   -- pass 5 that is off
-  pub off5 : PassGives (optional false pass5) (λ report. more points-added 0 (more vertices-split 0 report)) p (p + 3 * n) (work-room p n) ps p xs n w ps xs w (unchanged p n)
+  pub off5 : PassGives (optional false pass5) (λ report. more points-added 0 (more vertices-split 0 report)) (adds m) m m (unchanged m)
   off5 =
-      off pass5 (λ report. more points-added 0 (more vertices-split 0 report)) p (p + 3 * n) (work-room p n)
+      off pass5 (λ report. more points-added 0 (more vertices-split 0 report)) (adds m)
       (λ report. more-none points-added (more vertices-split 0 report) ∙ more-none vertices-split report) (omega arith) (omega arith) (a .stand .inside)
 
   -- pass 5 that is on: what stands is what the rule makes
   pub on5 :
-      {ps′ : List Float} {xs′ w′ : List ℕ} {r : Split} → SplitGives p ps xs n w ps′ xs′ w′ r
-      → PassGives (optional true pass5) (λ report. more points-added (r .points - p) (more vertices-split (r .splits) report)) p (p + 3 * n) (work-room p n) ps p xs n w ps′ xs′ w′ (record { points = r .points; faces = n; dropped = 0; found = r .splits; changed = r .points - p })
+      {ps′ : List Float} {xs′ w′ : List ℕ} {r : Split} → SplitGives (m .p) (m .points) (m .faces) (m .n) (m .work) ps′ xs′ w′ r
+      → PassGives (optional true pass5) (λ report. more points-added (r .points - m .p) (more vertices-split (r .splits) report)) (adds m) m (lists ps′ (r .points) xs′ (m .n) w′) (record { points = r .points; faces = m .n; dropped = 0; found = r .splits; changed = r .points - m .p })
   unfolding optional
   on5 {r = r} g =
       record {
         state =
             λ report.
-            let m = pass5 (stateOf ps p xs n report) in
-            let q = ap pointsOf (g .points report) ∙ points-flat (m .points) in
-            let f = ap facesOf (g .faces report) ∙ faces-flat (m .faces) in
+            let n = pass5 (stateIn m report) in
+            let q = ap pointsOf (g .points report) ∙ points-flat (n .points) in
+            let f = ap facesOf (g .faces report) ∙ faces-flat (n .faces) in
             let e = sym (g .report report) in
             λ i. record { points = q i; faces = f i; report = e i };
         inside = g .inside;
@@ -64,21 +75,21 @@ module _ {ps : List Float} {p : ℕ} {xs : List ℕ} {n : ℕ} {w : List ℕ} (a
         few-changed = omega (arith, g .most);
         only-points = g .only-points;
         only-faces = g .only-faces;
-        only-work = g .only-work;
+        only-work = only-more {n = taken (m .p) (m .n)} (omega arith) (omega (arith, five-fits)) (g .only-work);
       }
 
-module _ {ps : List Float} {p : ℕ} {xs : List ℕ} {n : ℕ} {w : List ℕ} (a : UnusedAsks ps p xs n w) where
+module _ (m : Lists) (a : StandsLast m) where
   -- the corners are points that stand
-  used-inside : (report : List ℕ) → Inside (length (stateOf ps p xs n report .points)) (standing xs n)
-  used-inside report = rw (length-points-take ps p (a .points-fit)) (corners-inside xs n (a .fit) p (a .inside))
+  used-inside : (report : List ℕ) → Inside (length (stateIn m report .points)) (standing (m .faces) (m .n))
+  used-inside report = rw (length-points-take (m .points) (m .p) (a .points-fit)) (corners-inside (m .faces) (m .n) (a .fit) (m .p) (a .inside))
 
   -- pass 6 that is off
-  pub off6 : PassGives (optional false pass6) (more isolated 0) 0 p (2 * p) ps p xs n w ps xs w (unchanged p n)
-  off6 = off pass6 (more isolated 0) 0 p (2 * p) (more-none isolated) (omega arith) (omega arith) (a .inside)
+  pub off6 : PassGives (optional false pass6) (more isolated 0) (drops m) m m (unchanged m)
+  off6 = off pass6 (more isolated 0) (drops m) (more-none isolated) (omega arith) (omega arith) (a .inside)
 
-  module _ {ps′ : List Float} {xs′ w′ : List ℕ} {r : ℕ} (g : UnusedGives ps p xs n w ps′ xs′ w′ r) where
+  module _ {ps′ : List Float} {xs′ w′ : List ℕ} {r : ℕ} (g : UnusedGives (m .points) (m .p) (m .faces) (m .n) (m .work) ps′ xs′ w′ r) where
     -- pass 6 that is on: what stands is what the rule leaves
-    pub on6 : PassGives (optional true pass6) (more isolated (p - r)) 0 p (2 * p) ps p xs n w ps′ xs′ w′ (record { points = r; faces = n; dropped = p - r; found = 0; changed = 0 })
+    pub on6 : PassGives (optional true pass6) (more isolated (m .p - r)) (drops m) m (lists ps′ r xs′ (m .n) w′) (record { points = r; faces = m .n; dropped = m .p - r; found = 0; changed = 0 })
     unfolding optional
     on6 =
         let lp = g .only-points .long in
@@ -86,7 +97,7 @@ module _ {ps : List Float} {p : ℕ} {xs : List ℕ} {n : ℕ} {w : List ℕ} (a
         record {
           state = λ report. unused-state report a g;
           inside =
-              inside-by ps′ r xs′ n _ (pass6 (stateOf ps p xs n [])) (omega (arith, g .number, a .points-fit)) (omega (arith, a .fit)) (unused-state [] a g) (pass6-inside (stateOf ps p xs n []) (used-inside []));
+              inside-by ps′ r xs′ (m .n) _ (pass6 (stateIn m [])) (omega (arith, g .number, a .points-fit)) (omega (arith, a .fit)) (unused-state [] a g) (pass6-inside (stateIn m []) (used-inside []));
           not-below = omega arith;
           not-above = omega (arith, g .number);
           fewer = omega arith;

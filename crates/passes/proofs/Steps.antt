@@ -11,16 +11,15 @@ use lib.Ieee.{Float}
 use Rattle.rows.specs.Region.{Only}
 use Rattle.rows.specs.Retain.{RetainAsks}
 use Rattle.rows.proofs.Regions.{only-none, only-both}
-use Rattle.leaving.specs.Pass.{PassAsks, Flagged, MarkGives, LeaveGives, stateOf}
+use Rattle.leaving.specs.Pass.{PassAsks, Flagged, MarkGives, LeaveGives}
 use Rattle.leaving.proofs.ByFlags.{may-leave}
-use Rattle.leaving.proofs.Standing.{dropped-state, left-inside}
+use Rattle.leaving.proofs.Standing.{dropped-state, left-inside, fewer-taken}
 use Rattle.rules.specs.Mesh.{pointsOf}
 use Rattle.rules.specs.Repair.{optional, bit}
-use Rattle.rules.specs.Rooms.{work-room}
 use Rattle.rules.specs.State.{State, Count, more, dropped}
-use Rattle.split_bowtie_vertices.specs.Splits.{SplitAsks}
+use Rattle.marking.specs.Marking.{taken}
 use Rattle.passes.specs.declared.Passed.{Passed}
-use Rattle.passes.specs.Passing.{PassGives}
+use Rattle.passes.specs.Passing.{Lists, lists, stateIn, stated, Stands, Reach, PassGives, keeps}
 
 -- an option that is set
 pub bit-set : (k o : ℕ) → o / 2 ^ k % 2 ≡ 1 → bit k o ≡ true
@@ -37,69 +36,81 @@ pub lowest : (o : ℕ) → o / 2 ^ 0 % 2 ≡ o % 2
 lowest o = omega arith
 
 -- what a pass leaves that changes nothing
-abbrev pub unchanged : ℕ → ℕ → Passed
-unchanged p n = record { points = p; faces = n; dropped = 0; found = 0; changed = 0 }
+abbrev pub unchanged : Lists → Passed
+unchanged m = record { points = m .p; faces = m .n; dropped = 0; found = 0; changed = 0 }
 
 -- a pass that is off changes nothing
 pub off :
-    {ps : List Float} {p : ℕ} {xs : List ℕ} {n : ℕ} {w : List ℕ} (pass : State → State) (after : List ℕ → List ℕ) (least most scratch : ℕ)
-    → ((report : List ℕ) → after report ≡ report) → least ≤ p → p ≤ most → ((i : ℕ) → i < 3 * n → getD xs i 0 < p)
-    → PassGives (optional false pass) after least most scratch ps p xs n w ps xs w (unchanged p n)
+    {m : Lists} (pass : State → State) (after : List ℕ → List ℕ) (reach : Reach)
+    → ((report : List ℕ) → after report ≡ report) → reach .least ≤ m .p → m .p ≤ reach .most → ((i : ℕ) → i < 3 * m .n → getD (m .faces) i 0 < m .p)
+    → PassGives (optional false pass) after reach m m (unchanged m)
 unfolding optional
-off {ps} {p} {xs} {n} {w} pass after least most scratch same l m inside =
+off {m} pass after reach same l h inside =
     record {
-      state = λ report. ap (stateOf ps p xs n) (same report);
+      state = λ report. ap (stateIn m) (same report);
       inside = inside;
       not-below = l;
-      not-above = m;
+      not-above = h;
       fewer = omega arith;
       few-dropped = omega arith;
       few-found = omega arith;
       few-changed = omega arith;
-      only-points = only-none 0 (3 * most) ps;
-      only-faces = only-none 0 (3 * n) xs;
-      only-work = only-none 0 scratch w;
+      only-points = only-none 0 (3 * reach .most) (m .points);
+      only-faces = only-none 0 (3 * m .n) (m .faces);
+      only-work = only-none 0 (reach .scratch) (m .work);
     }
 
--- the points in front of their room, as a list of their own
-pub as-long : {ps : List Float} {p : ℕ} {xs : List ℕ} {n : ℕ} {w : List ℕ} → SplitAsks ps p xs n w → length (take (3 * p) ps) ≡ 3 * p
-as-long {ps} {p} a = length-take-le (3 * p) ps (omega (arith, a .room))
+-- the points at the front of their room, as a list of their own
+abbrev pub pointsIn : Lists → List Float
+pointsIn m = take (3 * m .p) (m .points)
 
--- there are p of them
-pub as-many : {ps : List Float} {p : ℕ} {xs : List ℕ} {n : ℕ} {w : List ℕ} → SplitAsks ps p xs n w → length (take (3 * p) ps) / 3 ≡ p
-as-many a = omega (arith, as-long a)
+module _ {k : ℕ} {m : Lists} (a : Stands k m) where
+  -- they are 3p numbers
+  pub as-long : length (pointsIn m) ≡ 3 * m .p
+  as-long = length-take-le (3 * m .p) (m .points) (omega (arith, a .room))
 
--- a pass may read them
-pub reads : {ps : List Float} {p : ℕ} {xs : List ℕ} {n : ℕ} {w : List ℕ} → SplitAsks ps p xs n w → PassAsks (take (3 * p) ps) xs n w
-reads a = record { whole = omega (arith, as-long a); stand = rw (as-many a) (a .stand) }
+  -- so there are p of them
+  pub as-many : length (pointsIn m) / 3 ≡ m .p
+  as-many = omega (arith, as-long)
+
+  -- a pass may read them, and take fewer entries
+  pub reads : (j : ℕ) → j ≤ k → PassAsks j (pointsIn m) (m .faces) (m .n) (m .work)
+  reads j h = record { whole = omega (arith, as-long); stand = rw as-many (fewer-taken h (a .stand)) }
+
+  -- faces that a pass has marked may leave
+  pub may : {marked : ℕ → Bool} {j at : ℕ} {w′ : List ℕ} → j ≤ k → MarkGives marked j (m .n) (m .work) w′ at → RetainAsks (m .faces) w′ at (m .n)
+  may h g = may-leave (a .stand .fit) (omega (arith, a .stand .room)) g
 
 -- faces marked for the second half of pass 4 may leave
 pub collided-leave :
-    {marked : ℕ → Bool} {qs : List Float} {xs : List ℕ} {n : ℕ} {w w′ : List ℕ} {m : ℕ} → PassAsks qs xs n w → MarkGives marked (16 * n + 1 + length qs / 3) n w w′ m → RetainAsks xs w′ m n
-unfolding work-room
-collided-leave p g = may-leave (p .stand .fit) (omega (arith, p .stand .room)) g
+    {marked : ℕ → Bool} {qs : List Float} {xs : List ℕ} {n : ℕ} {w w′ : List ℕ} {at : ℕ} → PassAsks (taken (length qs / 3) n) qs xs n w → MarkGives marked (taken (length qs / 3) n) n w w′ at → RetainAsks xs w′ at n
+collided-leave p g = may-leave (p .stand .fit) (p .stand .room) g
 
 -- the faces that were marked are those that left
 pub left-by :
-    {marked : ℕ → Bool} {taken : ℕ} {xs : List ℕ} {n : ℕ} {w w′ : List ℕ} {m : ℕ} {xs′ : List ℕ} {r : ℕ}
-    → MarkGives marked taken n w w′ m → ((by : ℕ → Bool) → Flagged w′ m n by → LeaveGives by xs n xs′ r) → LeaveGives marked xs n xs′ r
+    {marked : ℕ → Bool} {j : ℕ} {xs : List ℕ} {n : ℕ} {w w′ : List ℕ} {at : ℕ} {xs′ : List ℕ} {r : ℕ}
+    → MarkGives marked j n w w′ at → ((by : ℕ → Bool) → Flagged w′ at n by → LeaveGives by xs n xs′ r) → LeaveGives marked xs n xs′ r
 left-by {marked} g leaves = leaves marked (g .flags)
 
 -- no more stay than stood
 pub left-fewer : {marked : ℕ → Bool} {xs : List ℕ} {n : ℕ} {xs′ : List ℕ} {r : ℕ} → LeaveGives marked xs n xs′ r → r ≤ n
 left-fewer g = omega (arith, g .number)
 
+-- the lists once faces have left
+abbrev pub left : Lists → List ℕ → ℕ → List ℕ → Lists
+left m faces n work = lists (m .points) (m .p) faces n work
+
 -- a pass in which marked faces leave, after `first` was added to the report
 pub step-left :
-    {ps : List Float} {p : ℕ} {xs : List ℕ} {n : ℕ} {w xs′ w′ : List ℕ} {r : ℕ} (pass : State → State) (c : Count) (first : List ℕ → List ℕ) (marked : ℕ → Bool) (found changed : ℕ)
-    → found ≤ p + 3 * n → changed ≤ p + 3 * n
-    → ((report : List ℕ) → pass (stateOf ps p xs n report) ≡ dropped c marked (stateOf ps p xs n (first report)))
-    → SplitAsks ps p xs n w → Only 0 (work-room p n) w w′ → LeaveGives marked xs n xs′ r
-    → PassGives (optional true pass) (λ report. more c (n - r) (first report)) p p (work-room p n) ps p xs n w ps xs′ w′ (record { points = p; faces = r; dropped = n - r; found = found; changed = changed })
+    {k : ℕ} {m : Lists} {xs′ w′ : List ℕ} {r : ℕ} (pass : State → State) (c : Count) (first : List ℕ → List ℕ) (marked : ℕ → Bool) (found changed : ℕ)
+    → found ≤ m .p + 3 * m .n → changed ≤ m .p + 3 * m .n
+    → ((report : List ℕ) → pass (stateIn m report) ≡ dropped c marked (stateIn m (first report)))
+    → Stands k m → Only 0 (stated m) (m .work) w′ → LeaveGives marked (m .faces) (m .n) xs′ r
+    → PassGives (optional true pass) (λ report. more c (m .n - r) (first report)) (keeps m) m (left m xs′ r w′) (record { points = m .p; faces = r; dropped = m .n - r; found = found; changed = changed })
 unfolding optional
-step-left {ps} {p} {xs} {n} {w} {xs′} {w′} {r} pass c first marked found changed few-found few-changed e a o g =
+step-left {k} {m} {xs′} {w′} {r} pass c first marked found changed few-found few-changed e a o g =
     record {
-      state = λ report. dropped-state c (pointsOf (take (3 * p) ps)) (first report) (a .stand .fit) g ∙ sym (e report);
+      state = λ report. dropped-state c (pointsOf (pointsIn m)) (first report) (a .stand .fit) g ∙ sym (e report);
       inside = left-inside (a .stand) g;
       not-below = omega arith;
       not-above = omega arith;
@@ -107,18 +118,18 @@ step-left {ps} {p} {xs} {n} {w} {xs′} {w′} {r} pass c first marked found cha
       few-dropped = omega (arith, g .number);
       few-found = few-found;
       few-changed = few-changed;
-      only-points = only-none 0 (3 * p) ps;
+      only-points = only-none 0 (3 * m .p) (m .points);
       only-faces = g .only-faces;
       only-work = o;
     }
 
 -- a pass whose faces were changed in their room before: what is said of the changed ones is said of those before
 pub step-after :
-    {pass : State → State} {after : List ℕ → List ℕ} {least most scratch : ℕ} {ps : List Float} {p : ℕ} {xs : List ℕ} {n : ℕ} {w xs₁ w₁ : List ℕ} {ps′ : List Float} {xs′ w′ : List ℕ} {r : Passed} (pass₁ : State → State) (first : List ℕ → List ℕ)
-    → Only 0 (3 * n) xs xs₁ → Only 0 scratch w w₁
-    → ((report : List ℕ) → pass (stateOf ps p xs₁ n (first report)) ≡ pass₁ (stateOf ps p xs n report))
-    → PassGives pass after least most scratch ps p xs₁ n w₁ ps′ xs′ w′ r
-    → PassGives pass₁ (λ report. after (first report)) least most scratch ps p xs n w ps′ xs′ w′ r
+    {pass : State → State} {after : List ℕ → List ℕ} {m m′ : Lists} {xs₁ w₁ : List ℕ} {r : Passed} (pass₁ : State → State) (first : List ℕ → List ℕ)
+    → Only 0 (3 * m .n) (m .faces) xs₁ → Only 0 (stated m) (m .work) w₁
+    → ((report : List ℕ) → pass (stateIn (left m xs₁ (m .n) w₁) (first report)) ≡ pass₁ (stateIn m report))
+    → PassGives pass after (keeps m) (left m xs₁ (m .n) w₁) m′ r
+    → PassGives pass₁ (λ report. after (first report)) (keeps m) m m′ r
 step-after pass₁ first of ow e g =
     record {
       state = λ report. g .state (first report) ∙ e report;

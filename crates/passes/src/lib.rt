@@ -1,26 +1,15 @@
 // The six passes of a repair, each by its option, on the lists that stand at the front of the answer rooms. Each returns what it counts.
-ghost use Prim.Native.Nat.{ℕ, _+_, _*_, _/_};
 ghost use mathlib.Core.Path.{_≡_};
 ghost use mathlib.Core.Bool.{true};
-ghost use mathlib.Core.List.{List};
+ghost use Prim.Native.Nat.{_/_};
 ghost use lib.ListN.{length};
 ghost use Rattle.rows.specs.Region.{Only};
 ghost use Rattle.rules.specs.Mesh.{pointsOf};
 ghost use Rattle.rules.specs.Pass4.{marked4};
 ghost use Rattle.rules.proofs.Once.{Once};
 ghost use Rattle.leaving.specs.Pass.{standing, PassAsks, LeaveGives};
-ghost use Rattle.rules.specs.Repair.{optional, bit};
-ghost use Rattle.rules.specs.Rooms.{work-room};
-ghost use Rattle.rules.specs.State.{more, degenerates, duplicates, crowded-edges, dropped-at-edges, dropped-for-direction, vertices-split, points-added, reoriented, components, isolated};
-ghost use Rattle.rules.specs.Pass1 as one;
-ghost use Rattle.rules.specs.Pass2 as two;
-ghost use Rattle.rules.specs.Pass3 as three;
-ghost use Rattle.rules.specs.Pass4 as four;
-ghost use Rattle.rules.specs.Pass5 as five;
-ghost use Rattle.rules.specs.Pass6 as six;
-ghost use Rattle.passes.specs.Passing.{PassGives};
-ghost use Rattle.split_bowtie_vertices.specs.Splits.{SplitAsks};
-ghost use Rattle.drop_isolated_vertices.specs.Unused.{UnusedAsks};
+ghost use Rattle.marking.specs.Marking.{taken};
+ghost use Rattle.passes.specs.Passing.{lists, stated, Stands, StandsLast, Pass1, Pass2, Pass3, Pass4, Pass5, Pass6};
 
 // What a pass leaves: how many points and faces stand; how many of them left; how many edges, components or vertices it found at fault; how many faces or points it turned or added.
 pub struct Passed {
@@ -41,8 +30,12 @@ pub fn pass1(
     n: usize,
     work: &mut [u32],
 ) -> Passed
-    requires { ⌜ SplitAsks (now points) p (now faces) n (now work) ⌝ }
-    ensures { λ r. ⌜ PassGives (optional (bit 0 options) (one.pass1 s)) (more degenerates (r .dropped)) p p (work-room p n) (now (points .entry)) p (now (faces .entry)) n (now (work .entry)) (now (points .exit)) (now (faces .exit)) (now (work .exit)) r ⌝ }
+    requires { ⌜ (let before = lists (now points) p (now faces) n (now work) in Stands (stated before) before) ⌝ }
+    ensures { λ r. ⌜
+        (let before = lists (now (points .entry)) p (now (faces .entry)) n (now (work .entry)) in
+        let after = lists (now (points .exit)) (r .points) (now (faces .exit)) (r .faces) (now (work .exit)) in
+        Pass1 options s before after r)
+        ⌝ }
 {
     if options % 2 == 1 {
         let marked = drop_degenerate::mark(&points[..3 * p], s, faces, n, work);
@@ -74,8 +67,12 @@ pub fn pass2(
     n: usize,
     work: &mut [u32],
 ) -> Passed
-    requires { ⌜ SplitAsks (now points) p (now faces) n (now work) ⌝ }
-    ensures { λ r. ⌜ PassGives (optional (bit 1 options) two.pass2) (more duplicates (r .dropped)) p p (work-room p n) (now (points .entry)) p (now (faces .entry)) n (now (work .entry)) (now (points .exit)) (now (faces .exit)) (now (work .exit)) r ⌝ }
+    requires { ⌜ (let before = lists (now points) p (now faces) n (now work) in Stands (stated before) before) ⌝ }
+    ensures { λ r. ⌜
+        (let before = lists (now (points .entry)) p (now (faces .entry)) n (now (work .entry)) in
+        let after = lists (now (points .exit)) (r .points) (now (faces .exit)) (r .faces) (now (work .exit)) in
+        Pass2 options s before after r)
+        ⌝ }
 {
     if options / 2 % 2 == 1 {
         let marked = drop_duplicate_faces::mark(faces, n, p, work);
@@ -107,8 +104,12 @@ pub fn pass3(
     n: usize,
     work: &mut [u32],
 ) -> Passed
-    requires { ⌜ SplitAsks (now points) p (now faces) n (now work) ⌝ }
-    ensures { λ r. ⌜ PassGives (optional (bit 2 options) three.pass3) (λ (report : List ℕ). more dropped-at-edges (r .dropped) (more crowded-edges (r .found) report)) p p (work-room p n) (now (points .entry)) p (now (faces .entry)) n (now (work .entry)) (now (points .exit)) (now (faces .exit)) (now (work .exit)) r ⌝ }
+    requires { ⌜ (let before = lists (now points) p (now faces) n (now work) in Stands (stated before) before) ⌝ }
+    ensures { λ r. ⌜
+        (let before = lists (now (points .entry)) p (now (faces .entry)) n (now (work .entry)) in
+        let after = lists (now (points .exit)) (r .points) (now (faces .exit)) (r .faces) (now (work .exit)) in
+        Pass3 options s before after r)
+        ⌝ }
 {
     if options / 4 % 2 == 1 {
         let marked = resolve_nonmanifold_edges::mark(&points[..3 * p], faces, n, work);
@@ -138,10 +139,10 @@ fn drop_collisions(
     work: &mut [u32],
     single: bool,
 ) -> usize
-    requires { ⌜ PassAsks (now points) (now faces) n (now work) ⌝ }
+    requires { ⌜ PassAsks (taken (length (now points) / 3) n) (now points) (now faces) n (now work) ⌝ }
     requires { ⌜ (single ≡ true → Once (standing (now faces) n)) ⌝ }
     ensures { λ r. ⌜ LeaveGives (marked4 (pointsOf (now (points .entry))) (standing (now (faces .entry)) n)) (now (faces .entry)) n (now (faces .exit)) r ⌝ }
-    ensures { λ _. ⌜ Only 0 (16 * n + 1 + length (now (points .entry)) / 3) (now (work .entry)) (now (work .exit)) ⌝ }
+    ensures { λ _. ⌜ Only 0 (taken (length (now (points .entry)) / 3) n) (now (work .entry)) (now (work .exit)) ⌝ }
 {
     if single {
         return n;
@@ -160,8 +161,12 @@ pub fn pass4(
     n: usize,
     work: &mut [u32],
 ) -> Passed
-    requires { ⌜ SplitAsks (now points) p (now faces) n (now work) ⌝ }
-    ensures { λ r. ⌜ PassGives (optional (bit 4 options) four.pass4) (λ (report : List ℕ). more dropped-for-direction (r .dropped) (more components (r .found) (more reoriented (r .changed) report))) p p (work-room p n) (now (points .entry)) p (now (faces .entry)) n (now (work .entry)) (now (points .exit)) (now (faces .exit)) (now (work .exit)) r ⌝ }
+    requires { ⌜ (let before = lists (now points) p (now faces) n (now work) in Stands (stated before) before) ⌝ }
+    ensures { λ r. ⌜
+        (let before = lists (now (points .entry)) p (now (faces .entry)) n (now (work .entry)) in
+        let after = lists (now (points .exit)) (r .points) (now (faces .exit)) (r .faces) (now (work .exit)) in
+        Pass4 options s before after r)
+        ⌝ }
 {
     if options / 16 % 2 == 1 {
         let turned = orient_consistently::settle(faces, n, p, work);
@@ -194,8 +199,12 @@ pub fn pass5(
     n: usize,
     work: &mut [u32],
 ) -> Passed
-    requires { ⌜ SplitAsks (now points) p (now faces) n (now work) ⌝ }
-    ensures { λ r. ⌜ PassGives (optional (bit 3 options) five.pass5) (λ (report : List ℕ). more points-added (r .changed) (more vertices-split (r .found) report)) p (p + 3 * n) (work-room p n) (now (points .entry)) p (now (faces .entry)) n (now (work .entry)) (now (points .exit)) (now (faces .exit)) (now (work .exit)) r ⌝ }
+    requires { ⌜ (let before = lists (now points) p (now faces) n (now work) in Stands (stated before) before) ⌝ }
+    ensures { λ r. ⌜
+        (let before = lists (now (points .entry)) p (now (faces .entry)) n (now (work .entry)) in
+        let after = lists (now (points .exit)) (r .points) (now (faces .exit)) (r .faces) (now (work .exit)) in
+        Pass5 options s before after r)
+        ⌝ }
 {
     if options / 8 % 2 == 1 {
         let split = split_bowtie_vertices::split_bowtie_vertices(points, p, faces, n, work);
@@ -227,8 +236,12 @@ pub fn pass6(
     n: usize,
     work: &mut [u32],
 ) -> Passed
-    requires { ⌜ UnusedAsks (now points) p (now faces) n (now work) ⌝ }
-    ensures { λ r. ⌜ PassGives (optional (bit 5 options) six.pass6) (more isolated (r .dropped)) 0 p (2 * p) (now (points .entry)) p (now (faces .entry)) n (now (work .entry)) (now (points .exit)) (now (faces .exit)) (now (work .exit)) r ⌝ }
+    requires { ⌜ (let before = lists (now points) p (now faces) n (now work) in StandsLast before) ⌝ }
+    ensures { λ r. ⌜
+        (let before = lists (now (points .entry)) p (now (faces .entry)) n (now (work .entry)) in
+        let after = lists (now (points .exit)) (r .points) (now (faces .exit)) (r .faces) (now (work .exit)) in
+        Pass6 options s before after r)
+        ⌝ }
 {
     if options / 32 % 2 == 1 {
         let left = drop_isolated_vertices::drop_isolated_vertices(points, p, faces, n, work);

@@ -38,8 +38,8 @@ leave-none marked h [] = refl
 leave-none marked h (x ∷ xs) = rw (h 0) (ap (λ l. x ∷ l) (leave-none (λ i. marked (suc i)) (λ i. h (suc i)) xs))
 
 -- so nothing is changed
-pub all-stay : {ps : List Float} {xs : List ℕ} {n : ℕ} {w : List ℕ} → PassAsks ps xs n w → Once (standing xs n) → LeaveGives (marked4 (pointsOf ps) (standing xs n)) xs n xs n
-all-stay {ps} {xs} {n} {w} p once =
+pub all-stay : {taken : ℕ} {ps : List Float} {xs : List ℕ} {n : ℕ} {w : List ℕ} → PassAsks taken ps xs n w → Once (standing xs n) → LeaveGives (marked4 (pointsOf ps) (standing xs n)) xs n xs n
+all-stay {taken} {ps} {xs} {n} {w} p once =
     let m = marked4 (pointsOf ps) (standing xs n) in
     let none = none-marked (pointsOf ps) (standing xs n) once in
     let stay = leave-none m none (standing xs n) in

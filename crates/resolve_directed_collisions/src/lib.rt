@@ -17,7 +17,7 @@ ghost use Rattle.rules.specs.Pass4.{marked4};
 ghost use Rattle.rules.specs.Rank.{without};
 ghost use Rattle.leaving.specs.Pass.{standing, PassAsks, MarkGives};
 ghost use Rattle.rank.specs.Ranks.{facesIn, valueOf};
-ghost use Rattle.marking.specs.Marking.{faceCount, edgeAt, MarkAsks, RunAsks, EntriesAsks, LostGives};
+ghost use Rattle.marking.specs.Marking.{taken, faceCount, edgeAt, MarkAsks, RunAsks, EntriesAsks, LostGives};
 ghost use Rattle.resolve_directed_collisions.specs.Collisions.{afterFirst};
 
 // Whether an entry of face f is the one that stays: the first one of face `one`. `seen` says that it has passed.
@@ -80,8 +80,8 @@ fn mark_edges(points: &[f64], faces: &[u32], work: &mut [u32], marks: usize)
 
 // The second half of pass 4 marks each face that has an entry after the first in rank at some directed edge. The n faces stand at the front of their room.
 pub fn mark(points: &[f64], faces: &[u32], n: usize, work: &mut [u32]) -> Marked
-    requires { ⌜ PassAsks (now points) (now faces) n (now work) ⌝ }
-    ensures { λ r. ⌜ MarkGives (marked4 (pointsOf (now (points .entry))) (standing (now (faces .entry)) n)) (16 * n + 1 + length (now (points .entry)) / 3) n (now (work .entry)) (now (work .exit)) (r .at) ⌝ }
+    requires { ⌜ PassAsks (taken (length (now points) / 3) n) (now points) (now faces) n (now work) ⌝ }
+    ensures { λ r. ⌜ MarkGives (marked4 (pointsOf (now (points .entry))) (standing (now (faces .entry)) n)) (taken (length (now (points .entry)) / 3) n) n (now (work .entry)) (now (work .exit)) (r .at) ⌝ }
     ensures { λ r. ⌜ r .found ≡ 0 ⌝ }
 {
     let marks = 15 * n + 1 + points.len() / 3;

@@ -15,7 +15,7 @@ ghost use Rattle.rules.specs.Mesh.{pointsOf};
 ghost use Rattle.rules.specs.Pass3.{crowded, marked3};
 ghost use Rattle.leaving.specs.Pass.{standing, PassAsks, MarkGives};
 ghost use Rattle.rank.specs.Ranks.{facesIn};
-ghost use Rattle.marking.specs.Marking.{MarkAsks, RunAsks, EntriesAsks, LostGives};
+ghost use Rattle.marking.specs.Marking.{taken, MarkAsks, RunAsks, EntriesAsks, LostGives};
 ghost use Rattle.resolve_nonmanifold_edges.specs.Crowds.{lostOf, EdgeGives, EdgesGives};
 
 // Whether face f is neither of the two that are kept.
@@ -92,8 +92,8 @@ fn mark_edges(points: &[f64], faces: &[u32], work: &mut [u32], marks: usize) -> 
 
 // Pass 3 marks the faces that leave at an edge with more than two entries, and counts such edges. The n faces stand at the front of their room.
 pub fn mark(points: &[f64], faces: &[u32], n: usize, work: &mut [u32]) -> Marked
-    requires { ⌜ PassAsks (now points) (now faces) n (now work) ⌝ }
-    ensures { λ r. ⌜ MarkGives (marked3 (pointsOf (now (points .entry))) (standing (now (faces .entry)) n)) (16 * n + 1 + length (now (points .entry)) / 3) n (now (work .entry)) (now (work .exit)) (r .at) ⌝ }
+    requires { ⌜ PassAsks (taken (length (now points) / 3) n) (now points) (now faces) n (now work) ⌝ }
+    ensures { λ r. ⌜ MarkGives (marked3 (pointsOf (now (points .entry))) (standing (now (faces .entry)) n)) (taken (length (now (points .entry)) / 3) n) n (now (work .entry)) (now (work .exit)) (r .at) ⌝ }
     ensures { λ r. ⌜ r .found ≡ length (crowded (length (now (points .entry)) / 3) (standing (now (faces .entry)) n)) ⌝ }
 {
     let marks = 15 * n + 1 + points.len() / 3;

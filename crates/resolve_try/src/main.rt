@@ -1,8 +1,9 @@
 // Runs faces of document 01's examples, and some more, through pass 3 and through the second half of pass 4, in a work room that is not zero. A line has
 // the number of crowded edges, in pass 3 alone, the number of faces that stay, and their corners.
-ghost use Prim.Native.Nat.{_≤_};
+ghost use Prim.Native.Nat.{_/_, _≤_};
 ghost use lib.ListN.{length};
 ghost use Rattle.leaving.specs.Pass.{PassAsks};
+ghost use Rattle.marking.specs.Marking.{taken};
 
 // Writes a number and a space.
 fn show(n: u64) {
@@ -24,7 +25,7 @@ fn show_row(row: &[u32], n: usize)
 
 // Pass 3.
 fn edges(points: &[f64], faces: &mut [u32], n: usize, work: &mut [u32])
-    requires { ⌜ PassAsks (now points) (now faces) n (now work) ⌝ }
+    requires { ⌜ PassAsks (taken (length (now points) / 3) n) (now points) (now faces) n (now work) ⌝ }
 {
     let marked = resolve_nonmanifold_edges::mark(points, faces, n, work);
     let r = leaving::leave(faces, work, marked.at, n);
@@ -35,7 +36,7 @@ fn edges(points: &[f64], faces: &mut [u32], n: usize, work: &mut [u32])
 
 // The second half of pass 4.
 fn collisions(points: &[f64], faces: &mut [u32], n: usize, work: &mut [u32])
-    requires { ⌜ PassAsks (now points) (now faces) n (now work) ⌝ }
+    requires { ⌜ PassAsks (taken (length (now points) / 3) n) (now points) (now faces) n (now work) ⌝ }
 {
     let marked = resolve_directed_collisions::mark(points, faces, n, work);
     let r = leaving::leave(faces, work, marked.at, n);

@@ -12,7 +12,6 @@ use Rattle.leaving.specs.Pass.{stateOf}
 use Rattle.rows.proofs.Regions.{only-both, only-more}
 use Rattle.rules.specs.Lists.{below, count}
 use Rattle.rules.specs.Mesh.{face, facesOf, flatPoints, flatFaces, renamed}
-use Rattle.rules.specs.Rooms.{work-room}
 use Rattle.rules.specs.State.{State, more, vertices-split, points-added}
 use Rattle.rules.specs.Pass5.{pass5}
 use Rattle.rules.proofs.Counting.{filter-le}
@@ -46,7 +45,6 @@ module _ {ps : List Float} {P : ℕ} {xs : List ℕ} {n : ℕ} {w : List ℕ} (p
 
   -- the work room holds the rows
   room : 14 * (3 * n) + 2 + P ≤ length w
-  unfolding work-room
   room = omega (arith, p .stand .room)
 
   -- what the sort of the corners asks
@@ -167,7 +165,6 @@ module _ {ps : List Float} {P : ℕ} {xs : List ℕ} {n : ℕ} {w : List ℕ} (p
         few = omega (arith, s .splits, filter-le (λ v. ltb 0 (extras (facesOf ys) v)) (below P), length-below P)
 
         pub done : SplitGives P ps xs n w ps′ xs′ w₂ r
-        unfolding work-room
         done =
             let l = long in
             record {

@@ -10,7 +10,6 @@ use Rattle.rows.specs.Region.{part, OnlyOf, Only, Holds}
 use Rattle.rules.specs.Lists.{below, count, each}
 use Rattle.rules.specs.Mesh.{facesOf, flatPoints, flatFaces}
 use Rattle.rules.specs.State.{more, vertices-split, points-added}
-use Rattle.rules.specs.Rooms.{work-room}
 use Rattle.rules.specs.Pass5.{pass5}
 use Rattle.flood.specs.Answers.{leaderOf}
 use Rattle.leaving.specs.Pass.{FacesStand, stateOf}
@@ -87,9 +86,13 @@ pub record RenameGives (xs w : List ℕ) (leads numbers n : ℕ) (xs′ : List �
   pub only : Only 0 n xs xs′
   pub renamed : (id : ℕ) → id < n → getD xs′ id 0 ≡ newBy w leads numbers id
 
+-- what pass 5 takes of the work room
+abbrev pub taken : ℕ → ℕ → ℕ
+taken P n = 42 * n + 2 + P
+
 -- P points and n faces at the front of their rooms, and the rooms
 pub record SplitAsks (ps : List Float) (P : ℕ) (xs : List ℕ) (n : ℕ) (w : List ℕ) : Type 0 where
-  pub stand : FacesStand P xs n w
+  pub stand : FacesStand (taken P n) P xs n w
   pub room : 3 * (P + 3 * n) ≤ length ps
 
 -- the points, the faces and the report are those of the rule, whatever the report was before; corners are below the new number of points
@@ -104,4 +107,4 @@ pub record SplitGives (P : ℕ) (ps : List Float) (xs : List ℕ) (n : ℕ) (w :
   pub inside : (i : ℕ) → i < 3 * n → getD xs′ i 0 < r .points
   pub only-points : OnlyOf nan 0 (3 * (P + 3 * n)) ps ps′
   pub only-faces : Only 0 (3 * n) xs xs′
-  pub only-work : Only 0 (work-room P n) w w′
+  pub only-work : Only 0 (taken P n) w w′

@@ -10,8 +10,7 @@ use lib.Dec.{leb, ltb}
 use lib.Ieee.{Float}
 use lib.ListN.{length, getD}
 use Rattle.rules.specs.Refusal.{most-points, most-faces}
-use Rattle.rules.specs.Rooms.{work-room}
-use Rattle.split_bowtie_vertices.specs.Splits.{SplitAsks}
+use Rattle.split_bowtie_vertices.specs.Splits.{taken, SplitAsks}
 
 -- the test p of each number below n
 abbrev each : (ℕ → Bool) → ℕ → Bool
@@ -33,24 +32,23 @@ passes p (suc n) e i h =
 -- few points and faces, corners that are points, and long enough rooms
 abbrev fine : List Float → ℕ → List ℕ → ℕ → List ℕ → Bool
 fine ps P xs n w =
-    leb P most-points && (leb n most-faces && (leb (3 * n) (length xs) && (each (λ i. ltb (getD xs i 0) P) (3 * n) && (leb (16 * P + 64 * n + 64) (length w) && leb (3 * (P + 3 * n)) (length ps)))))
+    leb P most-points && (leb n most-faces && (leb (3 * n) (length xs) && (each (λ i. ltb (getD xs i 0) P) (3 * n) && (leb (taken P n) (length w) && leb (3 * (P + 3 * n)) (length ps)))))
 
 -- such a mesh is as pass 5 asks
 pub ready : (ps : List Float) (P : ℕ) (xs : List ℕ) (n : ℕ) (w : List ℕ) → fine ps P xs n w ≡ true → SplitAsks ps P xs n w
-unfolding work-room
 ready ps P xs n w e =
     let a = both (leb P most-points) _ e in
     let b = both (leb n most-faces) _ (a .1) in
     let c = both (leb (3 * n) (length xs)) _ (b .1) in
     let d = both (each (λ i. ltb (getD xs i 0) P) (3 * n)) _ (c .1) in
-    let f = both (leb (16 * P + 64 * n + 64) (length w)) _ (d .1) in
+    let f = both (leb (taken P n) (length w)) _ (d .1) in
     record {
       stand = record {
         points = leb-true P most-points (a .0);
         few = leb-true n most-faces (b .0);
         fit = leb-true (3 * n) (length xs) (c .0);
         inside = λ i h. ltb-true (getD xs i 0) P (passes (λ i. ltb (getD xs i 0) P) (3 * n) (d .0) i h);
-        room = leb-true (16 * P + 64 * n + 64) (length w) (f .0);
+        room = leb-true (taken P n) (length w) (f .0);
       };
       room = leb-true (3 * (P + 3 * n)) (length ps) (f .1);
     }

@@ -1,6 +1,5 @@
 -- `drops_try::alike_ones` meets what its calls ask: antt computes the lengths and the corners. Assumes nothing.
 use mathlib.Core.Path.{refl}
-use Rattle.rules.specs.Rooms.{work-room}
 use Rattle.drops_try.proofs.Ready.{stands}
 use borrow.Author.Needs.{needs}
 use Rattle.drops_try.proofs.alike_ones.Statement.{statement}
@@ -13,7 +12,7 @@ slice-aggregate-duplicate-2 : tie.Need-slice-aggregate-duplicate-2
 slice-aggregate-duplicate-2 c = search needs
 
 duplicate-requires : tie.Need-duplicate-requires
-duplicate-requires c κs = unfold work-room in (stands _ _ _ _ refl refl refl refl refl)
+duplicate-requires c κs = stands _ _ _ _ _ refl refl refl refl refl
 
 slice-aggregate-duplicate-3 : tie.Need-slice-aggregate-duplicate-3
 slice-aggregate-duplicate-3 c = search needs
@@ -22,7 +21,7 @@ slice-aggregate-duplicate-4 : tie.Need-slice-aggregate-duplicate-4
 slice-aggregate-duplicate-4 c = search needs
 
 duplicate-requires-2 : tie.Need-duplicate-requires-2
-duplicate-requires-2 c κs = unfold work-room in (stands _ _ _ _ refl refl refl refl refl)
+duplicate-requires-2 c κs = stands _ _ _ _ _ refl refl refl refl refl
 
 returns : tie.Need-returns
 returns c = search needs

@@ -1,6 +1,5 @@
 -- `drops_try::thin_ones` meets what its calls ask: antt computes the lengths and the corners. Assumes nothing.
 use mathlib.Core.Path.{refl}
-use Rattle.rules.specs.Rooms.{work-room}
 use Rattle.drops_try.proofs.Ready.{stands}
 use borrow.Author.Needs.{needs}
 use Rattle.drops_try.proofs.thin_ones.Statement.{statement}
@@ -16,7 +15,7 @@ slice-aggregate-degenerate-3 : tie.Need-slice-aggregate-degenerate-3
 slice-aggregate-degenerate-3 c = search needs
 
 degenerate-requires : tie.Need-degenerate-requires
-degenerate-requires c κs = record { whole = refl; stand = unfold work-room in (stands _ _ _ _ refl refl refl refl refl) }
+degenerate-requires c κs = record { whole = refl; stand = stands _ _ _ _ _ refl refl refl refl refl }
 
 slice-aggregate-degenerate-4 : tie.Need-slice-aggregate-degenerate-4
 slice-aggregate-degenerate-4 c = search needs
@@ -28,7 +27,7 @@ slice-aggregate-degenerate-6 : tie.Need-slice-aggregate-degenerate-6
 slice-aggregate-degenerate-6 c = search needs
 
 degenerate-requires-2 : tie.Need-degenerate-requires-2
-degenerate-requires-2 c κs = record { whole = refl; stand = unfold work-room in (stands _ _ _ _ refl refl refl refl refl) }
+degenerate-requires-2 c κs = record { whole = refl; stand = stands _ _ _ _ _ refl refl refl refl refl }
 
 returns : tie.Need-returns
 returns c = search needs

@@ -1,7 +1,7 @@
 -- `passes::pass1` meets its contract: the pass is on and marked faces leave, or it is off. Assumes nothing.
 use mathlib.Core.Path.{sym, _∙_}
-use Rattle.passes.proofs.Steps.{bit-set, bit-clear, left-by, left-fewer, lowest, as-long, reads}
-use Rattle.passes.proofs.Passes.{leaves-1, on1, off1}
+use Rattle.passes.proofs.Steps.{bit-set, bit-clear, left-by, left-fewer, lowest, as-long}
+use Rattle.passes.proofs.Passes.{reads1, leaves1, on1, off1}
 use borrow.Author.Needs.{needs}
 use Rattle.passes.proofs.pass1.Statement.{statement}
 use Rattle.passes.proofs.pass1.Tie as tie
@@ -16,13 +16,13 @@ slice-aggregate-mark : tie.Need-slice-aggregate-mark
 slice-aggregate-mark c = sym (as-long (c .before .before .before .before .before .pre))
 
 mark-requires : tie.Need-mark-requires
-mark-requires c κs = reads (c .before .before .before .before .before .before .before .pre)
+mark-requires c κs = reads1 (c .before .before .before .before .before .before .before .pre)
 
 leave-requires : tie.Need-leave-requires
 leave-requires c κs =
     let at-mark = c .before .before .before .before in
     let start = at-mark .before .before .before .before .before .before .before .before in
-    leaves-1 (start .pre) (at-mark .mark .ensures .0)
+    leaves1 (start .pre) (at-mark .mark .ensures .0)
 
 sub-t12 : tie.Need-sub-t12
 sub-t12 c =

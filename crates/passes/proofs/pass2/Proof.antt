@@ -1,18 +1,18 @@
 -- `passes::pass2` meets its contract: the pass is on and marked faces leave, or it is off. Assumes nothing.
 use Rattle.passes.proofs.Steps.{bit-set, bit-clear, left-by, left-fewer}
-use Rattle.passes.proofs.Passes.{leaves-2, on2, off2}
+use Rattle.passes.proofs.Passes.{reads2, leaves2, on2, off2}
 use borrow.Author.Needs.{needs}
 use Rattle.passes.proofs.pass2.Statement.{statement}
 use Rattle.passes.proofs.pass2.Tie as tie
 
 mark-requires : tie.Need-mark-requires
-mark-requires c κs = search needs
+mark-requires c κs = reads2 (c .before .before .before .before .before .before .pre)
 
 leave-requires : tie.Need-leave-requires
 leave-requires c κs =
     let at-mark = c .before .before .before .before in
     let start = at-mark .before .before .before .before .before .before .before in
-    leaves-2 (start .pre) (at-mark .mark .ensures .0)
+    leaves2 (start .pre) (at-mark .mark .ensures .0)
 
 sub-t21 : tie.Need-sub-t21
 sub-t21 c =

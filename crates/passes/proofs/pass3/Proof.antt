@@ -1,7 +1,7 @@
 -- `passes::pass3` meets its contract: the pass is on and marked faces leave, or it is off. Assumes nothing.
 use mathlib.Core.Path.{sym}
-use Rattle.passes.proofs.Steps.{bit-set, bit-clear, left-by, left-fewer, as-long, reads}
-use Rattle.passes.proofs.Passes.{leaves-3, on3, off3}
+use Rattle.passes.proofs.Steps.{bit-set, bit-clear, left-by, left-fewer, as-long}
+use Rattle.passes.proofs.Passes.{reads3, leaves3, on3, off3}
 use borrow.Author.Needs.{needs}
 use Rattle.passes.proofs.pass3.Statement.{statement}
 use Rattle.passes.proofs.pass3.Tie as tie
@@ -16,13 +16,13 @@ slice-aggregate-mark : tie.Need-slice-aggregate-mark
 slice-aggregate-mark c = sym (as-long (c .before .before .before .before .before .pre))
 
 mark-requires : tie.Need-mark-requires
-mark-requires c κs = reads (c .before .before .before .before .before .before .before .pre)
+mark-requires c κs = reads3 (c .before .before .before .before .before .before .before .pre)
 
 leave-requires : tie.Need-leave-requires
 leave-requires c κs =
     let at-mark = c .before .before .before .before in
     let start = at-mark .before .before .before .before .before .before .before .before in
-    leaves-3 (start .pre) (at-mark .mark .ensures .0)
+    leaves3 (start .pre) (at-mark .mark .ensures .0)
 
 sub-t13 : tie.Need-sub-t13
 sub-t13 c =

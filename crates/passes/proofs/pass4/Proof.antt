@@ -1,13 +1,13 @@
 -- `passes::pass4` meets its contract: the pass is on and both halves follow each other, or it is off. Assumes nothing.
 use native.Mathlib.Omega.{arith}
 use Rattle.passes.proofs.Steps.{bit-set, bit-clear, left-fewer, as-long}
-use Rattle.passes.proofs.Passes.{on4, off4, turned-reads}
+use Rattle.passes.proofs.Passes.{reads4, on4, off4, turned-reads}
 use borrow.Author.Needs.{needs}
 use Rattle.passes.proofs.pass4.Statement.{statement}
 use Rattle.passes.proofs.pass4.Tie as tie
 
 settle-requires : tie.Need-settle-requires
-settle-requires c κs = search needs
+settle-requires c κs = reads4 (c .before .before .before .before .before .before .pre)
 
 mul-drop-collisions : tie.Need-mul-drop-collisions
 mul-drop-collisions c = search needs

@@ -1,12 +1,12 @@
 -- `passes::pass5` meets its contract: the pass is on and vertices are split, or it is off. Assumes nothing.
 use Rattle.passes.proofs.Steps.{bit-set, bit-clear}
-use Rattle.passes.proofs.Rooms.{on5, off5}
+use Rattle.passes.proofs.Rooms.{splits, on5, off5}
 use borrow.Author.Needs.{needs}
 use Rattle.passes.proofs.pass5.Statement.{statement}
 use Rattle.passes.proofs.pass5.Tie as tie
 
 split-bowtie-vertices-requires : tie.Need-split-bowtie-vertices-requires
-split-bowtie-vertices-requires c κs = search needs
+split-bowtie-vertices-requires c κs = splits (c .before .before .before .before .before .before .before .pre)
 
 sub-t19 : tie.Need-sub-t19
 sub-t19 c = c .before .before .before .before .before .before .split-bowtie-vertices .ensures .least

@@ -22,10 +22,10 @@ same-length-3 : tie.Need-same-length-3
 same-length-3 c = search needs
 
 returns : tie.Need-returns
-returns c = rw (bit-set 5 (c .before .before .before .before .before .before .before .before .before .before .before .before .before .before .args .options) (c .before .before .before .before .before .before .before .before .before .before .if1 .taken)) (on6 (c .before .before .before .before .before .before .before .before .before .before .before .before .before .before .pre) (c .before .before .before .before .before .before .drop-isolated-vertices .ensures))
+returns c = rw (bit-set 5 (c .before .before .before .before .before .before .before .before .before .before .before .before .before .before .args .options) (c .before .before .before .before .before .before .before .before .before .before .if1 .taken)) (on6 _ (c .before .before .before .before .before .before .before .before .before .before .before .before .before .before .pre) (c .before .before .before .before .before .before .drop-isolated-vertices .ensures))
 
 returns-2 : tie.Need-returns-2
-returns-2 c = rw (bit-clear 5 (c .before .before .before .before .args .options) (c .if1 .left)) (off6 (c .before .before .before .before .pre))
+returns-2 c = rw (bit-clear 5 (c .before .before .before .before .args .options) (c .if1 .left)) (off6 _ (c .before .before .before .before .pre))
 
 pub pass6-spec : {M : Type 1} → statement M
 pass6-spec =

@@ -1,24 +1,23 @@
 -- `resolve_try::main` meets what its calls ask: antt computes the lengths and the corners. Assumes nothing.
 use mathlib.Core.Path.{_≡_, refl}
 use mathlib.Core.List.{List}
-use Prim.Native.Nat.{ℕ, _*_, _≤_}
+use Prim.Native.Nat.{ℕ, _*_, _/_, _≤_}
 use native.Mathlib.Omega.{arith}
 use lib.Dec.{T, ltb, ltb→lt}
 use lib.Ieee.{Float}
 use lib.ListN.{length, getD, take}
 use lib.Seq.{getD-take, length-take-le}
 use Rattle.rules.specs.Lists.{all}
-use Rattle.rules.specs.Rooms.{work-room}
 use Rattle.rules.proofs.Rising.{all-at}
 use Rattle.rules.proofs.Members.{all-elim}
 use Rattle.leaving.specs.Pass.{PassAsks}
+use Rattle.marking.specs.Marking.{taken}
 use borrow.Author.Needs.{needs}
 use Rattle.resolve_try.proofs.main.Statement.{statement}
 use Rattle.resolve_try.proofs.main.Tie as tie
 
 -- at most five faces over five points, and a work room of 600 entries
-ready : (ps : List Float) (xs : List ℕ) (n k : ℕ) (w : List ℕ) → length ps ≡ 15 → length xs ≡ k → 3 * n ≤ k → n ≤ 5 → T (all (λ x. ltb x 5) (take (3 * n) xs)) → length w ≡ 600 → PassAsks ps xs n w
-unfolding work-room
+ready : (ps : List Float) (xs : List ℕ) (n k : ℕ) (w : List ℕ) → length ps ≡ 15 → length xs ≡ k → 3 * n ≤ k → n ≤ 5 → T (all (λ x. ltb x 5) (take (3 * n) xs)) → length w ≡ 600 → PassAsks (taken (length ps / 3) n) ps xs n w
 ready ps xs n k w p x h few a l =
     record {
       whole = rw p refl;

@@ -18,3 +18,13 @@ pub leave-by-flags : {xs : List ℕ} {n : ℕ} {w : List ℕ} {marks : ℕ} {xs�
 leave-by-flags p g marked f =
     let e = left-count marked f g in
     record { faces = faces-left marked (p .rows-fit) f g; number = e; only-faces = only-more (omega arith) (omega arith) (g .only) }
+
+-- the faces that were marked are those that left
+pub left-by :
+    {marked : ℕ → Bool} {taken : ℕ} {xs : List ℕ} {n : ℕ} {w w′ : List ℕ} {marks : ℕ} {xs′ : List ℕ} {r : ℕ}
+    → MarkGives marked taken n w w′ marks → ((by : ℕ → Bool) → Flagged w′ marks n by → LeaveGives by xs n xs′ r) → LeaveGives marked xs n xs′ r
+left-by {marked} g leaves = leaves marked (g .flags)
+
+-- no more stay than stood
+pub left-fewer : {marked : ℕ → Bool} {xs : List ℕ} {n : ℕ} {xs′ : List ℕ} {r : ℕ} → LeaveGives marked xs n xs′ r → r ≤ n
+left-fewer g = omega (arith, g .number)

@@ -11,7 +11,7 @@ use lib.Ieee.{Float}
 use Rattle.rows.specs.Region.{Only}
 use Rattle.rows.specs.Retain.{RetainAsks}
 use Rattle.rows.proofs.Regions.{only-none, only-both}
-use Rattle.leaving.specs.Pass.{PassAsks, Flagged, MarkGives, LeaveGives}
+use Rattle.leaving.specs.Pass.{PassAsks, MarkGives, LeaveGives}
 use Rattle.leaving.proofs.ByFlags.{may-leave}
 use Rattle.leaving.proofs.Standing.{dropped-state, left-inside, fewer-taken}
 use Rattle.rules.specs.Mesh.{pointsOf}
@@ -85,16 +85,6 @@ module _ {k : ℕ} {m : Lists} (a : Stands k m) where
 pub collided-leave :
     {marked : ℕ → Bool} {qs : List Float} {xs : List ℕ} {n : ℕ} {w w′ : List ℕ} {at : ℕ} → PassAsks (taken (length qs / 3) n) qs xs n w → MarkGives marked (taken (length qs / 3) n) n w w′ at → RetainAsks xs w′ at n
 collided-leave p g = may-leave (p .stand .fit) (p .stand .room) g
-
--- the faces that were marked are those that left
-pub left-by :
-    {marked : ℕ → Bool} {j : ℕ} {xs : List ℕ} {n : ℕ} {w w′ : List ℕ} {at : ℕ} {xs′ : List ℕ} {r : ℕ}
-    → MarkGives marked j n w w′ at → ((by : ℕ → Bool) → Flagged w′ at n by → LeaveGives by xs n xs′ r) → LeaveGives marked xs n xs′ r
-left-by {marked} g leaves = leaves marked (g .flags)
-
--- no more stay than stood
-pub left-fewer : {marked : ℕ → Bool} {xs : List ℕ} {n : ℕ} {xs′ : List ℕ} {r : ℕ} → LeaveGives marked xs n xs′ r → r ≤ n
-left-fewer g = omega (arith, g .number)
 
 -- the lists once faces have left
 abbrev pub left : Lists → List ℕ → ℕ → List ℕ → Lists

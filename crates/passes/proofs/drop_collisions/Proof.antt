@@ -1,6 +1,7 @@
 -- `passes::drop_collisions` meets its contract: every face stays, or those that collide are marked and leave. Assumes nothing.
 use Rattle.rows.proofs.Regions.{only-none}
-use Rattle.passes.proofs.Steps.{collided-leave, left-by}
+use Rattle.leaving.proofs.ByFlags.{left-by}
+use Rattle.passes.proofs.Steps.{collided-leave}
 use Rattle.resolve_directed_collisions.proofs.Staying.{all-stay}
 use borrow.Author.Needs.{needs}
 use Rattle.passes.proofs.drop_collisions.Statement.{statement}

@@ -1,6 +1,7 @@
 -- `passes::pass1` meets its contract: the pass is on and marked faces leave, or it is off. Assumes nothing.
 use mathlib.Core.Path.{sym, _∙_}
-use Rattle.passes.proofs.Steps.{bit-set, bit-clear, left-by, left-fewer, lowest, as-long}
+use Rattle.leaving.proofs.ByFlags.{left-by, left-fewer}
+use Rattle.passes.proofs.Steps.{bit-set, bit-clear, lowest, as-long}
 use Rattle.passes.proofs.Passes.{reads1, leaves1, on1, off1}
 use borrow.Author.Needs.{needs}
 use Rattle.passes.proofs.pass1.Statement.{statement}

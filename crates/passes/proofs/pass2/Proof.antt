@@ -1,5 +1,6 @@
 -- `passes::pass2` meets its contract: the pass is on and marked faces leave, or it is off. Assumes nothing.
-use Rattle.passes.proofs.Steps.{bit-set, bit-clear, left-by, left-fewer}
+use Rattle.leaving.proofs.ByFlags.{left-by, left-fewer}
+use Rattle.passes.proofs.Steps.{bit-set, bit-clear}
 use Rattle.passes.proofs.Passes.{reads2, leaves2, on2, off2}
 use borrow.Author.Needs.{needs}
 use Rattle.passes.proofs.pass2.Statement.{statement}

@@ -1,6 +1,7 @@
 -- `passes::pass3` meets its contract: the pass is on and marked faces leave, or it is off. Assumes nothing.
 use mathlib.Core.Path.{sym}
-use Rattle.passes.proofs.Steps.{bit-set, bit-clear, left-by, left-fewer, as-long}
+use Rattle.leaving.proofs.ByFlags.{left-by, left-fewer}
+use Rattle.passes.proofs.Steps.{bit-set, bit-clear, as-long}
 use Rattle.passes.proofs.Passes.{reads3, leaves3, on3, off3}
 use borrow.Author.Needs.{needs}
 use Rattle.passes.proofs.pass3.Statement.{statement}

@@ -1,6 +1,7 @@
 -- `passes::pass4` meets its contract: the pass is on and both halves follow each other, or it is off. Assumes nothing.
 use native.Mathlib.Omega.{arith}
-use Rattle.passes.proofs.Steps.{bit-set, bit-clear, left-fewer, as-long}
+use Rattle.leaving.proofs.ByFlags.{left-fewer}
+use Rattle.passes.proofs.Steps.{bit-set, bit-clear, as-long}
 use Rattle.passes.proofs.Passes.{reads4, on4, off4, turned-reads}
 use borrow.Author.Needs.{needs}
 use Rattle.passes.proofs.pass4.Statement.{statement}

@@ -46,12 +46,12 @@ told (refused number place) = number ∷ place ∷ []
 repairing : List Float → List ℕ → Float → ℕ → RepairRooms → List (List ℕ)
 repairing points faces s options r =
     let o = repair points faces s options r in
-    told (o .answer) ∷ bits (o .rooms .points) ∷ o .rooms .faces ∷ o .rooms .report ∷ o .rooms .work ∷ []
+    told (o .answer) ∷ bits (o .rooms .out-points) ∷ o .rooms .out-faces ∷ o .rooms .report ∷ o .rooms .work ∷ []
 
 edging : List Float → List ℕ → EdgesRooms → List (List ℕ)
 edging points faces r =
     let o = find-edges points faces r in
-    told (o .answer) ∷ o .rooms .ends ∷ bits (o .rooms .lengths) ∷ o .rooms .face-edges ∷ o .rooms .loop-vertices ∷ o .rooms .loop-ends ∷ o .rooms .work ∷ []
+    told (o .answer) ∷ o .rooms .edges ∷ bits (o .rooms .lengths) ∷ o .rooms .face-edges ∷ o .rooms .loop-vertices ∷ o .rooms .loop-ends ∷ o .rooms .work ∷ []
 
 checking : ℕ → List ℕ → List ℕ → List (List ℕ)
 checking P faces work = let o = check P faces work in told (o .answer) ∷ o .rooms ∷ []
@@ -59,7 +59,7 @@ checking P faces work = let o = check P faces work in told (o .answer) ∷ o .ro
 patching : List Float → List ℕ → List ℕ → ℕ → Filter → PatchesRooms → List (List ℕ)
 patching points faces labels C by r =
     let o = find-patches points faces labels C by r in
-    told (o .answer) ∷ o .rooms .counts ∷ bits (o .rooms .numbers) ∷ o .rooms .flags ∷ o .rooms .work ∷ []
+    told (o .answer) ∷ o .rooms .face-counts ∷ bits (o .rooms .numbers) ∷ o .rooms .flags ∷ o .rooms .work ∷ []
 
 lining : List ℕ → List ℕ → List (List ℕ)
 lining counts r = let o = write-line counts r in told (o .answer) ∷ o .rooms ∷ []
@@ -189,14 +189,14 @@ def claim(call, case, answer):
         P, F = len(points) // 3, len(faces) // 3
         kinds = [DIRTY64, DIRTY32, DIRTY32, DIRTY32]
         stated = [3 * (P + 3 * F), 3 * F, 10, 16 * P + 64 * F + 64]
-        lent = rooms(["points", "faces", "report", "work"], lengths, kinds)
+        lent = rooms(["out-points", "out-faces", "report", "work"], lengths, kinds)
         found = "repairing (floats %s) %s (ofBits binary64 %d) %d %s" % (listed(points), listed(faces), s, options, lent)
     elif call == 2:
         points, faces, lengths = w.array(), w.array(), w.array()
         P, F = len(points) // 3, len(faces) // 3
         kinds = [DIRTY32, DIRTY64, DIRTY32, DIRTY32, DIRTY32, DIRTY32]
         stated = [6 * F, 3 * F, 3 * F, 3 * F, 3 * F, 16 * P + 64 * F + 64]
-        lent = rooms(["ends", "lengths", "face-edges", "loop-vertices", "loop-ends", "work"], lengths, kinds)
+        lent = rooms(["edges", "lengths", "face-edges", "loop-vertices", "loop-ends", "work"], lengths, kinds)
         found = "edging (floats %s) %s %s" % (listed(points), listed(faces), lent)
         if number == 0:
             answers[3:5] = turned(answers[3], answers[4])
@@ -214,7 +214,7 @@ def claim(call, case, answer):
         stated = [C, 7 * C, C, 4 * C]
         names = ["min-faces", "min-area", "min-diagonal", "min-fraction", "keep-largest"]
         limits = "; ".join("%s = %s" % (f, limit(*p, real=f not in ("min-faces", "keep-largest"))) for f, p in zip(names, pairs))
-        lent = rooms(["counts", "numbers", "flags", "work"], lengths, kinds)
+        lent = rooms(["face-counts", "numbers", "flags", "work"], lengths, kinds)
         found = "patching (floats %s) %s %s %d (record { %s }) %s" % (listed(points), listed(faces), listed(labels), C, limits, lent)
     else:
         counts, lengths = w.array(), w.array()

@@ -5,7 +5,8 @@ use Prim.Native.Nat.{ℕ, _/_}
 use lib.ListN.{length, take}
 use lib.Ieee.{Float}
 use Rattle.rules.specs.Rooms.{Answer, accepted, refused}
-use Rattle.rules.specs.Calls.{EdgesRooms, repair, find-edges}
+use Rattle.rules.specs.RepairCall.{repair}
+use Rattle.rules.specs.EdgesCall.{EdgesRooms, find-edges}
 use Rattle.rules.proofs.Demand.{Rooms-enough}
 use Rattle.repair.specs.declared.Repaired.the-variants as repaired
 use Rattle.repair.specs.Answers as repaired-as

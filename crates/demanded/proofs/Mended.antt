@@ -7,7 +7,8 @@ use lib.Ieee.{Float}
 use Rattle.rules.specs.Mesh.{pointsOf, facesOf}
 use Rattle.rules.specs.State.{State, report-counts}
 use Rattle.rules.specs.Rooms.{accepted}
-use Rattle.rules.specs.Calls.{EdgesRooms, repair, find-edges}
+use Rattle.rules.specs.RepairCall.{repair}
+use Rattle.rules.specs.EdgesCall.{EdgesRooms, find-edges}
 use Rattle.rules.proofs.Demand.{Demand3, Beside, Looped, Rooms-enough}
 use Rattle.rules.proofs.Called.{Called3, called3, left}
 use Rattle.repair.specs.declared.Repaired.the-variants.{Done}
@@ -25,7 +26,7 @@ module _ (points : List Float) (faces : List ℕ) (s : Float) (ps : List Float) 
 
   -- what stands in the rooms is what the rules speak of
   standing-is : standing a b ps′ xs′ rs′ ≡ left points faces s (roomsOf ps xs rs w) (a ∷ b ∷ report-counts ∷ [])
-  standing-is = ap (λ o. standing a b (o .rooms .points) (o .rooms .faces) (o .rooms .report)) e
+  standing-is = ap (λ o. standing a b (o .rooms .out-points) (o .rooms .out-faces) (o .rooms .report)) e
 
   -- demand 3 holds of it
   pub demanded : Demand3 (pointsOf points) (facesOf faces) (standing a b ps′ xs′ rs′)
@@ -40,9 +41,9 @@ module _ (points : List Float) (faces : List ℕ) (s : Float) (ps : List Float) 
       (q : EdgesRooms) → Rooms-enough (length (take a ps′) / 3) (length (take b xs′) / 3) q
       → (k : List ℕ) × (find-edges (take a ps′) (take b xs′) q .answer ≡ accepted k)
   demanded-edges =
-      subst (λ o. (q : EdgesRooms) → Rooms-enough (length (take a (o .rooms .points)) / 3) (length (take b (o .rooms .faces)) / 3) q
-      → (k : List ℕ) × (find-edges (take a (o .rooms .points)) (take b (o .rooms .faces)) q .answer ≡ accepted k)) (sym e) (said .edge-call)
+      subst (λ o. (q : EdgesRooms) → Rooms-enough (length (take a (o .rooms .out-points)) / 3) (length (take b (o .rooms .out-faces)) / 3) q
+      → (k : List ℕ) × (find-edges (take a (o .rooms .out-points)) (take b (o .rooms .out-faces)) q .answer ≡ accepted k)) (sym e) (said .edge-call)
 
   -- each boundary edge of it is in exactly one loop
   pub demanded-loops : Looped (length (take a ps′) / 3) (facesOf (take b xs′))
-  demanded-loops = subst (λ o. Looped (length (take a (o .rooms .points)) / 3) (facesOf (take b (o .rooms .faces)))) (sym e) (said .edge-loops)
+  demanded-loops = subst (λ o. Looped (length (take a (o .rooms .out-points)) / 3) (facesOf (take b (o .rooms .out-faces)))) (sym e) (said .edge-loops)

@@ -12,13 +12,12 @@ use Rattle.rules.specs.Mesh.{facesOf}
 use Rattle.rules.specs.Refusal.{decided}
 use Rattle.rules.specs.Rooms.{work-room, filled, cleared, outcome}
 use Rattle.rules.specs.Edges as rule
-use Rattle.rules.specs.Calls.{check-check, check}
-use Rattle.refuse.specs.Verdicts.{checkOf, check-list}
-use Rattle.refuse.specs.Accepted.{CheckAccepted}
+use Rattle.rules.specs.CheckCall.{check-check, check}
+use Rattle.refuse.specs.Verdicts.{checkOf}
 use Rattle.refuse.specs.declared.Verdict.{Verdict}
 use Rattle.refuse.specs.declared.Verdict.the-variants.{Fine, Refused}
-use Rattle.refuse.proofs.Calls.{check-is}
-use Rattle.refuse.proofs.Accept.{check-accepted}
+use Rattle.edge_check_refusal.specs.Checks.{check-list, CheckAccepted}
+use Rattle.edge_check_refusal.proofs.Accept.{check-is, check-accepted}
 use Rattle.edge_check.specs.declared.Checked.the-variants as checked
 use Rattle.edge_check.specs.Answers.{outcomeOf, SoundGives}
 

@@ -16,7 +16,8 @@ use Rattle.rules.specs.Rooms.{work-room}
 use Rattle.rules.proofs.Rising.{all-from}
 use Rattle.rules.proofs.Flat.{face-in, length-faces}
 use Rattle.rules.proofs.Once.{Corners-below, Inside}
-use Rattle.refuse.specs.Accepted.{Faces, CheckAccepted}
+use Rattle.refuse.specs.Accepted.{Faces}
+use Rattle.edge_check_refusal.specs.Checks.{CheckAccepted}
 use Rattle.table.specs.Table.{TableAsks, TableGives}
 use Rattle.table.proofs.Ids.{three-faces, directed-keys}
 use Rattle.edge_check.specs.Answers.{SoundGives}

@@ -7,8 +7,8 @@ ghost use lib.ListN.{length};
 ghost use Rattle.rules.specs.Lists.{all};
 ghost use Rattle.rules.specs.Mesh.{facesOf, face};
 ghost use Rattle.rules.specs.Float.{repeats};
-ghost use Rattle.rules.specs.Calls as rule;
-ghost use Rattle.refuse.specs.Accepted.{CheckAccepted};
+ghost use Rattle.rules.specs.CheckCall as rule;
+ghost use Rattle.edge_check_refusal.specs.Checks.{CheckAccepted};
 ghost use Rattle.edge_check.specs.Answers.{outcomeOf, SoundGives};
 
 // What the edge check gives back: yes or no, or a refusal's number and place.
@@ -64,7 +64,7 @@ fn sound(count: usize, faces: &[u32], work: &mut [u32]) -> bool
 pub fn check(count: usize, faces: &[u32], work: &mut [u32]) -> Checked
     ensures { λ r. ⌜ outcomeOf r (now (work .exit)) ≡ rule.check count (now (faces .entry)) (now (work .entry)) ⌝ }
 {
-    match refuse::check_check(count, faces, work.len()) {
+    match edge_check_refusal::edge_check_refusal(count, faces, work.len()) {
         Verdict::Fine => {}
         Verdict::Refused(number, place) => {
             return Checked::Refused(number, place);

@@ -11,15 +11,13 @@ use Rattle.rules.specs.Steps.{edges}
 use Rattle.rules.specs.Refusal.{Check, ok, decided}
 use Rattle.rules.specs.Rooms.{filled, cleared, Outcome, outcome}
 use Rattle.rules.specs.Edges as rule
-use Rattle.rules.specs.Calls.{EdgesRooms, edges-check, find-edges}
+use Rattle.rules.specs.EdgesCall.{EdgesRooms, edges-check, find-edges}
 use Rattle.rules.proofs.Decided.{decided-all}
 use Rattle.refuse.specs.Verdicts as refuse
-use Rattle.refuse.specs.Verdicts.{edges-list}
-use Rattle.refuse.specs.Accepted.{EdgesAccepted}
 use Rattle.refuse.specs.declared.Verdict.{Verdict}
 use Rattle.refuse.specs.declared.Verdict.the-variants.{Fine, Refused}
-use Rattle.refuse.proofs.Calls.{edges-refused, edges-go-on}
-use Rattle.refuse.proofs.Accept.{edges-accepted}
+use Rattle.edges_refusal.specs.Checks.{edges-list, EdgesAccepted}
+use Rattle.edges_refusal.proofs.Accept.{edges-refused, edges-go-on, edges-accepted}
 use Rattle.table.proofs.Theorems.{edge-count}
 use Rattle.filling.proofs.Filling.{drop-kept}
 use Rattle.edges.specs.declared.Drawn.{Drawn}
@@ -35,7 +33,7 @@ cleared-kept {n} o = ap (λ l. [] ++ replicate (n - 0) 0 ++ l) (drop-kept o)
 
 -- the rooms with another work room
 abbrev pub with-work : EdgesRooms → List ℕ → EdgesRooms
-with-work r w = roomsOf (r .ends) (r .lengths) (r .face-edges) (r .loop-vertices) (r .loop-ends) w
+with-work r w = roomsOf (r .edges) (r .lengths) (r .face-edges) (r .loop-vertices) (r .loop-ends) w
 
 -- the rules' outcome of a check
 abbrev outcome-of : List Float → List ℕ → EdgesRooms → Check → Outcome EdgesRooms
@@ -46,7 +44,7 @@ outcome-of ps xs r c =
     (after ps xs r)
 
 module _ (ps : List Float) (xs : List ℕ) (r : EdgesRooms) (v : Verdict)
-    (e : refuse.checkOf v ≡ decided (edges-list ps xs (length (r .ends)) (length (r .lengths)) (length (r .face-edges)) (length (r .loop-vertices)) (length (r .loop-ends)) (length (r .work)))) where
+    (e : refuse.checkOf v ≡ decided (edges-list ps xs (length (r .edges)) (length (r .lengths)) (length (r .face-edges)) (length (r .loop-vertices)) (length (r .loop-ends)) (length (r .work)))) where
   -- refused up to 6
   pub is-refused : (n p : ℕ) → v ≡ Refused n p → outcomeOf (found.Refused n p) r ≡ find-edges ps xs r
   unfolding find-edges outcome
@@ -54,7 +52,7 @@ module _ (ps : List Float) (xs : List ℕ) (r : EdgesRooms) (v : Verdict)
 
   module _ (t : v ≡ Fine) where
     -- what the call may start from
-    pub is-accepted : EdgesAccepted ps xs (length (r .ends)) (length (r .lengths)) (length (r .face-edges)) (length (r .loop-vertices)) (length (r .loop-ends)) (length (r .work))
+    pub is-accepted : EdgesAccepted ps xs (length (r .edges)) (length (r .lengths)) (length (r .face-edges)) (length (r .loop-vertices)) (length (r .loop-ends)) (length (r .work))
     is-accepted = edges-accepted ps xs _ _ _ _ _ _ (sym e ∙ ap refuse.checkOf t)
 
     -- what the verdict asks

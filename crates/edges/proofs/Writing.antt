@@ -12,13 +12,14 @@ use Rattle.rules.specs.Mesh.{facesOf, pointsOf, zero64}
 use Rattle.rules.specs.Steps.{edges}
 use Rattle.rules.specs.Rooms.{work-room, filled, cleared}
 use Rattle.rules.specs.Edges as rule
-use Rattle.rules.specs.Calls.{EdgesRooms, both-ends}
+use Rattle.rules.specs.Edges.{both-ends}
+use Rattle.rules.specs.EdgesCall.{EdgesRooms}
 use Rattle.table.proofs.Frames.{only2-wide}
 use Rattle.table.proofs.Theorems.{edge-count}
 use Rattle.filling.proofs.Filling.{cleared-is}
 use Rattle.boundary.specs.Rows.{onward}
 use Rattle.listing.specs.Listing as listing
-use Rattle.listing.specs.Listing.{EdgesAsks, ListLengthsAsks, ListLengthsGives, SidesAsks, SidesGives}
+use Rattle.listing.specs.Listing.{EdgesAsks, ListLengthsAsks, ListLengthsGives, FaceEdgesAsks, FaceEdgesGives}
 use Rattle.listing.proofs.Ends.{fewer}
 use Rattle.loops.specs.Loops.{LoopsAsks, LoopsGives}
 use Rattle.edges.specs.Answers.{roomsOf}
@@ -46,7 +47,7 @@ module _ {ps : List Float} {xs : List ℕ} {m : ℕ} {r : EdgesRooms} (a : ListA
   -- ---- what each step asks
 
   -- the edges
-  abbrev pub edges-asks : EdgesAsks (r .work) xs 0 m (r .ends)
+  abbrev pub edges-asks : EdgesAsks (r .work) xs 0 m (r .edges)
   edges-asks = record { P = P; tabled = a .stands .tabled; room = omega (arith, a .accepted .room-edges, sizes) }
 
   -- there are no more of them than entries
@@ -54,7 +55,7 @@ module _ {ps : List Float} {xs : List ℕ} {m : ℕ} {r : EdgesRooms} (a : ListA
   few-edges = fewer edges-asks
 
   -- the lengths, from the room of the edges
-  pub lengths-asks : {e′ : List ℕ} → ((q : EdgesAsks (r .work) xs 0 m (r .ends)) → listing.ListGives q e′) → ListLengthsAsks ps xs e′ m (r .lengths)
+  pub lengths-asks : {e′ : List ℕ} → ((q : EdgesAsks (r .work) xs 0 m (r .edges)) → listing.ListGives q e′) → ListLengthsAsks ps xs e′ m (r .lengths)
   lengths-asks g =
       let y = g edges-asks in
       record {
@@ -66,8 +67,8 @@ module _ {ps : List Float} {xs : List ℕ} {m : ℕ} {r : EdgesRooms} (a : ListA
       }
 
   -- the edges of the faces
-  abbrev pub sides-asks : SidesAsks (r .work) xs 0 (r .face-edges)
-  sides-asks = record { P = P; m = m; tabled = a .stands .tabled; room = omega (arith, a .accepted .room-face-edges, sizes) }
+  abbrev pub face-edges-asks : FaceEdgesAsks (r .work) xs 0 (r .face-edges)
+  face-edges-asks = record { P = P; m = m; tabled = a .stands .tabled; room = omega (arith, a .accepted .room-face-edges, sizes) }
 
   -- the loops
   pub loops-asks : LoopsAsks (r .work) xs P (5 * length xs + 1 + 3 * P) (5 * length xs + 1 + 3 * P + P) (r .loop-vertices) (r .loop-ends)
@@ -92,9 +93,9 @@ module _ {ps : List Float} {xs : List ℕ} {m : ℕ} {r : EdgesRooms} (a : ListA
   -- ---- the rooms
 
   module _ {e′ : List ℕ} {l′ : List Float} {s′ w′ v′ n′ : List ℕ} {total count : ℕ}
-      (ge : (q : EdgesAsks (r .work) xs 0 m (r .ends)) → listing.ListGives q e′)
+      (ge : (q : EdgesAsks (r .work) xs 0 m (r .edges)) → listing.ListGives q e′)
       (gl : ListLengthsGives ps xs (r .lengths) l′)
-      (gs : (q : SidesAsks (r .work) xs 0 (r .face-edges)) → SidesGives q s′)
+      (gs : (q : FaceEdgesAsks (r .work) xs 0 (r .face-edges)) → FaceEdgesGives q s′)
       (go : LoopsGives (r .work) xs P (5 * length xs + 1 + 3 * P) (5 * length xs + 1 + 3 * P + P) (r .loop-vertices) (r .loop-ends) w′ v′ n′ total count) where
     -- the walks stay in the stated work room
     walks-only : Only 0 (16 * P + 64 * (length xs / 3) + 64) (r .work) w′
@@ -113,9 +114,9 @@ module _ {ps : List Float} {xs : List ℕ} {m : ℕ} {r : EdgesRooms} (a : ListA
         let s = sizes in
         let two : 2 * length xs ≡ 6 * (length xs / 3) = omega (arith, s) in
         let one : length xs ≡ 3 * (length xs / 3) = omega (arith, s) in
-        let pe : e′ ≡ filled 0 (6 * (length xs / 3)) (each both-ends (edges P (facesOf xs))) (r .ends) = ge edges-asks .whole ∙ ap (λ k. filled 0 k (each both-ends (edges P (facesOf xs))) (r .ends)) two in
+        let pe : e′ ≡ filled 0 (6 * (length xs / 3)) (each both-ends (edges P (facesOf xs))) (r .edges) = ge edges-asks .whole ∙ ap (λ k. filled 0 k (each both-ends (edges P (facesOf xs))) (r .edges)) two in
         let pl : l′ ≡ filled zero64 (3 * (length xs / 3)) (rule.lengths (pointsOf ps) (facesOf xs)) (r .lengths) = gl .whole ∙ ap (λ k. filled zero64 k (rule.lengths (pointsOf ps) (facesOf xs)) (r .lengths)) one in
-        let ps′ : s′ ≡ filled 0 (3 * (length xs / 3)) (rule.face-edges P (facesOf xs)) (r .face-edges) = gs sides-asks .whole ∙ ap (λ k. filled 0 k (rule.face-edges P (facesOf xs)) (r .face-edges)) one in
+        let ps′ : s′ ≡ filled 0 (3 * (length xs / 3)) (rule.face-edges P (facesOf xs)) (r .face-edges) = gs face-edges-asks .whole ∙ ap (λ k. filled 0 k (rule.face-edges P (facesOf xs)) (r .face-edges)) one in
         let pv : v′ ≡ filled 0 (3 * (length xs / 3)) (rule.loop-vertices P (facesOf xs)) (r .loop-vertices) = go .vertices ∙ ap (λ k. filled 0 k (rule.loop-vertices P (facesOf xs)) (r .loop-vertices)) one in
         let pn : n′ ≡ filled 0 (3 * (length xs / 3)) (rule.loop-ends P (facesOf xs)) (r .loop-ends) = go .ends ∙ ap (λ k. filled 0 k (rule.loop-ends P (facesOf xs)) (r .loop-ends)) one in
         let pw : w″ ≡ cleared (16 * P + 64 * (length xs / 3) + 64) (r .work) = cleared-is (s .stated) (only-both walks-only o) z in

@@ -12,8 +12,10 @@ use Rattle.rules.specs.Steps.{edges}
 use Rattle.rules.specs.Refusal.{Check, ok, no, decided}
 use Rattle.rules.specs.Rooms.{work-room, filled, cleared}
 use Rattle.rules.specs.Edges as rule
-use Rattle.rules.specs.Calls.{EdgesRooms, both-ends}
-use Rattle.refuse.specs.Accepted.{Faces, EdgesAccepted}
+use Rattle.rules.specs.Edges.{both-ends}
+use Rattle.rules.specs.EdgesCall.{EdgesRooms}
+use Rattle.refuse.specs.Accepted.{Faces}
+use Rattle.edges_refusal.specs.Checks.{EdgesAccepted}
 use Rattle.table.specs.Table.{Tabled}
 use Rattle.boundary.specs.Rows.{onward}
 use Rattle.edges.specs.declared.Drawn.{Drawn}
@@ -62,7 +64,7 @@ pub record PrepareGives (w xs : List ℕ) (P : ℕ) (w′ : List ℕ) (r : Drawn
 
 -- an accepted call whose table stands
 pub record ListAsks (ps : List Float) (xs : List ℕ) (m : ℕ) (r : EdgesRooms) : Type 0 where
-  pub accepted : EdgesAccepted ps xs (length (r .ends)) (length (r .lengths)) (length (r .face-edges)) (length (r .loop-vertices)) (length (r .loop-ends)) (length (r .work))
+  pub accepted : EdgesAccepted ps xs (length (r .edges)) (length (r .lengths)) (length (r .face-edges)) (length (r .loop-vertices)) (length (r .loop-ends)) (length (r .work))
   pub simple : rule.no8 (length ps / 3) (facesOf xs) ≡ ok
   pub stands : Stands (r .work) xs (length ps / 3) m
 
@@ -70,7 +72,7 @@ pub record ListAsks (ps : List Float) (xs : List ℕ) (m : ℕ) (r : EdgesRooms)
 abbrev pub after : List Float → List ℕ → EdgesRooms → EdgesRooms
 after ps xs r =
     record {
-      ends = filled 0 (6 * (length xs / 3)) (each both-ends (edges (length ps / 3) (facesOf xs))) (r .ends);
+      edges = filled 0 (6 * (length xs / 3)) (each both-ends (edges (length ps / 3) (facesOf xs))) (r .edges);
       lengths = filled zero64 (3 * (length xs / 3)) (rule.lengths (pointsOf ps) (facesOf xs)) (r .lengths);
       face-edges = filled 0 (3 * (length xs / 3)) (rule.face-edges (length ps / 3) (facesOf xs)) (r .face-edges);
       loop-vertices = filled 0 (3 * (length xs / 3)) (rule.loop-vertices (length ps / 3) (facesOf xs)) (r .loop-vertices);
@@ -79,7 +81,7 @@ after ps xs r =
     }
 
 -- every room is the rules', and so are the counts of the loops
-pub record ListGives (ps : List Float) (xs : List ℕ) (r r′ : EdgesRooms) (vertices ends : ℕ) : Type 0 where
-  pub vertices-is : vertices ≡ length (rule.loop-vertices (length ps / 3) (facesOf xs))
-  pub ends-is : ends ≡ length (rule.loop-ends (length ps / 3) (facesOf xs))
+pub record ListGives (ps : List Float) (xs : List ℕ) (r r′ : EdgesRooms) (loop-vertices loop-ends : ℕ) : Type 0 where
+  pub vertices-is : loop-vertices ≡ length (rule.loop-vertices (length ps / 3) (facesOf xs))
+  pub ends-is : loop-ends ≡ length (rule.loop-ends (length ps / 3) (facesOf xs))
   pub rooms : r′ ≡ after ps xs r

@@ -6,13 +6,13 @@
 //     5n + 1 + P    2P           how many boundary edges begin and end at each vertex (crate boundary)
 //     5n + 1 + 3P   P            where the boundary goes on from each vertex (crates boundary and loops)
 //     5n + 1 + 4P   n            a walk, before it is listed (crate loops)
+use edges_refusal::Rooms;
 use loops::Loops;
-use refuse::EdgesRooms;
 use refuse::Verdict;
 ghost use mathlib.Core.Path.{_≡_};
 ghost use Prim.Native.Nat.{_/_};
 ghost use lib.ListN.{length};
-ghost use Rattle.rules.specs.Calls as rule;
+ghost use Rattle.rules.specs.EdgesCall as rule;
 ghost use Rattle.edges.specs.Answers.{outcomeOf, roomsOf};
 ghost use Rattle.edges.specs.Steps.{DrawAsks, DrawGives, PrepareGives, ListAsks, ListGives};
 
@@ -75,20 +75,28 @@ fn list(
     m: usize,
     edges: &mut [u32],
     lengths: &mut [f64],
-    sides: &mut [u32],
-    vertices: &mut [u32],
-    ends: &mut [u32],
+    face_edges: &mut [u32],
+    loop_vertices: &mut [u32],
+    loop_ends: &mut [u32],
     work: &mut [u32],
 ) -> Loops
-    requires { ⌜ ListAsks (now points) (now faces) m (roomsOf (now edges) (now lengths) (now sides) (now vertices) (now ends) (now work)) ⌝ }
-    ensures { λ r. ⌜ ListGives (now (points .entry)) (now (faces .entry)) (roomsOf (now (edges .entry)) (now (lengths .entry)) (now (sides .entry)) (now (vertices .entry)) (now (ends .entry)) (now (work .entry))) (roomsOf (now (edges .exit)) (now (lengths .exit)) (now (sides .exit)) (now (vertices .exit)) (now (ends .exit)) (now (work .exit))) (r .vertices) (r .ends) ⌝ }
+    requires { ⌜ ListAsks (now points) (now faces) m (roomsOf (now edges) (now lengths) (now «face_edges») (now «loop_vertices») (now «loop_ends») (now work)) ⌝ }
+    ensures { λ r. ⌜ ListGives (now (points .entry)) (now (faces .entry)) (roomsOf (now (edges .entry)) (now (lengths .entry)) (now («face_edges» .entry)) (now («loop_vertices» .entry)) (now («loop_ends» .entry)) (now (work .entry))) (roomsOf (now (edges .exit)) (now (lengths .exit)) (now («face_edges» .exit)) (now («loop_vertices» .exit)) (now («loop_ends» .exit)) (now (work .exit))) (r .«loop_vertices») (r .«loop_ends») ⌝ }
 {
     let count = points.len() / 3;
     let next = 5 * faces.len() + 1 + 3 * count;
     listing::list_edges(work, faces, 0, m, edges);
     listing::list_lengths(points, faces, edges, m, lengths);
-    listing::list_face_edges(work, faces, 0, sides);
-    let found = loops::list_loops(work, faces, count, next, next + count, vertices, ends);
+    listing::list_face_edges(work, faces, 0, face_edges);
+    let found = loops::list_loops(
+        work,
+        faces,
+        count,
+        next,
+        next + count,
+        loop_vertices,
+        loop_ends,
+    );
     wiping::wipe(work, 0, 16 * count + 64 * (faces.len() / 3) + 64);
     found
 }
@@ -100,22 +108,22 @@ pub fn find_edges(
     faces: &[u32],
     edges: &mut [u32],
     lengths: &mut [f64],
-    sides: &mut [u32],
-    vertices: &mut [u32],
-    ends: &mut [u32],
+    face_edges: &mut [u32],
+    loop_vertices: &mut [u32],
+    loop_ends: &mut [u32],
     work: &mut [u32],
 ) -> Found
-    ensures { λ r. ⌜ outcomeOf r (roomsOf (now (edges .exit)) (now (lengths .exit)) (now (sides .exit)) (now (vertices .exit)) (now (ends .exit)) (now (work .exit))) ≡ rule.find-edges (now (points .entry)) (now (faces .entry)) (roomsOf (now (edges .entry)) (now (lengths .entry)) (now (sides .entry)) (now (vertices .entry)) (now (ends .entry)) (now (work .entry))) ⌝ }
+    ensures { λ r. ⌜ outcomeOf r (roomsOf (now (edges .exit)) (now (lengths .exit)) (now («face_edges» .exit)) (now («loop_vertices» .exit)) (now («loop_ends» .exit)) (now (work .exit))) ≡ rule.find-edges (now (points .entry)) (now (faces .entry)) (roomsOf (now (edges .entry)) (now (lengths .entry)) (now («face_edges» .entry)) (now («loop_vertices» .entry)) (now («loop_ends» .entry)) (now (work .entry))) ⌝ }
 {
-    let rooms = EdgesRooms {
+    let rooms = Rooms {
         edges: edges.len(),
         lengths: lengths.len(),
-        sides: sides.len(),
-        loops: vertices.len(),
-        ends: ends.len(),
+        face_edges: face_edges.len(),
+        loop_vertices: loop_vertices.len(),
+        loop_ends: loop_ends.len(),
         work: work.len(),
     };
-    match refuse::edges_check(points, faces, rooms) {
+    match edges_refusal::edges_refusal(points, faces, rooms) {
         Verdict::Fine => {}
         Verdict::Refused(number, place) => {
             return Found::Refused(number, place);
@@ -129,12 +137,12 @@ pub fn find_edges(
                 m,
                 edges,
                 lengths,
-                sides,
-                vertices,
-                ends,
+                face_edges,
+                loop_vertices,
+                loop_ends,
                 work,
             );
-            Found::Done(2 * m, m, faces.len(), found.vertices, found.ends)
+            Found::Done(2 * m, m, faces.len(), found.loop_vertices, found.loop_ends)
         }
         Drawn::Refused(number, place) => Found::Refused(number, place),
     }

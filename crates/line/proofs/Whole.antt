@@ -4,18 +4,17 @@ use mathlib.Core.List.{List, _++_}
 use Prim.Native.Nat.{ℕ, _+_, _-_, _*_, _≤_, _<_}
 use native.Mathlib.Omega.{arith}
 use lib.ListN.{length, getD, replicate, length-append, length-replicate}
-use Rattle.refuse.specs.Accepted.{LineAccepted}
-use Rattle.refuse.specs.Verdicts.{checkOf, line-list}
+use Rattle.refuse.specs.Verdicts.{checkOf}
 use Rattle.refuse.specs.declared.Verdict.{Verdict}
 use Rattle.refuse.specs.declared.Verdict.the-variants as verdict
-use Rattle.refuse.proofs.Accept.{line-accepted}
-use Rattle.refuse.proofs.Calls.{line-is}
 use Rattle.refuse.proofs.Groups.{found-none}
+use Rattle.line_refusal.specs.Checks.{line-list, LineAccepted}
+use Rattle.line_refusal.proofs.Accept.{line-is, line-accepted}
 use Rattle.rules.specs.Lists.{filter}
 use Rattle.rules.specs.Line.{bytes, joined, line}
 use Rattle.rules.specs.Refusal.{ok, no, decided}
 use Rattle.rules.specs.Rooms.{filled, outcome}
-use Rattle.rules.specs.Calls.{line-check, write-line}
+use Rattle.rules.specs.LineCall.{line-check, write-line}
 use Rattle.line.specs.declared.Lined.the-variants as lined
 use Rattle.line.specs.Put.{label-count, Puts, PartAsks, LineGives, more, shown, parts, outcomeOf}
 use Rattle.line.proofs.Putting.{puts-none, puts-both, puts-front}

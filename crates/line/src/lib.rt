@@ -4,9 +4,9 @@ ghost use mathlib.Core.Path.{_≡_};
 ghost use mathlib.Core.List.{[], _∷_};
 ghost use Prim.Native.Nat.{_+_, _≤_};
 ghost use lib.ListN.{length, replicate};
-ghost use Rattle.refuse.specs.Accepted.{LineAccepted};
+ghost use Rattle.line_refusal.specs.Checks.{LineAccepted};
 ghost use Rattle.rules.specs.Line as rule;
-ghost use Rattle.rules.specs.Calls.{write-line};
+ghost use Rattle.rules.specs.LineCall.{write-line};
 ghost use Rattle.line.specs.Put as by;
 
 // How many labels there are.
@@ -148,7 +148,7 @@ fn put_line(counts: &[u32], line: &mut [u8]) -> usize
 pub fn line(counts: &[u32], line: &mut [u8]) -> Lined
     ensures { λ r. ⌜ by.outcomeOf r (now (line .exit)) ≡ write-line (now (counts .entry)) (now (line .entry)) ⌝ }
 {
-    match refuse::line_check(counts, line.len()) {
+    match line_refusal::line_refusal(counts, line.len()) {
         Verdict::Refused(number, place) => Lined::Refused(number, place),
         Verdict::Fine => {
             let end = put_line(counts, line);

@@ -10,7 +10,7 @@ use Rattle.rows.proofs.Regions.{only-none, only-both, only-more, kept}
 use Rattle.rules.specs.Lists.{below, each}
 use Rattle.rules.specs.Mesh.{facesOf}
 use Rattle.rules.specs.Steps.{edges}
-use Rattle.rules.specs.Calls.{both-ends}
+use Rattle.rules.specs.Edges.{both-ends}
 use Rattle.rules.proofs.Lists.{each-map}
 use Rattle.table.specs.Entries.{keysOf}
 use Rattle.table.proofs.Places.{start-least, last-start}

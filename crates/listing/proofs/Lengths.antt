@@ -15,7 +15,7 @@ use Rattle.rules.specs.Mesh.{facesOf, pointsOf, point, zero64}
 use Rattle.rules.specs.Float.{norm, difference}
 use Rattle.rules.specs.Steps.{Step, step, edge, same, entries, pairs, edges}
 use Rattle.rules.specs.Edges as rule
-use Rattle.rules.specs.Calls.{both-ends}
+use Rattle.rules.specs.Edges.{both-ends}
 use Rattle.rules.proofs.Lists.{getD-map-in, length-each}
 use Rattle.rules.proofs.Rising.{All, all-at, all-imp, all-each, all-map, all-filter, below-all}
 use Rattle.rules.proofs.Flat.{length-points}

@@ -19,7 +19,7 @@ use Rattle.table.specs.Entries.{stepAt}
 use Rattle.table.proofs.Ids.{each-snoc, step-flat}
 use Rattle.table.proofs.Theorems.{positions-row}
 use Rattle.filling.proofs.Filling.{filled-whole}
-use Rattle.listing.specs.Listing.{SidesAsks, SidesGives}
+use Rattle.listing.specs.Listing.{FaceEdgesAsks, FaceEdgesGives}
 use Rattle.listing.proofs.Blocks.{block-next, three-only, three-part}
 
 -- the runs of a face's steps 1, 2 and 0
@@ -41,10 +41,10 @@ pub record Turn (w xs : List ℕ) (at : ℕ) (r : List ℕ) (i : ℕ) : Type 0 w
   pub room : length xs ≤ length r
 
 -- none does at first
-pub begin : {w xs : List ℕ} {at : ℕ} {r : List ℕ} → SidesAsks w xs at r → Sides w xs at r r 0
+pub begin : {w xs : List ℕ} {at : ℕ} {r : List ℕ} → FaceEdgesAsks w xs at r → Sides w xs at r r 0
 begin {w} {xs} {at} {r} q = unfold below each in record { at-most = omega arith; only = only-none 0 0 r; front = refl }
 
-module _ {w xs : List ℕ} {at : ℕ} {r₀ r : List ℕ} {i : ℕ} (q : SidesAsks w xs at r₀) (v : Sides w xs at r₀ r i) where
+module _ {w xs : List ℕ} {at : ℕ} {r₀ r : List ℕ} {i : ℕ} (q : FaceEdgesAsks w xs at r₀) (v : Sides w xs at r₀ r i) where
   module _ (h : i < length xs / 3) where
     -- the reads and the stores of a turn are in bounds
     pub turn : Turn w xs at r i
@@ -73,7 +73,7 @@ each-below : {B : Type 0} (g h : ℕ → List B) (n : ℕ) → ((i : ℕ) → i 
 each-below g h zero e = unfold below each in refl
 each-below g h (suc n) e = each-snoc g n ∙ ap₂ (λ u v. u ++ v) (each-below g h n (λ i l. e i (omega arith))) (e n (omega arith)) ∙ sym (each-snoc h n)
 
-module _ {w xs : List ℕ} {at : ℕ} {r₀ : List ℕ} (q : SidesAsks w xs at r₀) where
+module _ {w xs : List ℕ} {at : ℕ} {r₀ : List ℕ} (q : FaceEdgesAsks w xs at r₀) where
   -- a whole number of faces
   abbrev whole : length xs % 3 ≡ 0
   whole = q .tabled .asks .whole
@@ -129,7 +129,7 @@ module _ {w xs : List ℕ} {at : ℕ} {r₀ : List ℕ} (q : SidesAsks w xs at r
 
   module _ {r : List ℕ} {i : ℕ} (v : Sides w xs at r₀ r i) where
     -- the room is the rules'
-    pub done : length xs / 3 ≤ i → SidesGives q r
+    pub done : length xs / 3 ≤ i → FaceEdgesGives q r
     done h =
         let s : 3 * i ≡ length xs = omega (arith, v .at-most, whole) in
         let e : i ≡ length xs / 3 = omega (arith, v .at-most) in

@@ -13,7 +13,7 @@ use Rattle.rules.specs.Float.{norm, difference}
 use Rattle.rules.specs.Steps.{Step, step, edges}
 use Rattle.rules.specs.Rooms.{filled}
 use Rattle.rules.specs.Edges as rule
-use Rattle.rules.specs.Calls.{both-ends}
+use Rattle.rules.specs.Edges.{both-ends}
 use Rattle.table.specs.Table.{Tabled}
 
 -- ---- the edges
@@ -72,12 +72,12 @@ pub record ListLengthsGives (ps : List Float) (xs : List ℕ) (r r′ : List Flo
 -- ---- the edges of the faces
 
 -- a finished undirected table, and a room of 3F entries
-pub record SidesAsks (w xs : List ℕ) (at : ℕ) (r : List ℕ) : Type 0 where
+pub record FaceEdgesAsks (w xs : List ℕ) (at : ℕ) (r : List ℕ) : Type 0 where
   pub P : ℕ
   pub m : ℕ
   pub tabled : Tabled w xs P false at m
   pub room : length xs ≤ length r
 
 -- it holds the rules' face edges
-pub record SidesGives {w xs : List ℕ} {at : ℕ} {r : List ℕ} (q : SidesAsks w xs at r) (r′ : List ℕ) : Type 0 where
+pub record FaceEdgesGives {w xs : List ℕ} {at : ℕ} {r : List ℕ} (q : FaceEdgesAsks w xs at r) (r′ : List ℕ) : Type 0 where
   pub whole : r′ ≡ filled 0 (length xs) (rule.face-edges (q .P) (facesOf xs)) r

@@ -1,6 +1,6 @@
 // What the edge call lists of a finished undirected table of the faces: the unique edges, their lengths, and the edges of each face. Each function
 // writes one answer room, and clears the rest of what is stated for it.
-ghost use Rattle.listing.specs.Listing.{EdgesAsks, EdgesGives, ListGives, LengthsAsks, LengthsGives, ListLengthsAsks, ListLengthsGives, SidesAsks, SidesGives};
+ghost use Rattle.listing.specs.Listing.{EdgesAsks, EdgesGives, ListGives, LengthsAsks, LengthsGives, ListLengthsAsks, ListLengthsGives, FaceEdgesAsks, FaceEdgesGives};
 
 // Writes the lower and the higher end of each of the m edges.
 fn put_edges(work: &[u32], faces: &[u32], at: usize, m: usize, edges: &mut [u32])
@@ -49,16 +49,16 @@ pub fn list_lengths(points: &[f64], faces: &[u32], edges: &[u32], m: usize, leng
 }
 
 // Lists for each face the positions of its edges (1,2), (2,0), (0,1) among the unique edges: the runs of its steps 1, 2 and 0.
-pub fn list_face_edges(work: &[u32], faces: &[u32], at: usize, sides: &mut [u32])
-    requires { ⌜ SidesAsks (now work) (now faces) at (now sides) ⌝ }
-    ensures { λ _. ⌜ ((q : SidesAsks (now (work .entry)) (now (faces .entry)) at (now (sides .entry))) → SidesGives q (now (sides .exit))) ⌝ }
+pub fn list_face_edges(work: &[u32], faces: &[u32], at: usize, face_edges: &mut [u32])
+    requires { ⌜ FaceEdgesAsks (now work) (now faces) at (now «face_edges») ⌝ }
+    ensures { λ _. ⌜ ((q : FaceEdgesAsks (now (work .entry)) (now (faces .entry)) at (now («face_edges» .entry))) → FaceEdgesGives q (now («face_edges» .exit))) ⌝ }
 {
     let runs = at + 2 * faces.len();
     let mut i = 0;
     while i < faces.len() / 3 {
-        sides[3 * i] = work[runs + 3 * i + 1];
-        sides[3 * i + 1] = work[runs + 3 * i + 2];
-        sides[3 * i + 2] = work[runs + 3 * i];
+        face_edges[3 * i] = work[runs + 3 * i + 1];
+        face_edges[3 * i + 1] = work[runs + 3 * i + 2];
+        face_edges[3 * i + 2] = work[runs + 3 * i];
         i += 1;
     }
 }

@@ -10,8 +10,8 @@ ghost use Rattle.loops.specs.Loops.{AddAsks, AddGives, TraceAsks, TraceG
 
 // How many vertices stand in the room of the loops, and how many ends.
 pub struct Loops {
-    pub vertices: usize,
-    pub ends: usize,
+    pub loop_vertices: usize,
+    pub loop_ends: usize,
 }
 
 // Walks from v until the boundary does not go on, which is at v again or at once, and takes the vertices passed out of the row. They stand from `spare`
@@ -34,13 +34,13 @@ fn walk(work: &mut [u32], points: usize, next: usize, spare: usize, v: usize) ->
 }
 
 // Lists the n vertices that stand from `spare` on reversed, from `from` on in the room of the loops.
-fn mirror(work: &[u32], spare: usize, n: usize, vertices: &mut [u32], from: usize)
-    requires { ⌜ MirrorAsks (now work) spare n (now vertices) from ⌝ }
-    ensures { λ _. ⌜ MirrorGives (now (work .entry)) spare n (now (vertices .entry)) from (now (vertices .exit)) ⌝ }
+fn mirror(work: &[u32], spare: usize, n: usize, loop_vertices: &mut [u32], from: usize)
+    requires { ⌜ MirrorAsks (now work) spare n (now «loop_vertices») from ⌝ }
+    ensures { λ _. ⌜ MirrorGives (now (work .entry)) spare n (now («loop_vertices» .entry)) from (now («loop_vertices» .exit)) ⌝ }
 {
     let mut i = 0;
     while i < n {
-        vertices[from + i] = work[spare + (n - 1 - i)];
+        loop_vertices[from + i] = work[spare + (n - 1 - i)];
         i += 1;
     }
 }
@@ -52,25 +52,25 @@ fn add_loop(
     next: usize,
     spare: usize,
     v: usize,
-    vertices: &mut [u32],
-    ends: &mut [u32],
+    loop_vertices: &mut [u32],
+    loop_ends: &mut [u32],
     found: Loops,
 ) -> Loops
-    requires { ⌜ AddAsks (now work) points next spare v (now vertices) (now ends) (found .vertices) (found .ends) ⌝ }
-    ensures { λ r. ⌜ ((q : AddAsks (now (work .entry)) points next spare v (now (vertices .entry)) (now (ends .entry)) (found .vertices) (found .ends)) → AddGives q (now (work .exit)) (now (vertices .exit)) (now (ends .exit)) (r .vertices) (r .ends)) ⌝ }
+    requires { ⌜ AddAsks (now work) points next spare v (now «loop_vertices») (now «loop_ends») (found .«loop_vertices») (found .«loop_ends») ⌝ }
+    ensures { λ r. ⌜ ((q : AddAsks (now (work .entry)) points next spare v (now («loop_vertices» .entry)) (now («loop_ends» .entry)) (found .«loop_vertices») (found .«loop_ends»)) → AddGives q (now (work .exit)) (now («loop_vertices» .exit)) (now («loop_ends» .exit)) (r .«loop_vertices») (r .«loop_ends»)) ⌝ }
 {
     let n = walk(work, points, next, spare, v);
     if n == 0 {
         return found;
     }
-    let from = found.vertices;
-    let count = found.ends;
-    mirror(work, spare, n, vertices, from);
+    let from = found.loop_vertices;
+    let count = found.loop_ends;
+    mirror(work, spare, n, loop_vertices, from);
     let total = from + n;
-    ends[count] = total as u32;
+    loop_ends[count] = total as u32;
     Loops {
-        vertices: total,
-        ends: count + 1,
+        loop_vertices: total,
+        loop_ends: count + 1,
     }
 }
 
@@ -80,19 +80,28 @@ fn trace(
     points: usize,
     next: usize,
     spare: usize,
-    vertices: &mut [u32],
-    ends: &mut [u32],
+    loop_vertices: &mut [u32],
+    loop_ends: &mut [u32],
 ) -> Loops
-    requires { ⌜ TraceAsks (now work) points next spare (now vertices) (now ends) ⌝ }
-    ensures { λ r. ⌜ ((q : TraceAsks (now (work .entry)) points next spare (now (vertices .entry)) (now (ends .entry))) → TraceGives q (now (work .exit)) (now (vertices .exit)) (now (ends .exit)) (r .vertices) (r .ends)) ⌝ }
+    requires { ⌜ TraceAsks (now work) points next spare (now «loop_vertices») (now «loop_ends») ⌝ }
+    ensures { λ r. ⌜ ((q : TraceAsks (now (work .entry)) points next spare (now («loop_vertices» .entry)) (now («loop_ends» .entry))) → TraceGives q (now (work .exit)) (now («loop_vertices» .exit)) (now («loop_ends» .exit)) (r .«loop_vertices») (r .«loop_ends»)) ⌝ }
 {
     let mut found = Loops {
-        vertices: 0,
-        ends: 0,
+        loop_vertices: 0,
+        loop_ends: 0,
     };
     let mut v = 0;
     while v < points {
-        found = add_loop(work, points, next, spare, v, vertices, ends, found);
+        found = add_loop(
+            work,
+            points,
+            next,
+            spare,
+            v,
+            loop_vertices,
+            loop_ends,
+            found,
+        );
         v += 1;
     }
     found
@@ -106,14 +115,18 @@ pub fn list_loops(
     points: usize,
     next: usize,
     spare: usize,
-    vertices: &mut [u32],
-    ends: &mut [u32],
+    loop_vertices: &mut [u32],
+    loop_ends: &mut [u32],
 ) -> Loops
-    requires { ⌜ LoopsAsks (now work) (now faces) points next spare (now vertices) (now ends) ⌝ }
-    ensures { λ r. ⌜ LoopsGives (now (work .entry)) (now (faces .entry)) points next spare (now (vertices .entry)) (now (ends .entry)) (now (work .exit)) (now (vertices .exit)) (now (ends .exit)) (r .vertices) (r .ends) ⌝ }
+    requires { ⌜ LoopsAsks (now work) (now faces) points next spare (now «loop_vertices») (now «loop_ends») ⌝ }
+    ensures { λ r. ⌜ LoopsGives (now (work .entry)) (now (faces .entry)) points next spare (now («loop_vertices» .entry)) (now («loop_ends» .entry)) (now (work .exit)) (now («loop_vertices» .exit)) (now («loop_ends» .exit)) (r .«loop_vertices») (r .«loop_ends») ⌝ }
 {
-    let found = trace(work, points, next, spare, vertices, ends);
-    wiping::wipe(vertices, found.vertices, faces.len() - found.vertices);
-    wiping::wipe(ends, found.ends, faces.len() - found.ends);
+    let found = trace(work, points, next, spare, loop_vertices, loop_ends);
+    wiping::wipe(
+        loop_vertices,
+        found.loop_vertices,
+        faces.len() - found.loop_vertices,
+    );
+    wiping::wipe(loop_ends, found.loop_ends, faces.len() - found.loop_ends);
     found
 }

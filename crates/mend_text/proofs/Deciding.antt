@@ -11,8 +11,8 @@ use Rattle.rules.specs.Lists.{below}
 use Rattle.rules.specs.Mesh.{pointsOf, facesOf}
 use Rattle.rules.specs.Refusal.{Check, ok, no, decided, no1, no2, no3-threshold, no3-options, no4, no5, no6, most-points, most-faces}
 use Rattle.rules.specs.State.{report-counts}
-use Rattle.rules.specs.Rooms.{work-room, repair-rooms}
-use Rattle.rules.specs.Calls.{RepairRooms, repair-check}
+use Rattle.rules.specs.Rooms.{work-room}
+use Rattle.rules.specs.RepairCall.{repair-rooms, RepairRooms, repair-check}
 use Rattle.rules.specs.Text.{Job, job-check}
 use Rattle.rules.proofs.Decided.{decided-none, decided-ok, unless-is}
 use Rattle.rules.proofs.Firsts.{at-first-ok}
@@ -27,8 +27,8 @@ pub record Few (points : List Float) (faces : List ℕ) : Type 0 where
 
 -- rooms for 64 points and 64 faces
 pub record Roomy (r : RepairRooms) : Type 0 where
-  pub points : 768 ≤ length (r .points)
-  pub faces : 192 ≤ length (r .faces)
+  pub points : 768 ≤ length (r .out-points)
+  pub faces : 192 ≤ length (r .out-faces)
   pub report : report-counts ≤ length (r .report)
   pub work : 5184 ≤ length (r .work)
 
@@ -40,14 +40,14 @@ decided-last (ok ∷ cs) = decided-last cs
 decided-last (no n p ∷ cs) = refl
 
 -- refusal 6 is not given
-rooms-ok : (P F : ℕ) (r : RepairRooms) → P ≤ 64 → F ≤ 64 → Roomy r → no6 (repair-rooms P F) (length (r .points) ∷ length (r .faces) ∷ length (r .report) ∷ length (r .work) ∷ []) ≡ ok
+rooms-ok : (P F : ℕ) (r : RepairRooms) → P ≤ 64 → F ≤ 64 → Roomy r → no6 (repair-rooms P F) (length (r .out-points) ∷ length (r .out-faces) ∷ length (r .report) ∷ length (r .work) ∷ []) ≡ ok
 unfolding no6 repair-rooms work-room below
 rooms-ok P F r p f e =
     at-first-ok 6 (λ k. ltb (getD given k 0) (getD (repair-rooms P F) k 0)) (below 4)
-    (le-ltb (length (r .points)) (3 * (P + 3 * F)) (omega (arith, e .points)), (le-ltb (length (r .faces)) (3 * F) (omega (arith, e .faces)), (le-ltb (length (r .report)) report-counts (e .report), (le-ltb (length (r .work)) (16 * P + 64 * F + 64) (omega (arith, e .work)), tt))))
+    (le-ltb (length (r .out-points)) (3 * (P + 3 * F)) (omega (arith, e .points)), (le-ltb (length (r .out-faces)) (3 * F) (omega (arith, e .faces)), (le-ltb (length (r .report)) report-counts (e .report), (le-ltb (length (r .work)) (16 * P + 64 * F + 64) (omega (arith, e .work)), tt))))
   where
     given : List ℕ
-    given = length (r .points) ∷ length (r .faces) ∷ length (r .report) ∷ length (r .work) ∷ []
+    given = length (r .out-points) ∷ length (r .out-faces) ∷ length (r .report) ∷ length (r .work) ∷ []
 
 -- the job's checks decide
 pub checks-as-job : (points : List Float) (faces : List ℕ) (s : Float) (options : ℕ) (r : RepairRooms) → Few points faces → Roomy r → repair-check points faces s options r ≡ job-check (jobOf options s points faces)

@@ -12,7 +12,7 @@ use Rattle.rules.specs.State.{State, report-counts}
 use Rattle.rules.specs.Refusal.{Check, ok, no, no4}
 use Rattle.rules.specs.Rooms.{Answer, accepted, refused, Outcome, outcome, filled}
 use Rattle.rules.specs.Repair.{repaired}
-use Rattle.rules.specs.Calls.{RepairRooms, repair-check, repair}
+use Rattle.rules.specs.RepairCall.{RepairRooms, repair-check, repair}
 use Rattle.rules.specs.Text.{Job, job-check, job-lines, mesh-lines, refusal-line}
 use Rattle.rules.proofs.Called.{outcome-ok, filled-front}
 use Rattle.rules.proofs.Decided.{decided-all}
@@ -91,14 +91,14 @@ module _ (s : Float) (o : ℕ) {points : List Float} {faces : List ℕ} {out : L
     points-are : take a ps ≡ flatPoints (m .points)
     unfolding repair m after
     points-are =
-        ap (λ (t : RepairRooms). take a (t .points)) (rooms-are ∙ outcome-ok (repair-check points faces s o r) r _ _ (a ∷ b ∷ report-counts ∷ []) (ap (λ (t : Outcome RepairRooms). t .answer) (sym e)) .2)
-        ∙ filled-front zero64 (3 * (length points / 3 + 3 * (length faces / 3))) a (flatPoints (m .points)) (r .points) (length-flat-points (m .points) ∙ a-is)
+        ap (λ (t : RepairRooms). take a (t .out-points)) (rooms-are ∙ outcome-ok (repair-check points faces s o r) r _ _ (a ∷ b ∷ report-counts ∷ []) (ap (λ (t : Outcome RepairRooms). t .answer) (sym e)) .2)
+        ∙ filled-front zero64 (3 * (length points / 3 + 3 * (length faces / 3))) a (flatPoints (m .points)) (r .out-points) (length-flat-points (m .points) ∙ a-is)
 
     faces-are : take b xs ≡ flatFaces (m .faces)
     unfolding repair m after
     faces-are =
-        ap (λ (t : RepairRooms). take b (t .faces)) (rooms-are ∙ outcome-ok (repair-check points faces s o r) r _ _ (a ∷ b ∷ report-counts ∷ []) (ap (λ (t : Outcome RepairRooms). t .answer) (sym e)) .2)
-        ∙ filled-front 0 (3 * (length faces / 3)) b (flatFaces (m .faces)) (r .faces) (length-flat-faces (m .faces) ∙ b-is)
+        ap (λ (t : RepairRooms). take b (t .out-faces)) (rooms-are ∙ outcome-ok (repair-check points faces s o r) r _ _ (a ∷ b ∷ report-counts ∷ []) (ap (λ (t : Outcome RepairRooms). t .answer) (sym e)) .2)
+        ∙ filled-front 0 (3 * (length faces / 3)) b (flatFaces (m .faces)) (r .out-faces) (length-flat-faces (m .faces) ∙ b-is)
 
     report-is : take report-counts rs ≡ m .report
     unfolding repair m after

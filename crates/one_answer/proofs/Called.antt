@@ -48,8 +48,8 @@ pub one-repair :
 one-repair {o} {r} {r′} p q =
     let e = p ∙ sym q in (
       sym (repaired-is r) ∙ ap (λ t. repaired-of (t .answer)) e ∙ repaired-is r′,
-      ap (λ t. t .rooms .points) e,
-      ap (λ t. t .rooms .faces) e,
+      ap (λ t. t .rooms .out-points) e,
+      ap (λ t. t .rooms .out-faces) e,
       ap (λ t. t .rooms .report) e,
       ap (λ t. t .rooms .work) e,
     )

@@ -10,7 +10,7 @@ use Rattle.rules.specs.Mesh.{Point, Face, pointsOf, facesOf}
 use Rattle.rules.specs.Patches.{Patch, empty, widened, with-face, patch}
 use Rattle.rules.proofs.Flat.{length-faces}
 use Rattle.rules.proofs.PatchAreas.{patch-bounded}
-use Rattle.refuse.specs.Accepted.{PatchesAccepted}
+use Rattle.patches_refusal.specs.Checks.{PatchesAccepted}
 use Rattle.patch_rank.specs.Rank.{Area}
 use Rattle.patch_rank.proofs.Bits.{area-is}
 

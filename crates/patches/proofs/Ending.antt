@@ -12,14 +12,13 @@ use Rattle.rules.specs.Mesh.{pointsOf, facesOf, zero64}
 use Rattle.rules.specs.Refusal.{Check, decided}
 use Rattle.rules.specs.Rooms.{filled, cleared, outcome}
 use Rattle.rules.specs.Patches as rule
-use Rattle.rules.specs.Calls.{PatchesRooms, patches-check, find-patches}
+use Rattle.rules.specs.PatchesCall.{PatchesRooms, patches-check, find-patches}
 use Rattle.rules.proofs.Lists.{length-below, length-each}
-use Rattle.refuse.specs.Verdicts.{checkOf, patches-list}
-use Rattle.refuse.specs.Accepted.{PatchesAccepted}
+use Rattle.refuse.specs.Verdicts.{checkOf}
 use Rattle.refuse.specs.declared.Verdict.{Verdict}
 use Rattle.refuse.specs.declared.Verdict.the-variants.{Fine, Refused}
-use Rattle.refuse.proofs.Calls.{patches-is}
-use Rattle.refuse.proofs.Accept.{patches-accepted}
+use Rattle.patches_refusal.specs.Checks.{patches-list, PatchesAccepted}
+use Rattle.patches_refusal.proofs.Accept.{patches-is, patches-accepted}
 use Rattle.patches.specs.declared.Patched.the-variants as patched
 use Rattle.patches.specs.Answers.{FillGives, outcomeOf}
 use Rattle.patches.proofs.Rooms.{filled-is, front-is, cleared-is, sevens-are}
@@ -29,7 +28,7 @@ module _ (points : List Float) (faces labels : List ℕ) (C : ℕ) (by : rule.Fi
   abbrev after : PatchesRooms
   after =
       record {
-        counts = filled 0 C (rule.face-counts labels C) (r .counts);
+        face-counts = filled 0 C (rule.face-counts labels C) (r .face-counts);
         numbers = filled zero64 (7 * C) (each rule.seven (rule.patches (pointsOf points) (facesOf faces) labels C)) (r .numbers);
         flags = filled 0 C (rule.flags by (rule.face-counts labels C) (rule.patches (pointsOf points) (facesOf faces) labels C)) (r .flags);
         work = cleared (4 * C) (r .work);
@@ -40,7 +39,7 @@ module _ (points : List Float) (faces labels : List ℕ) (C : ℕ) (by : rule.Fi
   unfolding find-patches
   whole c e = ap (λ c. outcome c r (C ∷ 7 * C ∷ C ∷ []) after) e
 
-  module _ (v : Verdict) (e : checkOf v ≡ decided (patches-list points faces labels C (length (r .counts)) (length (r .numbers)) (length (r .flags)) (length (r .work)))) where
+  module _ (v : Verdict) (e : checkOf v ≡ decided (patches-list points faces labels C (length (r .face-counts)) (length (r .numbers)) (length (r .flags)) (length (r .work)))) where
     -- a refusal changes no buffer
     pub is-refused : (n p : ℕ) → v ≡ Refused n p → outcomeOf (patched.Refused n p) r ≡ find-patches points faces labels C by r
     unfolding outcome
@@ -48,16 +47,16 @@ module _ (points : List Float) (faces labels : List ℕ) (C : ℕ) (by : rule.Fi
 
     module _ (t : v ≡ Fine) where
       -- what an accepted call may start from
-      pub is-accepted : PatchesAccepted points faces labels C (length (r .counts)) (length (r .numbers)) (length (r .flags)) (length (r .work))
+      pub is-accepted : PatchesAccepted points faces labels C (length (r .face-counts)) (length (r .numbers)) (length (r .flags)) (length (r .work))
       is-accepted = patches-accepted points faces labels C _ _ _ _ (sym e ∙ ap checkOf t)
 
       module _ {r′ : PatchesRooms} (g : FillGives points faces labels C by r r′) where
         -- each room
-        counts-are : r′ .counts ≡ filled 0 C (rule.face-counts labels C) (r .counts)
+        counts-are : r′ .face-counts ≡ filled 0 C (rule.face-counts labels C) (r .face-counts)
         unfolding rule.face-counts
         counts-are =
             filled-is 0 0 C (length-map (below C) (λ k. count (eqb k) labels) ∙ length-below C) (g .only-counts)
-            (front-is 0 0 (λ k. count (eqb k) labels) C (r′ .counts) (omega (arith, is-accepted .room-counts, g .only-counts .long)) (g .counted))
+            (front-is 0 0 (λ k. count (eqb k) labels) C (r′ .face-counts) (omega (arith, is-accepted .room-face-counts, g .only-counts .long)) (g .counted))
 
         numbers-are : r′ .numbers ≡ filled zero64 (7 * C) (each rule.seven (rule.patches (pointsOf points) (facesOf faces) labels C)) (r .numbers)
         unfolding rule.patches rule.seven

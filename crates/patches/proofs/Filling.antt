@@ -10,7 +10,7 @@ use Rattle.rows.specs.Region.{Only, Filled}
 use Rattle.rows.proofs.Regions.{only-both, only-more}
 use Rattle.rules.specs.Mesh.{pointsOf, facesOf}
 use Rattle.rules.specs.Patches as rule
-use Rattle.refuse.specs.Accepted.{PatchesAccepted}
+use Rattle.patches_refusal.specs.Checks.{PatchesAccepted}
 use Rattle.patch_sums.specs.Sums.{CountGives, SumGives, recordAt}
 use Rattle.patch_rank.specs.Rank.{Area}
 use Rattle.patches.specs.Answers.{shareOf, small, KeepAsks, KeepGives, DropGives, FillGives, roomsOf}

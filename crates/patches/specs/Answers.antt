@@ -13,7 +13,7 @@ use Rattle.rules.specs.Float.{_⊗_}
 use Rattle.rules.specs.Rank.{outranks}
 use Rattle.rules.specs.Patches as rule
 use Rattle.rules.specs.Rooms.{Answer, accepted, refused, Outcome}
-use Rattle.rules.specs.Calls.{PatchesRooms}
+use Rattle.rules.specs.PatchesCall.{PatchesRooms}
 use Rattle.patch_sums.specs.Sums.{recordAt}
 use Rattle.patch_rank.specs.Rank.{Area, areaAt}
 use Rattle.patches.specs.declared.Limit.{Limit}
@@ -95,12 +95,12 @@ pub record KeepGives (xs : List Float) (C : ℕ) (most : rule.Limit ℕ) (fs w f
 
 -- document 01's answer: how many entries stand in each room, or a number and a place
 abbrev pub answerOf : Patched → Answer
-answerOf (Done counts numbers flags) = accepted (counts ∷ numbers ∷ flags ∷ [])
+answerOf (Done face-counts numbers flags) = accepted (face-counts ∷ numbers ∷ flags ∷ [])
 answerOf (Refused n p) = refused n p
 
 -- the four rooms
 abbrev pub roomsOf : List ℕ → List Float → List ℕ → List ℕ → PatchesRooms
-roomsOf cs xs fs w = record { counts = cs; numbers = xs; flags = fs; work = w }
+roomsOf cs xs fs w = record { face-counts = cs; numbers = xs; flags = fs; work = w }
 
 -- with the rooms as the call leaves them
 abbrev pub outcomeOf : Patched → PatchesRooms → Outcome PatchesRooms
@@ -108,11 +108,11 @@ outcomeOf r rooms = record { answer = answerOf r; rooms = rooms }
 
 -- the rooms of an accepted call, entry by entry
 pub record FillGives (points : List Float) (faces labels : List ℕ) (C : ℕ) (by : rule.Filter) (r r′ : PatchesRooms) : Type 0 where
-  pub only-counts : Only 0 C (r .counts) (r′ .counts)
+  pub only-counts : Only 0 C (r .face-counts) (r′ .face-counts)
   pub only-numbers : OnlyOf nan 0 (7 * C) (r .numbers) (r′ .numbers)
   pub only-flags : Only 0 C (r .flags) (r′ .flags)
   pub only-work : Only 0 (4 * C) (r .work) (r′ .work)
-  pub counted : (k : ℕ) → k < C → getD (r′ .counts) k 0 ≡ count (eqb k) labels
+  pub counted : (k : ℕ) → k < C → getD (r′ .face-counts) k 0 ≡ count (eqb k) labels
   pub summed : (k : ℕ) → k < C → recordAt (r′ .numbers) k ≡ rule.patch (pointsOf points) (facesOf faces) labels k
   pub flagged : (k : ℕ) → k < C → getD (r′ .flags) k 0 ≡ cond (rule.falls by (rule.face-counts labels C) (rule.patches (pointsOf points) (facesOf faces) labels C) k) 0 1
   pub cleared : Filled 0 (4 * C) 0 (r′ .work)

@@ -4,7 +4,7 @@
 // Work, in entries of C patches: patch_rank's 2C; the rest is only cleared.
 use measure::Vector;
 use patch_sums::Patch;
-use refuse::PatchesRooms;
+use patches_refusal::Rooms;
 use refuse::Verdict;
 ghost use mathlib.Core.Path.{_≡_};
 ghost use Prim.Native.Nat.{_*_, _≤_};
@@ -12,8 +12,8 @@ ghost use lib.ListN.{length};
 ghost use lib.Dec.{ltb};
 ghost use lib.Ieee.{lt};
 ghost use Rattle.rules.specs.Patches as rule;
-ghost use Rattle.rules.specs.Calls as call;
-ghost use Rattle.refuse.specs.Accepted.{PatchesAccepted};
+ghost use Rattle.rules.specs.PatchesCall as call;
+ghost use Rattle.patches_refusal.specs.Checks.{PatchesAccepted};
 ghost use Rattle.patch_sums.specs.Sums.{patchOf};
 ghost use Rattle.patches.specs.Answers.{limitOf, wholeOf, filterOf, largestIn, shareOf, small, DropAsks, DropGives, KeepAsks, KeepGives, FillGives, roomsOf, outcomeOf};
 
@@ -133,20 +133,20 @@ fn falls(n: u32, r: Patch, by: Filter, least: Limit) -> bool
 
 // Clears the flags of the patches that these limits drop.
 fn drop_small(
-    counts: &[u32],
+    face_counts: &[u32],
     numbers: &[f64],
     count: usize,
     by: Filter,
     least: Limit,
     flags: &mut [u32],
 )
-    requires { ⌜ DropAsks (now counts) (now numbers) count (now flags) ⌝ }
-    ensures { λ _. ⌜ DropGives (now (counts .entry)) (now (numbers .entry)) count (filterOf by) (limitOf least) (now (flags .entry)) (now (flags .exit)) ⌝ }
+    requires { ⌜ DropAsks (now «face_counts») (now numbers) count (now flags) ⌝ }
+    ensures { λ _. ⌜ DropGives (now («face_counts» .entry)) (now (numbers .entry)) count (filterOf by) (limitOf least) (now (flags .entry)) (now (flags .exit)) ⌝ }
 {
     let mut k = 0;
     while k < count {
         let r = patch_sums::read(numbers, k);
-        if falls(counts[k], r, by, least) {
+        if falls(face_counts[k], r, by, least) {
             flags[k] = 0;
         }
         k += 1;
@@ -175,21 +175,21 @@ fn fill_rooms(
     labels: &[u32],
     count: usize,
     by: Filter,
-    counts: &mut [u32],
+    face_counts: &mut [u32],
     numbers: &mut [f64],
     flags: &mut [u32],
     work: &mut [u32],
 )
-    requires { ⌜ PatchesAccepted (now points) (now faces) (now labels) count (length (now counts)) (length (now numbers)) (length (now flags)) (length (now work)) ⌝ }
-    ensures { λ _. ⌜ FillGives (now (points .entry)) (now (faces .entry)) (now (labels .entry)) count (filterOf by) (roomsOf (now (counts .entry)) (now (numbers .entry)) (now (flags .entry)) (now (work .entry))) (roomsOf (now (counts .exit)) (now (numbers .exit)) (now (flags .exit)) (now (work .exit))) ⌝ }
+    requires { ⌜ PatchesAccepted (now points) (now faces) (now labels) count (length (now «face_counts»)) (length (now numbers)) (length (now flags)) (length (now work)) ⌝ }
+    ensures { λ _. ⌜ FillGives (now (points .entry)) (now (faces .entry)) (now (labels .entry)) count (filterOf by) (roomsOf (now («face_counts» .entry)) (now (numbers .entry)) (now (flags .entry)) (now (work .entry))) (roomsOf (now («face_counts» .exit)) (now (numbers .exit)) (now (flags .exit)) (now (work .exit))) ⌝ }
 {
-    patch_sums::count_faces(labels, counts, count);
+    patch_sums::count_faces(labels, face_counts, count);
     patch_sums::sum_faces(points, faces, labels, numbers, count);
     let most = by.keep_largest_n;
     keep(numbers, count, most, flags, work);
     let fraction = by.min_area_fraction;
     let least = share(numbers, count, fraction);
-    drop_small(counts, numbers, count, by, least, flags);
+    drop_small(face_counts, numbers, count, by, least, flags);
     rows::clear(work, 0, 4 * count);
 }
 
@@ -200,20 +200,20 @@ pub fn find_patches(
     labels: &[u32],
     count: usize,
     by: Filter,
-    counts: &mut [u32],
+    face_counts: &mut [u32],
     numbers: &mut [f64],
     flags: &mut [u32],
     work: &mut [u32],
 ) -> Patched
-    ensures { λ r. ⌜ outcomeOf r (roomsOf (now (counts .exit)) (now (numbers .exit)) (now (flags .exit)) (now (work .exit))) ≡ call.find-patches (now (points .entry)) (now (faces .entry)) (now (labels .entry)) count (filterOf by) (roomsOf (now (counts .entry)) (now (numbers .entry)) (now (flags .entry)) (now (work .entry))) ⌝ }
+    ensures { λ r. ⌜ outcomeOf r (roomsOf (now («face_counts» .exit)) (now (numbers .exit)) (now (flags .exit)) (now (work .exit))) ≡ call.find-patches (now (points .entry)) (now (faces .entry)) (now (labels .entry)) count (filterOf by) (roomsOf (now («face_counts» .entry)) (now (numbers .entry)) (now (flags .entry)) (now (work .entry))) ⌝ }
 {
-    let rooms = PatchesRooms {
-        counts: counts.len(),
+    let rooms = Rooms {
+        face_counts: face_counts.len(),
         numbers: numbers.len(),
         flags: flags.len(),
         work: work.len(),
     };
-    match refuse::patches_check(points, faces, labels, count, rooms) {
+    match patches_refusal::patches_refusal(points, faces, labels, count, rooms) {
         Verdict::Refused(number, place) => Patched::Refused(number, place),
         Verdict::Fine => {
             fill_rooms(
@@ -222,7 +222,7 @@ pub fn find_patches(
                 labels,
                 count,
                 by,
-                counts,
+                face_counts,
                 numbers,
                 flags,
                 work,

@@ -14,9 +14,9 @@ use Rattle.refuse.specs.declared.Verdict.the-variants.{Fine, Refused}
 pub found-none : (c : Check) (v : Verdict) → checkOf v ≡ c → v ≡ Fine → c ≡ ok
 found-none c v e t = sym e ∙ ap checkOf t
 
--- the group xs found something
-pub stop : (xs ys : List Check) (v : Verdict) (n p : ℕ) → checkOf v ≡ decided xs → v ≡ Refused n p → no n p ≡ decided (xs ++ ys)
-stop xs ys v n p e t = sym (decided-some xs ys n p (sym e ∙ ap checkOf t))
+-- the group xs found something, and the verdict is handed on
+pub hand-on : (xs ys : List Check) (v : Verdict) (n p : ℕ) → checkOf v ≡ decided xs → v ≡ Refused n p → checkOf v ≡ decided (xs ++ ys)
+hand-on xs ys v n p e t = ap checkOf t ∙ sym (decided-some xs ys n p (sym e ∙ ap checkOf t))
 
 -- the group xs found nothing
 pub go-on : (xs ys : List Check) (v : Verdict) (r : Check) → checkOf v ≡ decided xs → v ≡ Fine → r ≡ decided ys → r ≡ decided (xs ++ ys)
@@ -45,6 +45,10 @@ go-past x ys r e h = h ∙ sym (decided-none (x ∷ []) ys (one x ∙ sym e))
 -- by a verdict on it
 pub stop-one : (x : Check) (ys : List Check) (v : Verdict) (n p : ℕ) → checkOf v ≡ x → v ≡ Refused n p → no n p ≡ decided (x ∷ ys)
 stop-one x ys v n p e t = stop-at x ys n p (sym (ap checkOf t) ∙ e)
+
+-- by a verdict that is handed on
+pub hand-on-one : (x : Check) (ys : List Check) (v : Verdict) (n p : ℕ) → checkOf v ≡ x → v ≡ Refused n p → checkOf v ≡ decided (x ∷ ys)
+hand-on-one x ys v n p e t = ap checkOf t ∙ stop-one x ys v n p e t
 
 -- by a verdict that is fine
 pub go-on-one : (x : Check) (ys : List Check) (v : Verdict) (r : Check) → checkOf v ≡ x → v ≡ Fine → r ≡ decided ys → r ≡ decided (x ∷ ys)

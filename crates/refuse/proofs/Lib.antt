@@ -2,6 +2,4 @@
 pub mod Scans
 pub mod Groups
 pub mod Singles
-pub mod Rooms
-pub mod Calls
 pub mod Accept

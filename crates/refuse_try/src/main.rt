@@ -1,11 +1,11 @@
 // Refusals at the limits, checked against document 01's numbers and places: proved, by antt's own run of the rules, and run.
-use refuse::EdgesRooms;
-use refuse::PatchesRooms;
-use refuse::RepairRooms;
 use refuse::Verdict;
 ghost use mathlib.Core.Path.{_≡_};
 ghost use Rattle.rules.specs.Refusal.{ok, no, decided};
-ghost use Rattle.refuse.specs.Verdicts.{checkOf, repair-list, edges-list, patches-list};
+ghost use Rattle.refuse.specs.Verdicts.{checkOf};
+ghost use Rattle.repair_refusal.specs.Checks.{repair-list};
+ghost use Rattle.edges_refusal.specs.Checks.{edges-list};
+ghost use Rattle.patches_refusal.specs.Checks.{patches-list};
 
 // The largest coordinate, 2^100.
 const FAR: f64 = 1267650600228229401496703205376.0;
@@ -56,28 +56,28 @@ fn repair(
 ) -> Verdict
     ensures { λ r. ⌜ checkOf r ≡ decided (repair-list (now (points .entry)) (now (faces .entry)) s options first second third work) ⌝ }
 {
-    let rooms = RepairRooms {
-        points: first,
-        faces: second,
+    let rooms = repair_refusal::Rooms {
+        out_points: first,
+        out_faces: second,
         report: third,
         work: work,
     };
-    refuse::repair_check(points, faces, s, options, rooms)
+    repair_refusal::repair_refusal(points, faces, s, options, rooms)
 }
 
 // The verdict on the edge call, with the lengths of its rooms: edges, the four others alike, work.
 fn edges(points: &[f64], faces: &[u32], first: usize, others: usize, work: usize) -> Verdict
     ensures { λ r. ⌜ checkOf r ≡ decided (edges-list (now (points .entry)) (now (faces .entry)) first others others others others work) ⌝ }
 {
-    let rooms = EdgesRooms {
+    let rooms = edges_refusal::Rooms {
         edges: first,
         lengths: others,
-        sides: others,
-        loops: others,
-        ends: others,
+        face_edges: others,
+        loop_vertices: others,
+        loop_ends: others,
         work: work,
     };
-    refuse::edges_check(points, faces, rooms)
+    edges_refusal::edges_refusal(points, faces, rooms)
 }
 
 // The verdict on the patch call for a number of patches, with the lengths of its four rooms.
@@ -93,13 +93,13 @@ fn patches(
 ) -> Verdict
     ensures { λ r. ⌜ checkOf r ≡ decided (patches-list (now (points .entry)) (now (faces .entry)) (now (labels .entry)) count first second third work) ⌝ }
 {
-    let rooms = PatchesRooms {
-        counts: first,
+    let rooms = patches_refusal::Rooms {
+        face_counts: first,
         numbers: second,
         flags: third,
         work: work,
     };
-    refuse::patches_check(points, faces, labels, count, rooms)
+    patches_refusal::patches_refusal(points, faces, labels, count, rooms)
 }
 
 // 3: s in 0..1, options up to 63.
@@ -171,12 +171,32 @@ fn rooms() {
 // 2 and 6 of the edge check: P is a number, and any may come.
 fn point_counts() {
     let faces = [0, 1, 4194303];
-    accepted(refuse::check_check(4194304, &faces, 67108992));
-    refused(refuse::check_check(4194304, &faces, 67108991), 6, 0);
-    refused(refuse::check_check(4194305, &faces, HUGE), 2, 0);
-    refused(refuse::check_check(HUGE, &faces, HUGE), 2, 0);
-    refused(refuse::check_check(4194303, &faces, HUGE), 5, 0);
-    refused(refuse::check_check(0, &faces[..2], 0), 1, 1);
+    accepted(edge_check_refusal::edge_check_refusal(4194304, &faces, 67108992));
+    refused(
+        edge_check_refusal::edge_check_refusal(4194304, &faces, 67108991),
+        6,
+        0,
+    );
+    refused(
+        edge_check_refusal::edge_check_refusal(4194305, &faces, HUGE),
+        2,
+        0,
+    );
+    refused(
+        edge_check_refusal::edge_check_refusal(HUGE, &faces, HUGE),
+        2,
+        0,
+    );
+    refused(
+        edge_check_refusal::edge_check_refusal(4194303, &faces, HUGE),
+        5,
+        0,
+    );
+    refused(
+        edge_check_refusal::edge_check_refusal(0, &faces[..2], 0),
+        1,
+        1,
+    );
 }
 
 // 2 of the patch call: the patch count is a number, and any may come.
@@ -229,9 +249,9 @@ fn label_rows() {
 // 1 and 6 of the report line.
 fn report_line() {
     let counts = [0, 0, 0, 0, 0, 0, 0, 0, 0, 4294967295];
-    accepted(refuse::line_check(&counts, 512));
-    refused(refuse::line_check(&counts, 511), 6, 0);
-    refused(refuse::line_check(&counts[..9], 0), 1, 2);
+    accepted(line_refusal::line_refusal(&counts, 512));
+    refused(line_refusal::line_refusal(&counts, 511), 6, 0);
+    refused(line_refusal::line_refusal(&counts[..9], 0), 1, 2);
 }
 
 fn main() {

@@ -14,14 +14,13 @@ use Rattle.rules.specs.Refusal.{decided}
 use Rattle.rules.specs.Repair.{repaired}
 use Rattle.rules.specs.State.{State, report-counts}
 use Rattle.rules.specs.Rooms.{work-room, filled, cleared, outcome, accepted}
-use Rattle.rules.specs.Calls.{RepairRooms, repair-check, repair}
+use Rattle.rules.specs.RepairCall.{RepairRooms, repair-check, repair}
 use Rattle.rules.proofs.Flat.{flat-points, flat-faces, length-faces-take}
-use Rattle.refuse.specs.Verdicts.{checkOf, repair-list}
-use Rattle.refuse.specs.Accepted.{RepairAccepted}
+use Rattle.refuse.specs.Verdicts.{checkOf}
 use Rattle.refuse.specs.declared.Verdict.{Verdict}
 use Rattle.refuse.specs.declared.Verdict.the-variants.{Fine, Refused}
-use Rattle.refuse.proofs.Calls.{repair-is}
-use Rattle.refuse.proofs.Accept.{repair-accepted}
+use Rattle.repair_refusal.specs.Checks.{repair-list, RepairAccepted}
+use Rattle.repair_refusal.proofs.Accept.{repair-is, repair-accepted}
 use Rattle.lending.specs.declared.Mended.{Mended}
 use Rattle.repair.specs.declared.Repaired.the-variants as repaired-as
 use Rattle.lending.specs.Mended.{MendAsks, MendGives}
@@ -29,14 +28,14 @@ use Rattle.repair.specs.Answers.{roomsOf, outcomeOf, ReportAsks, ReportG
 use Rattle.leaving.proofs.Leaving.{length-points-take}
 
 -- the bounds of what is cleared: P and F, the ends of the answers, the lengths of the rooms
-pub record Sizes (P F p f points-room faces-room report-room work : ℕ) : Type 0 where
+pub record Sizes (P F p f out-points out-faces report work : ℕ) : Type 0 where
   pub few-points : P ≤ 4194304
   pub few-faces : F ≤ 1048576
   pub points-end : p ≤ P + 3 * F
   pub faces-end : f ≤ F
-  pub points-long : 3 * (P + 3 * F) ≤ points-room
-  pub faces-long : 3 * F ≤ faces-room
-  pub report-long : report-counts ≤ report-room
+  pub points-long : 3 * (P + 3 * F) ≤ out-points
+  pub faces-long : 3 * F ≤ out-faces
+  pub report-long : report-counts ≤ report
   pub work-long : 16 * P + 64 * F + 64 ≤ work
 
 module _ (points : List Float) (faces : List ℕ) (s : Float) (o : ℕ) (ps : List Float) (xs rs w : List ℕ) (v : Verdict)
@@ -60,8 +59,8 @@ module _ (points : List Float) (faces : List ℕ) (s : Float) (o : ℕ) (ps : Li
   abbrev after : RepairRooms
   after =
       record {
-        points = filled zero64 (3 * (P + 3 * F)) (flatPoints (m .points)) ps;
-        faces = filled 0 (3 * F) (flatFaces (m .faces)) xs;
+        out-points = filled zero64 (3 * (P + 3 * F)) (flatPoints (m .points)) ps;
+        out-faces = filled 0 (3 * F) (flatFaces (m .faces)) xs;
         report = filled 0 report-counts (m .report) rs;
         work = cleared (work-room P F) w;
       }
@@ -84,7 +83,7 @@ module _ (points : List Float) (faces : List ℕ) (s : Float) (o : ℕ) (ps : Li
     pub mend-asks : MendAsks points faces ps xs w
     mend-asks =
         let a = is-accepted in
-        record { input = a .input; room-points = a .room-points; room-faces = a .room-faces; room-work = a .room-work }
+        record { input = a .input; room-points = a .room-out-points; room-faces = a .room-out-faces; room-work = a .room-work }
 
     module _ {ps₁ : List Float} {xs₁ w₁ : List ℕ} {r : Mended} (g : MendGives points faces s o ps xs w ps₁ xs₁ w₁ r) where
       -- the bounds of what is cleared
@@ -100,8 +99,8 @@ module _ (points : List Float) (faces : List ℕ) (s : Float) (o : ℕ) (ps : Li
             few-faces = a .input .faces-fine .few;
             points-end = g .points-fit;
             faces-end = g .faces-fit;
-            points-long = omega (arith, a .room-points);
-            faces-long = omega (arith, a .room-faces);
+            points-long = omega (arith, a .room-out-points);
+            faces-long = omega (arith, a .room-out-faces);
             report-long = a .room-report;
             work-long = omega (arith, a .room-work);
           }
@@ -142,10 +141,10 @@ module _ (points : List Float) (faces : List ℕ) (s : Float) (o : ℕ) (ps : Li
       is-done {ps₂} {xs₂} {rs₂} {w₂} op hp of hf gr ow hw =
           let z = sizes in
           let a = is-accepted in
-          let p : ps₂ ≡ after .points = filled-in (a .room-points) (omega (arith, z)) (g .only-points) points-front op hp in
-          let f : xs₂ ≡ after .faces = filled-in (a .room-faces) (omega (arith, z)) (g .only-faces) faces-front of hf in
+          let p : ps₂ ≡ after .out-points = filled-in (a .room-out-points) (omega (arith, z)) (g .only-points) points-front op hp in
+          let f : xs₂ ≡ after .out-faces = filled-in (a .room-out-faces) (omega (arith, z)) (g .only-faces) faces-front of hf in
           let b : rs₂ ≡ after .report = filled-whole 0 (a .room-report) (gr .only) (gr .written ∙ ap (λ t. t .report) (g .state)) in
           let c : w₂ ≡ after .work = cleared-is (a .room-work) (only-both (g .only-work) ow) hw in
           ap₂ (λ (k : List ℕ) (rooms : RepairRooms). record { answer = accepted k; rooms = rooms }) entries-are
-          (λ i. record { points = p i; faces = f i; report = b i; work = c i })
+          (λ i. record { out-points = p i; out-faces = f i; report = b i; work = c i })
           ∙ ap (λ c. outcome c (roomsOf ps xs rs w) entries after) (sym (ap checkOf t) ∙ verdict-is)

@@ -6,7 +6,7 @@ use lib.ListN.{length, take}
 use lib.Ieee.{Float}
 use Rattle.rows.specs.Region.{Only}
 use Rattle.rules.specs.State.{report-counts}
-use Rattle.rules.specs.Calls.{RepairRooms}
+use Rattle.rules.specs.RepairCall.{RepairRooms}
 use Rattle.rules.specs.Rooms.{Answer, accepted, refused, Outcome}
 use Rattle.lending.specs.Reports.{countsOf, CountsBelow}
 use Rattle.lending.specs.declared.Report.{Report}
@@ -15,7 +15,7 @@ use Rattle.repair.specs.declared.Repaired.the-variants.{Done, Refused}
 
 -- the four rooms, in checking order
 abbrev pub roomsOf : List Float → List ℕ → List ℕ → List ℕ → RepairRooms
-roomsOf points faces report work = record { points = points; faces = faces; report = report; work = work }
+roomsOf points faces report work = record { out-points = points; out-faces = faces; report = report; work = work }
 
 -- document 01's answer: how many entries stand in each answer room, or a number and a place
 abbrev pub answerOf : Repaired → Answer

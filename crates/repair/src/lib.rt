@@ -1,9 +1,9 @@
 // The repair call of document 01: its refusals, the six passes by option bits, and every room after it.
 use lending::Report;
-use refuse::RepairRooms;
 use refuse::Verdict;
+use repair_refusal::Rooms;
 ghost use mathlib.Core.Path.{_≡_};
-ghost use Rattle.rules.specs.Calls as rule;
+ghost use Rattle.rules.specs.RepairCall as rule;
 ghost use Rattle.repair.specs.Answers.{roomsOf, outcomeOf, ReportAsks, ReportGives};
 
 // What a repair gives back: how many entries stand in the points and in the faces room, or a refusal's number and place.
@@ -42,20 +42,20 @@ pub fn repair(
     faces: &[u32],
     s: f64,
     options: u32,
-    points_room: &mut [f64],
-    faces_room: &mut [u32],
+    out_points: &mut [f64],
+    out_faces: &mut [u32],
     report: &mut [u32],
     work: &mut [u32],
 ) -> Repaired
-    ensures { λ r. ⌜ outcomeOf r (now («points_room» .exit)) (now («faces_room» .exit)) (now (report .exit)) (now (work .exit)) ≡ rule.repair (now (points .entry)) (now (faces .entry)) s options (roomsOf (now («points_room» .entry)) (now («faces_room» .entry)) (now (report .entry)) (now (work .entry))) ⌝ }
+    ensures { λ r. ⌜ outcomeOf r (now («out_points» .exit)) (now («out_faces» .exit)) (now (report .exit)) (now (work .exit)) ≡ rule.repair (now (points .entry)) (now (faces .entry)) s options (roomsOf (now («out_points» .entry)) (now («out_faces» .entry)) (now (report .entry)) (now (work .entry))) ⌝ }
 {
-    let rooms = RepairRooms {
-        points: points_room.len(),
-        faces: faces_room.len(),
+    let rooms = Rooms {
+        out_points: out_points.len(),
+        out_faces: out_faces.len(),
         report: report.len(),
         work: work.len(),
     };
-    match refuse::repair_check(points, faces, s, options, rooms) {
+    match repair_refusal::repair_refusal(points, faces, s, options, rooms) {
         Verdict::Fine => {}
         Verdict::Refused(number, place) => {
             return Repaired::Refused(number, place);
@@ -63,12 +63,12 @@ pub fn repair(
     }
     let p = points.len() / 3;
     let n = faces.len() / 3;
-    let mended = lending::mend(points, faces, s, options, points_room, faces_room, work);
+    let mended = lending::mend(points, faces, s, options, out_points, out_faces, work);
     let a = 3 * mended.points;
     let b = 3 * mended.faces;
     let counts = mended.report;
-    wiping::wipe_points(points_room, a, 3 * (p + 3 * n) - a);
-    wiping::wipe(faces_room, b, 3 * n - b);
+    wiping::wipe_points(out_points, a, 3 * (p + 3 * n) - a);
+    wiping::wipe(out_faces, b, 3 * n - b);
     write_report(report, counts);
     wiping::wipe(work, 0, 16 * p + 64 * n + 64);
     Repaired::Done(a, b)

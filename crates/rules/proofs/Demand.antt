@@ -18,7 +18,8 @@ use Rattle.rules.specs.Pass6.{used}
 use Rattle.rules.specs.Refusal.{ok}
 use Rattle.rules.specs.Edges.{boundary, loops}
 use Rattle.rules.specs.Repair.{repaired}
-use Rattle.rules.specs.Calls.{RepairRooms, repair-check, EdgesRooms, edges-check}
+use Rattle.rules.specs.RepairCall.{RepairRooms, repair-check}
+use Rattle.rules.specs.EdgesCall.{EdgesRooms, edges-check}
 
 -- ---- one fan
 
@@ -71,7 +72,7 @@ at r c = getD r (place c) 0
 
 -- enough room for the edge call on P points and F faces
 pub record Rooms-enough (P F : ℕ) (r : EdgesRooms) : Type 0 where
-  pub ends-fit : 6 * F ≤ length (r .ends)
+  pub edges-fit : 6 * F ≤ length (r .edges)
   pub lengths-fit : 3 * F ≤ length (r .lengths)
   pub face-edges-fit : 3 * F ≤ length (r .face-edges)
   pub loop-vertices-fit : 3 * F ≤ length (r .loop-vertices)

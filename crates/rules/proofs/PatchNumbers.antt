@@ -9,7 +9,7 @@ use Rattle.rules.specs.Mesh.{Point, Face, pointsOf, facesOf}
 use Rattle.rules.specs.Rank.{outranks}
 use Rattle.rules.specs.Refusal.{ok, no2, no4, no10, most-faces}
 use Rattle.rules.specs.Patches.{empty, patches, area-of, face-counts, diagonal, largest}
-use Rattle.rules.specs.Calls.{PatchesRooms, patches-check}
+use Rattle.rules.specs.PatchesCall.{PatchesRooms, patches-check}
 use Rattle.rules.proofs.Flat.{length-faces}
 use Rattle.rules.proofs.Decided.{decided-all, unless-ok}
 use Rattle.rules.proofs.Bounds.{Upto}

@@ -19,7 +19,7 @@ use Rattle.rules.specs.Pass6.{used}
 use Rattle.rules.specs.Repair.{repaired}
 use Rattle.rules.specs.Refusal.{ok, no}
 use Rattle.rules.specs.Edges.{no8}
-use Rattle.rules.specs.Calls.{RepairRooms}
+use Rattle.rules.specs.RepairCall.{RepairRooms}
 use Rattle.rules.specs.Bench.{legs, origins}
 use Rattle.rules.specs.Open.{every-rule}
 use Rattle.rules.proofs.Demand.{at, Claim, Claim-beside, Demand3, Beside, Distinct}
@@ -33,8 +33,8 @@ use Rattle.rules.proofs.Demand3.{demand-opted}
 abbrev rooms : ℕ → ℕ → RepairRooms
 rooms P F =
     record {
-      points = replicate (3 * (P + 3 * F)) zero64;
-      faces = replicate (3 * F) 0;
+      out-points = replicate (3 * (P + 3 * F)) zero64;
+      out-faces = replicate (3 * F) 0;
       report = replicate report-counts 0;
       work = replicate (16 * P + 64 * F + 64) 0;
     }

@@ -38,8 +38,8 @@ repairing points faces s options =
     answered
     (repair points faces s options
     (record {
-      points = replicate (3 * (P + 3 * F)) zero64;
-      faces = replicate (3 * F) 0;
+      out-points = replicate (3 * (P + 3 * F)) zero64;
+      out-faces = replicate (3 * F) 0;
       report = replicate report-counts 0;
       work = replicate (work-room P F) 0;
     }) .answer)
@@ -52,7 +52,7 @@ edging P faces =
     answered
     (find-edges (origins P) faces
     (record {
-      ends = replicate (6 * F) 0;
+      edges = replicate (6 * F) 0;
       lengths = replicate (3 * F) zero64;
       face-edges = replicate (3 * F) 0;
       loop-vertices = replicate (3 * F) 0;
@@ -74,14 +74,14 @@ patching : List Float → List ℕ → List ℕ → ℕ → Filter → List (Lis
 patching points faces labels C by =
     let o =
     find-patches points faces labels C by
-    (record { counts = replicate C 0; numbers = replicate (7 * C) zero64; flags = replicate C 0; work = replicate (4 * C) 0 }) in
-    answered (o .answer) ∷ o .rooms .counts ∷ bits (o .rooms .numbers) ∷ o .rooms .flags ∷ []
+    (record { face-counts = replicate C 0; numbers = replicate (7 * C) zero64; flags = replicate C 0; work = replicate (4 * C) 0 }) in
+    answered (o .answer) ∷ o .rooms .face-counts ∷ bits (o .rooms .numbers) ∷ o .rooms .flags ∷ []
 
 -- only the flags of it
 flagging : List Float → List ℕ → List ℕ → ℕ → Filter → List (List ℕ)
 flagging points faces labels C by =
     find-patches points faces labels C by
-    (record { counts = replicate C 0; numbers = replicate (7 * C) zero64; flags = replicate C 0; work = replicate (4 * C) 0 })
+    (record { face-counts = replicate C 0; numbers = replicate (7 * C) zero64; flags = replicate C 0; work = replicate (4 * C) 0 })
     .rooms .flags ∷ []
 
 -- the filters of one limit: on the area, and on the fraction of the largest area
@@ -195,7 +195,7 @@ refusals =
     -- 6 at the first room that is too short
     ∷ row (answered (check 0 [] (replicate 63 0) .answer) ∷ []) ((6 ∷ 0 ∷ []) ∷ [])
     ∷ row
-    (answered (repair [] [] zero64 0 (record { points = []; faces = []; report = replicate 9 0; work = [] }) .answer) ∷ [])
+    (answered (repair [] [] zero64 0 (record { out-points = []; out-faces = []; report = replicate 9 0; work = [] }) .answer) ∷ [])
     ((6 ∷ 2 ∷ []) ∷ [])
     -- 7: the position among all sorted unique edges; 8: the lowest vertex at fault
     ∷ row (edging 5 (0 ∷ 1 ∷ 2 ∷ 1 ∷ 2 ∷ 3 ∷ 1 ∷ 2 ∷ 4 ∷ [])) ((7 ∷ 2 ∷ []) ∷ [])
@@ -231,8 +231,8 @@ answers =
     ∷ row
     (let o =
     repair (origins 2) (0 ∷ 0 ∷ 1 ∷ []) zero64 33
-    (record { points = replicate 16 one64; faces = replicate 4 7; report = replicate 11 7; work = replicate 161 7 }) in
-    answered (o .answer) ∷ bits (o .rooms .points) ∷ o .rooms .faces ∷ o .rooms .report ∷ o .rooms .work ∷ [])
+    (record { out-points = replicate 16 one64; out-faces = replicate 4 7; report = replicate 11 7; work = replicate 161 7 }) in
+    answered (o .answer) ∷ bits (o .rooms .out-points) ∷ o .rooms .out-faces ∷ o .rooms .report ∷ o .rooms .work ∷ [])
     ((0 ∷ 0 ∷ 10 ∷ []) ∷ (replicate 15 0 ++ (0x3ff0_0000_0000_0000 ∷ [])) ∷ (0 ∷ 0 ∷ 0 ∷ 7 ∷ []) ∷ (1 ∷ replicate 8 0 ++ (2 ∷ 7 ∷ []))
     ∷ (replicate 160 0 ++ (7 ∷ [])) ∷ [])
     -- a face of the unit legs: its area and its box

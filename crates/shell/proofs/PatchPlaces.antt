@@ -12,9 +12,9 @@ use Rattle.rules.specs.Lists.{all}
 use Rattle.rules.specs.Mesh.{pointsOf, coordinates}
 use Rattle.rules.specs.Refusal.{Check, no1, no2, no4, no9, no10, in-domain, no-patch, most-points, most-faces}
 use Rattle.rules.specs.Refusal as refusal
-use Rattle.rules.specs.Rooms.{patches-rooms, outcome}
+use Rattle.rules.specs.Rooms.{outcome}
+use Rattle.rules.specs.PatchesCall.{patches-rooms, PatchesRooms, patches-check, find-patches}
 use Rattle.rules.specs.Patches.{Filter}
-use Rattle.rules.specs.Calls.{PatchesRooms, patches-check, find-patches}
 use Rattle.rules.proofs.Flat.{length-points}
 use Rattle.refuse.proofs.Singles.{no2-fine}
 use Rattle.shell.specs.Mask.{clip, clipped}

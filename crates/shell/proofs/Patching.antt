@@ -7,7 +7,7 @@ use borrow.Author.Tests.{lt-ltb, le-ltb}
 use lib.Ieee.{Float}
 use Rattle.rules.specs.Patches.{Filter, Limit}
 use Rattle.rules.specs.Rooms.{Outcome}
-use Rattle.rules.specs.Calls.{PatchesRooms, find-patches}
+use Rattle.rules.specs.PatchesCall.{PatchesRooms, find-patches}
 use Rattle.shell.specs.Mask.{set, held, masked, clip, clipped}
 
 -- the filter, limit by limit

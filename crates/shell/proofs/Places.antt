@@ -12,8 +12,7 @@ use Rattle.rules.specs.Mesh.{Face, facesOf, pointsOf, corners}
 use Rattle.rules.specs.Steps.{edge, same, entries, pairs, edges}
 use Rattle.rules.specs.Refusal.{no3-threshold, no3-options, Check, ok, no, decided, unless, at-first, no1, no1-counts, no2, no4, no5, no6, most-points, most-faces}
 use Rattle.rules.specs.Edges.{no7, no8}
-use Rattle.rules.specs.Rooms.{repair-rooms, edges-rooms, check-rooms, line-rooms}
-use Rattle.rules.specs.Calls.{RepairRooms, repair-check, EdgesRooms, edges-check, check-check, line-check}
+use Rattle.rules.specs.Calls.{repair-rooms, RepairRooms, repair-check, edges-rooms, EdgesRooms, edges-check, check-rooms, check-check, line-rooms, line-check}
 use Rattle.rules.proofs.Flat.{length-faces, length-points}
 use Rattle.rules.proofs.Lists.{length-below}
 use Rattle.rules.proofs.Rising.{All, all-at}

@@ -37,14 +37,23 @@ pub extern "C" fn shell_repair(
     faces: &[u32],
     s: f64,
     options: u32,
-    mended: &mut [f64],
-    triples: &mut [u32],
+    out_points: &mut [f64],
+    out_faces: &mut [u32],
     report: &mut [u32],
     work: &mut [u32],
 ) -> ShellRepaired
-    ensures { λ r. ⌜ Given (r .number) (r .place) (r .points ∷ r .faces ∷ r .counts ∷ []) (repaired.roomsOf (now (mended .exit)) (now (triples .exit)) (now (report .exit)) (now (work .exit))) (rule.repair (now (points .entry)) (now (faces .entry)) s options (repaired.roomsOf (now (mended .entry)) (now (triples .entry)) (now (report .entry)) (now (work .entry)))) ⌝ }
+    ensures { λ r. ⌜ Given (r .number) (r .place) (r .points ∷ r .faces ∷ r .counts ∷ []) (repaired.roomsOf (now («out_points» .exit)) (now («out_faces» .exit)) (now (report .exit)) (now (work .exit))) (rule.repair (now (points .entry)) (now (faces .entry)) s options (repaired.roomsOf (now («out_points» .entry)) (now («out_faces» .entry)) (now (report .entry)) (now (work .entry)))) ⌝ }
 {
-    match repair::repair(points, faces, s, options, mended, triples, report, work) {
+    match repair::repair(
+        points,
+        faces,
+        s,
+        options,
+        out_points,
+        out_faces,
+        report,
+        work,
+    ) {
         Repaired::Done(a, b) => ShellRepaired {
             number: 0,
             place: 0,
@@ -72,9 +81,9 @@ pub struct ShellEdges {
     pub place: u32,
     pub edges: u64,
     pub lengths: u64,
-    pub sides: u64,
-    pub vertices: u64,
-    pub ends: u64,
+    pub face_edges: u64,
+    pub loop_vertices: u64,
+    pub loop_ends: u64,
 }
 
 // The edge call: unique edges, their lengths, the edges of each face, and the boundary loops with their ends.
@@ -84,22 +93,31 @@ pub extern "C" fn shell_edges(
     faces: &[u32],
     edges: &mut [u32],
     lengths: &mut [f64],
-    sides: &mut [u32],
-    vertices: &mut [u32],
-    ends: &mut [u32],
+    face_edges: &mut [u32],
+    loop_vertices: &mut [u32],
+    loop_ends: &mut [u32],
     work: &mut [u32],
 ) -> ShellEdges
-    ensures { λ r. ⌜ Given (r .number) (r .place) (r .edges ∷ r .lengths ∷ r .sides ∷ r .vertices ∷ r .ends ∷ []) (edged.roomsOf (now (edges .exit)) (now (lengths .exit)) (now (sides .exit)) (now (vertices .exit)) (now (ends .exit)) (now (work .exit))) (rule.find-edges (now (points .entry)) (now (faces .entry)) (edged.roomsOf (now (edges .entry)) (now (lengths .entry)) (now (sides .entry)) (now (vertices .entry)) (now (ends .entry)) (now (work .entry)))) ⌝ }
+    ensures { λ r. ⌜ Given (r .number) (r .place) (r .edges ∷ r .lengths ∷ r .«face_edges» ∷ r .«loop_vertices» ∷ r .«loop_ends» ∷ []) (edged.roomsOf (now (edges .exit)) (now (lengths .exit)) (now («face_edges» .exit)) (now («loop_vertices» .exit)) (now («loop_ends» .exit)) (now (work .exit))) (rule.find-edges (now (points .entry)) (now (faces .entry)) (edged.roomsOf (now (edges .entry)) (now (lengths .entry)) (now («face_edges» .entry)) (now («loop_vertices» .entry)) (now («loop_ends» .entry)) (now (work .entry)))) ⌝ }
 {
-    match edges::find_edges(points, faces, edges, lengths, sides, vertices, ends, work) {
+    match edges::find_edges(
+        points,
+        faces,
+        edges,
+        lengths,
+        face_edges,
+        loop_vertices,
+        loop_ends,
+        work,
+    ) {
         Found::Done(a, b, c, d, e) => ShellEdges {
             number: 0,
             place: 0,
             edges: a as u64,
             lengths: b as u64,
-            sides: c as u64,
-            vertices: d as u64,
-            ends: e as u64,
+            face_edges: c as u64,
+            loop_vertices: d as u64,
+            loop_ends: e as u64,
         },
         Found::Refused(number, at) => {
             let place = at as u32;
@@ -108,9 +126,9 @@ pub extern "C" fn shell_edges(
                 place: place,
                 edges: 0,
                 lengths: 0,
-                sides: 0,
-                vertices: 0,
-                ends: 0,
+                face_edges: 0,
+                loop_vertices: 0,
+                loop_ends: 0,
             }
         }
     }
@@ -126,10 +144,10 @@ pub struct ShellCheck {
 
 // The edge check: whether no face repeats a corner and every directed edge is used at most once.
 #[no_mangle]
-pub extern "C" fn shell_check(count: u64, faces: &[u32], work: &mut [u32]) -> ShellCheck
-    ensures { λ r. ⌜ Given (r .number) (r .place) (r .yes ∷ []) (now (work .exit)) (rule.check count (now (faces .entry)) (now (work .entry))) ⌝ }
+pub extern "C" fn shell_check(point_count: u64, faces: &[u32], work: &mut [u32]) -> ShellCheck
+    ensures { λ r. ⌜ Given (r .number) (r .place) (r .yes ∷ []) (now (work .exit)) (rule.check «point_count» (now (faces .entry)) (now (work .entry))) ⌝ }
 {
-    match edge_check::check(count as usize, faces, work) {
+    match edge_check::check(point_count as usize, faces, work) {
         Checked::Done(answer) => ShellCheck {
             number: 0,
             place: 0,

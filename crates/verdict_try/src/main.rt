@@ -3,7 +3,7 @@
 use refuse::Verdict;
 ghost use Prim.Native.Nat.{_+_, _≤_};
 ghost use lib.ListN.{length};
-ghost use Rattle.refuse.specs.Accepted.{CheckAccepted};
+ghost use Rattle.edge_check_refusal.specs.Checks.{CheckAccepted};
 
 // Writes a number and a space.
 fn show_number(n: u64) {
@@ -51,7 +51,7 @@ fn both(count: usize, faces: &[u32], work: &mut [u32])
 // Both ways for faces over a number of points, in a room of 400 entries that all are 7.
 fn run(count: usize, faces: &[u32]) {
     let mut work = [7; 400];
-    match refuse::check_check(count, faces, 400) {
+    match edge_check_refusal::edge_check_refusal(count, faces, 400) {
         Verdict::Fine => {
             both(count, faces, &mut work);
         }

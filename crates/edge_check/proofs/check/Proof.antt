@@ -5,8 +5,8 @@ use borrow.Author.Needs.{needs}
 use Rattle.edge_check.proofs.check.Statement.{statement}
 use Rattle.edge_check.proofs.check.Tie as tie
 
-check-check-requires : tie.Need-check-check-requires
-check-check-requires c κs = search needs
+edge-check-refusal-requires : tie.Need-edge-check-refusal-requires
+edge-check-refusal-requires c κs = search needs
 
 enum-told : tie.Need-enum-told
 enum-told c = search needs
@@ -15,42 +15,42 @@ enum-known-number : tie.Need-enum-known-number
 enum-known-number c = search needs
 
 returns : tie.Need-returns
-returns c = is-refused _ _ _ _ (c .before .before .before .check-check .ensures) _ _ (c .before .number .given .1)
+returns c = is-refused _ _ _ _ (c .before .before .before .edge-check-refusal .ensures) _ _ (c .before .number .given .1)
 
 sound-requires : tie.Need-sound-requires
 sound-requires c κs =
     let t = c .before in
     let s = t .before .before .before .before .before .args in
-    is-accepted (s .count) (s .faces .now) (s .work .now) _ (t .before .before .check-check .ensures) (t .enum-told .given .1)
+    is-accepted (s .count) (s .faces .now) (s .work .now) _ (t .before .before .edge-check-refusal .ensures) (t .enum-told .given .1)
 
 mul-wipe : tie.Need-mul-wipe
 mul-wipe c =
     let t = c .before .before .before .before .before in
     let s = t .before .before .before .before .before .args in
-    omega (arith, (is-accepted (s .count) (s .faces .now) (s .work .now) _ (t .before .before .check-check .ensures) (t .enum-told .given .1)) .input)
+    omega (arith, (is-accepted (s .count) (s .faces .now) (s .work .now) _ (t .before .before .edge-check-refusal .ensures) (t .enum-told .given .1)) .input)
 
 mul-wipe-2 : tie.Need-mul-wipe-2
 mul-wipe-2 c =
     let t = c .before .before .before .before .before in
     let s = t .before .before .before .before .before .args in
-    omega (arith, (is-accepted (s .count) (s .faces .now) (s .work .now) _ (t .before .before .check-check .ensures) (t .enum-told .given .1)) .input)
+    omega (arith, (is-accepted (s .count) (s .faces .now) (s .work .now) _ (t .before .before .edge-check-refusal .ensures) (t .enum-told .given .1)) .input)
 
 add-wipe : tie.Need-add-wipe
 add-wipe c =
     let t = c .before .before .before .before .before in
     let s = t .before .before .before .before .before .args in
-    omega (arith, (is-accepted (s .count) (s .faces .now) (s .work .now) _ (t .before .before .check-check .ensures) (t .enum-told .given .1)) .input)
+    omega (arith, (is-accepted (s .count) (s .faces .now) (s .work .now) _ (t .before .before .edge-check-refusal .ensures) (t .enum-told .given .1)) .input)
 
 add-wipe-2 : tie.Need-add-wipe-2
 add-wipe-2 c =
     let t = c .before .before .before .before .before in
     let s = t .before .before .before .before .before .args in
-    omega (arith, (is-accepted (s .count) (s .faces .now) (s .work .now) _ (t .before .before .check-check .ensures) (t .enum-told .given .1)) .input)
+    omega (arith, (is-accepted (s .count) (s .faces .now) (s .work .now) _ (t .before .before .edge-check-refusal .ensures) (t .enum-told .given .1)) .input)
 
 wipe-requires : tie.Need-wipe-requires
 wipe-requires c κs =
     let t = c .before .before .before .before .before in
-    omega (arith, still-fits _ _ _ _ (t .before .before .check-check .ensures) (t .enum-told .given .1) (c .before .before .before .sound .ensures))
+    omega (arith, still-fits _ _ _ _ (t .before .before .edge-check-refusal .ensures) (t .enum-told .given .1) (c .before .before .before .sound .ensures))
 
 same-length : tie.Need-same-length
 same-length c = search needs
@@ -59,13 +59,13 @@ returns-2 : tie.Need-returns-2
 returns-2 c =
     let t = c .before .before .before .before .before .before .before .before in
     let g = c .before .before .wipe .ensures in
-    is-done _ _ _ _ (t .before .before .check-check .ensures) (t .enum-told .given .1) (c .before .before .before .before .before .before .sound .ensures) (g .0) (g .1)
+    is-done _ _ _ _ (t .before .before .edge-check-refusal .ensures) (t .enum-told .given .1) (c .before .before .before .before .before .before .sound .ensures) (g .0) (g .1)
 
 pub check-spec : {M : Type 1} → statement M
 check-spec =
     tie.close
     (tie.spec
-    check-check-requires
+    edge-check-refusal-requires
     enum-told
     enum-known-number
     returns

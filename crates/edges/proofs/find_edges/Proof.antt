@@ -7,8 +7,8 @@ use borrow.Author.Needs.{needs}
 use Rattle.edges.proofs.find_edges.Statement.{statement}
 use Rattle.edges.proofs.find_edges.Tie as tie
 
-edges-check-requires : tie.Need-edges-check-requires
-edges-check-requires c κs = search needs
+edges-refusal-requires : tie.Need-edges-refusal-requires
+edges-refusal-requires c κs = search needs
 
 enum-told : tie.Need-enum-told
 enum-told c = search needs
@@ -20,15 +20,15 @@ returns : tie.Need-returns
 returns c =
     let k = c .before .before .before in
     let s = k .before .before .before .before .before .before .before .before .before .args in
-    let r = roomsOf (s .edges .now) (s .lengths .now) (s .sides .now) (s .vertices .now) (s .ends .now) (s .work .now) in
-    is-refused (s .points .now) (s .faces .now) r _ (k .edges-check .ensures) _ _ (c .before .number .given .1)
+    let r = roomsOf (s .edges .now) (s .lengths .now) (s .face-edges .now) (s .loop-vertices .now) (s .loop-ends .now) (s .work .now) in
+    is-refused (s .points .now) (s .faces .now) r _ (k .edges-refusal .ensures) _ _ (c .before .number .given .1)
 
 prepare-requires : tie.Need-prepare-requires
 prepare-requires c κs =
     let k = c .before .before .before in
     let s = k .before .before .before .before .before .before .before .before .before .args in
-    let r = roomsOf (s .edges .now) (s .lengths .now) (s .sides .now) (s .vertices .now) (s .ends .now) (s .work .now) in
-    draw-asks (s .points .now) (s .faces .now) r _ (k .edges-check .ensures) (c .before .enum-told .given .1)
+    let r = roomsOf (s .edges .now) (s .lengths .now) (s .face-edges .now) (s .loop-vertices .now) (s .loop-ends .now) (s .work .now) in
+    draw-asks (s .points .now) (s .faces .now) r _ (k .edges-refusal .ensures) (c .before .enum-told .given .1)
 
 enum-known-m : tie.Need-enum-known-m
 enum-known-m c = search needs
@@ -38,8 +38,8 @@ list-requires c κs =
     let p = c .before .before .before .before .before .before .before .before .before .before .before in
     let k = p .before .before .before .before in
     let s = k .before .before .before .before .before .before .before .before .before .args in
-    let r = roomsOf (s .edges .now) (s .lengths .now) (s .sides .now) (s .vertices .now) (s .ends .now) (s .work .now) in
-    list-asks (s .points .now) (s .faces .now) r _ (k .edges-check .ensures) (p .before .before .enum-told .given .1) (p .prepare .ensures) _ (c .before .before .before .before .before .before .before .m .given .1)
+    let r = roomsOf (s .edges .now) (s .lengths .now) (s .face-edges .now) (s .loop-vertices .now) (s .loop-ends .now) (s .work .now) in
+    list-asks (s .points .now) (s .faces .now) r _ (k .edges-refusal .ensures) (p .before .before .enum-told .given .1) (p .prepare .ensures) _ (c .before .before .before .before .before .before .before .m .given .1)
 
 mul-t39 : tie.Need-mul-t39
 mul-t39 c =
@@ -47,8 +47,8 @@ mul-t39 c =
     let p = l .before .before .before .before .before .before .before .before .before .before .before .before in
     let k = p .before .before .before .before in
     let s = k .before .before .before .before .before .before .before .before .before .args in
-    let r = roomsOf (s .edges .now) (s .lengths .now) (s .sides .now) (s .vertices .now) (s .ends .now) (s .work .now) in
-    let a = list-asks (s .points .now) (s .faces .now) r _ (k .edges-check .ensures) (p .before .before .enum-told .given .1) (p .prepare .ensures) _ (l .before .before .before .before .before .before .before .before .m .given .1) in
+    let r = roomsOf (s .edges .now) (s .lengths .now) (s .face-edges .now) (s .loop-vertices .now) (s .loop-ends .now) (s .work .now) in
+    let a = list-asks (s .points .now) (s .faces .now) r _ (k .edges-refusal .ensures) (p .before .before .enum-told .given .1) (p .prepare .ensures) _ (l .before .before .before .before .before .before .before .before .m .given .1) in
     omega (arith, few-edges a, sizes a)
 
 enum-known-number-2 : tie.Need-enum-known-number-2
@@ -78,8 +78,8 @@ returns-2 c =
     let p = l .before .before .before .before .before .before .before .before .before .before .before .before in
     let k = p .before .before .before .before in
     let s = k .before .before .before .before .before .before .before .before .before .args in
-    let r = roomsOf (s .edges .now) (s .lengths .now) (s .sides .now) (s .vertices .now) (s .ends .now) (s .work .now) in
-    is-done (s .points .now) (s .faces .now) r _ (k .edges-check .ensures) (p .before .before .enum-told .given .1) (p .prepare .ensures) _ (l .before .before .before .before .before .before .before .before .m .given .1) (l .list .ensures)
+    let r = roomsOf (s .edges .now) (s .lengths .now) (s .face-edges .now) (s .loop-vertices .now) (s .loop-ends .now) (s .work .now) in
+    is-done (s .points .now) (s .faces .now) r _ (k .edges-refusal .ensures) (p .before .before .enum-told .given .1) (p .prepare .ensures) _ (l .before .before .before .before .before .before .before .before .m .given .1) (l .list .ensures)
 
 same-length-7 : tie.Need-same-length-7
 same-length-7 c = search needs
@@ -89,14 +89,14 @@ returns-3 c =
     let p = c .before .before .before .before .before in
     let k = p .before .before .before .before in
     let s = k .before .before .before .before .before .before .before .before .before .args in
-    let r = roomsOf (s .edges .now) (s .lengths .now) (s .sides .now) (s .vertices .now) (s .ends .now) (s .work .now) in
-    is-judged (s .points .now) (s .faces .now) r _ (k .edges-check .ensures) (p .before .before .enum-told .given .1) (p .prepare .ensures) _ _ (c .before .number2 .given .1)
+    let r = roomsOf (s .edges .now) (s .lengths .now) (s .face-edges .now) (s .loop-vertices .now) (s .loop-ends .now) (s .work .now) in
+    is-judged (s .points .now) (s .faces .now) r _ (k .edges-refusal .ensures) (p .before .before .enum-told .given .1) (p .prepare .ensures) _ _ (c .before .number2 .given .1)
 
 pub find-edges-spec : {M : Type 1} → statement M
 find-edges-spec =
     tie.close
     (tie.spec
-    edges-check-requires
+    edges-refusal-requires
     enum-told
     enum-known-number
     returns

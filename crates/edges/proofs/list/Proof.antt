@@ -1,6 +1,6 @@
 -- `edges::list` meets its contract: each room is written in turn, and the work room is cleared. Assumes nothing.
 use native.Mathlib.Omega.{arith}
-use Rattle.edges.proofs.Writing.{sizes, edges-asks, lengths-asks, sides-asks, loops-asks, clear-fits, all-done}
+use Rattle.edges.proofs.Writing.{sizes, edges-asks, lengths-asks, face-edges-asks, loops-asks, clear-fits, all-done}
 use borrow.Author.Needs.{needs}
 use Rattle.edges.proofs.list.Statement.{statement}
 use Rattle.edges.proofs.list.Tie as tie
@@ -26,7 +26,7 @@ list-lengths-requires c κs =
     lengths-asks (e .before .before .before .before .before .before .before .before .before .before .before .pre) (e .list-edges .ensures)
 
 list-face-edges-requires : tie.Need-list-face-edges-requires
-list-face-edges-requires c κs = sides-asks (c .before .before .before .before .before .before .before .before .before .before .before .before .before .before .before .before .before .before .before .before .pre)
+list-face-edges-requires c κs = face-edges-asks (c .before .before .before .before .before .before .before .before .before .before .before .before .before .before .before .before .before .before .before .before .pre)
 
 add-list-loops : tie.Need-add-list-loops
 add-list-loops c = search needs

@@ -4,8 +4,8 @@ use borrow.Author.Needs.{needs}
 use Rattle.line.proofs.line.Statement.{statement}
 use Rattle.line.proofs.line.Tie as tie
 
-line-check-requires : tie.Need-line-check-requires
-line-check-requires c κs = search needs
+line-refusal-requires : tie.Need-line-refusal-requires
+line-refusal-requires c κs = search needs
 
 enum-known-number : tie.Need-enum-known-number
 enum-known-number c = search needs
@@ -15,9 +15,9 @@ enum-told c = search needs
 
 put-line-requires : tie.Need-put-line-requires
 put-line-requires c κs =
-    let at-line-check = c .before .before .before in
-    let start = at-line-check .before .before .before in
-    fine _ (start .args .line .now) _ (at-line-check .line-check .ensures) (c .before .enum-told .given .1)
+    let at-line-refusal = c .before .before .before in
+    let start = at-line-refusal .before .before .before in
+    fine _ (start .args .line .now) _ (at-line-refusal .line-refusal .ensures) (c .before .enum-told .given .1)
 
 sub-put-zeros : tie.Need-sub-put-zeros
 sub-put-zeros c = search needs
@@ -25,14 +25,14 @@ sub-put-zeros c = search needs
 put-zeros-requires : tie.Need-put-zeros-requires
 put-zeros-requires c κs =
     let at-put-line = c .before .before .before in
-    let at-line-check = at-put-line .before .before .before .before in
-    let start = at-line-check .before .before .before in
-    zeros-asks (fine _ (start .args .line .now) _ (at-line-check .line-check .ensures) (at-put-line .before .before .enum-told .given .1)) (at-put-line .put-line .ensures)
+    let at-line-refusal = at-put-line .before .before .before .before in
+    let start = at-line-refusal .before .before .before in
+    zeros-asks (fine _ (start .args .line .now) _ (at-line-refusal .line-refusal .ensures) (at-put-line .before .before .enum-told .given .1)) (at-put-line .put-line .ensures)
 
 returns : tie.Need-returns
 returns c =
-    let at-line-check = c .before .before .before in
-    refused-done _ _ _ (at-line-check .line-check .ensures) _ _ (c .before .number .given .1)
+    let at-line-refusal = c .before .before .before in
+    refused-done _ _ _ (at-line-refusal .line-refusal .ensures) _ _ (c .before .number .given .1)
 
 same-length : tie.Need-same-length
 same-length c = search needs
@@ -41,14 +41,14 @@ returns-2 : tie.Need-returns-2
 returns-2 c =
     let at-put-zeros = c .before .before in
     let at-put-line = at-put-zeros .before .before .before .before in
-    let at-line-check = at-put-line .before .before .before .before in
-    line-done _ _ _ (at-line-check .line-check .ensures) (at-put-line .before .before .enum-told .given .1) (at-put-line .put-line .ensures) (at-put-zeros .put-zeros .ensures)
+    let at-line-refusal = at-put-line .before .before .before .before in
+    line-done _ _ _ (at-line-refusal .line-refusal .ensures) (at-put-line .before .before .enum-told .given .1) (at-put-line .put-line .ensures) (at-put-zeros .put-zeros .ensures)
 
 pub line-spec : {M : Type 1} → statement M
 line-spec =
     tie.close
     (tie.spec
-    line-check-requires
+    line-refusal-requires
     enum-known-number
     enum-told
     put-line-requires

@@ -27,22 +27,22 @@ add-total c =
     let a = e .before .before .before in
     omega (arith, fits (a .before .before .before .before .before .pre) (a .walk .ensures) (e .if1 .left))
 
-cast-ends : tie.Need-cast-ends
-cast-ends c =
+cast-loop-ends : tie.Need-cast-loop-ends
+cast-loop-ends c =
     let m = c .before .before in
     let e = m .before .before .before in
     let a = e .before .before .before in
     omega (arith, fits (a .before .before .before .before .before .pre) (a .walk .ensures) (e .if1 .left))
 
-mul-ends : tie.Need-mul-ends
-mul-ends c =
+mul-loop-ends : tie.Need-mul-loop-ends
+mul-loop-ends c =
     let m = c .before .before in
     let e = m .before .before .before in
     let a = e .before .before .before in
     omega (arith, fits (a .before .before .before .before .before .pre) (a .walk .ensures) (e .if1 .left))
 
-slice-write-ends : tie.Need-slice-write-ends
-slice-write-ends c =
+slice-write-loop-ends : tie.Need-slice-write-loop-ends
+slice-write-loop-ends c =
     let m = c .before .before in
     let e = m .before .before .before in
     let a = e .before .before .before in
@@ -79,9 +79,9 @@ add-loop-spec =
     returns
     mirror-requires
     add-total
-    cast-ends
-    mul-ends
-    slice-write-ends
+    cast-loop-ends
+    mul-loop-ends
+    slice-write-loop-ends
     add-t22
     same-length-2
     same-length-3

@@ -6,37 +6,37 @@ use Rattle.loops.proofs.mirror.Statement.{statement}
 use Rattle.loops.proofs.mirror.Tie as tie
 
 abbrev Inv-loop : tie.InvT-loop
-Inv-loop work spare n vertices₀ from i₀ vertices i = Copied work spare n vertices₀ from vertices i
+Inv-loop work spare n loop-vertices₀ from i₀ loop-vertices i = Copied work spare n loop-vertices₀ from loop-vertices i
 
 abbrev μ-loop : tie.MeasureT-loop
-μ-loop work spare n vertices₀ from i₀ vertices i = n - i
+μ-loop work spare n loop-vertices₀ from i₀ loop-vertices i = n - i
 
 loop-holds : tie.Need-loop-holds Inv-loop μ-loop
 loop-holds c = begin (c .pre)
 
-sub-vertices : tie.Need-sub-vertices Inv-loop μ-loop
-sub-vertices c = omega (arith, turn (c .before .before .pre) (c .before .loop .inv) (c .loop-test .taken))
+sub-loop-vertices : tie.Need-sub-loop-vertices Inv-loop μ-loop
+sub-loop-vertices c = omega (arith, turn (c .before .before .pre) (c .before .loop .inv) (c .loop-test .taken))
 
-sub-vertices-2 : tie.Need-sub-vertices-2 Inv-loop μ-loop
-sub-vertices-2 c = omega (arith, turn (c .before .before .pre) (c .before .loop .inv) (c .loop-test .taken))
+sub-loop-vertices-2 : tie.Need-sub-loop-vertices-2 Inv-loop μ-loop
+sub-loop-vertices-2 c = omega (arith, turn (c .before .before .pre) (c .before .loop .inv) (c .loop-test .taken))
 
-add-vertices : tie.Need-add-vertices Inv-loop μ-loop
-add-vertices c = omega (arith, turn (c .before .before .pre) (c .before .loop .inv) (c .loop-test .taken))
+add-loop-vertices : tie.Need-add-loop-vertices Inv-loop μ-loop
+add-loop-vertices c = omega (arith, turn (c .before .before .pre) (c .before .loop .inv) (c .loop-test .taken))
 
-mul-vertices : tie.Need-mul-vertices Inv-loop μ-loop
-mul-vertices c = omega (arith, turn (c .before .before .pre) (c .before .loop .inv) (c .loop-test .taken))
+mul-loop-vertices : tie.Need-mul-loop-vertices Inv-loop μ-loop
+mul-loop-vertices c = omega (arith, turn (c .before .before .pre) (c .before .loop .inv) (c .loop-test .taken))
 
-shared-slice-read-vertices : tie.Need-shared-slice-read-vertices Inv-loop μ-loop
-shared-slice-read-vertices c = omega (arith, turn (c .before .before .before .pre) (c .before .before .loop .inv) (c .before .loop-test .taken))
+shared-slice-read-loop-vertices : tie.Need-shared-slice-read-loop-vertices Inv-loop μ-loop
+shared-slice-read-loop-vertices c = omega (arith, turn (c .before .before .before .pre) (c .before .before .loop .inv) (c .before .loop-test .taken))
 
-add-vertices-2 : tie.Need-add-vertices-2 Inv-loop μ-loop
-add-vertices-2 c = omega (arith, turn (c .before .before .before .pre) (c .before .before .loop .inv) (c .before .loop-test .taken))
+add-loop-vertices-2 : tie.Need-add-loop-vertices-2 Inv-loop μ-loop
+add-loop-vertices-2 c = omega (arith, turn (c .before .before .before .pre) (c .before .before .loop .inv) (c .before .loop-test .taken))
 
-mul-vertices-2 : tie.Need-mul-vertices-2 Inv-loop μ-loop
-mul-vertices-2 c = omega (arith, turn (c .before .before .before .pre) (c .before .before .loop .inv) (c .before .loop-test .taken))
+mul-loop-vertices-2 : tie.Need-mul-loop-vertices-2 Inv-loop μ-loop
+mul-loop-vertices-2 c = omega (arith, turn (c .before .before .before .pre) (c .before .before .loop .inv) (c .before .loop-test .taken))
 
-slice-write-vertices : tie.Need-slice-write-vertices Inv-loop μ-loop
-slice-write-vertices c = omega (arith, turn (c .before .before .before .pre) (c .before .before .loop .inv) (c .before .loop-test .taken))
+slice-write-loop-vertices : tie.Need-slice-write-loop-vertices Inv-loop μ-loop
+slice-write-loop-vertices c = omega (arith, turn (c .before .before .before .pre) (c .before .before .loop .inv) (c .before .loop-test .taken))
 
 add-i : tie.Need-add-i Inv-loop μ-loop
 add-i c = omega (arith, turn (c .before .before .before .pre) (c .before .before .loop .inv) (c .before .loop-test .taken))
@@ -60,14 +60,14 @@ mirror-spec =
     Inv-loop
     μ-loop
     loop-holds
-    sub-vertices
-    sub-vertices-2
-    add-vertices
-    mul-vertices
-    shared-slice-read-vertices
-    add-vertices-2
-    mul-vertices-2
-    slice-write-vertices
+    sub-loop-vertices
+    sub-loop-vertices-2
+    add-loop-vertices
+    mul-loop-vertices
+    shared-slice-read-loop-vertices
+    add-loop-vertices-2
+    mul-loop-vertices-2
+    slice-write-loop-vertices
     add-i
     loop-less
     loop-again

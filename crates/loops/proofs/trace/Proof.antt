@@ -7,10 +7,10 @@ use Rattle.loops.proofs.trace.Statement.{statement}
 use Rattle.loops.proofs.trace.Tie as tie
 
 abbrev Inv-loop : tie.InvT-loop
-Inv-loop work₀ points next spare vertices₀ ends₀ found₀ v₀ work vertices ends found v = (q : TraceAsks work₀ points next spare vertices₀ ends₀) → Listing q work vertices ends (found .vertices) (found .ends) v
+Inv-loop work₀ points next spare loop-vertices₀ loop-ends₀ found₀ v₀ work loop-vertices loop-ends found v = (q : TraceAsks work₀ points next spare loop-vertices₀ loop-ends₀) → Listing q work loop-vertices loop-ends (found .«loop_vertices») (found .«loop_ends») v
 
 abbrev μ-loop : tie.MeasureT-loop
-μ-loop work₀ points next spare vertices₀ ends₀ found₀ v₀ work vertices ends found v = points - v
+μ-loop work₀ points next spare loop-vertices₀ loop-ends₀ found₀ v₀ work loop-vertices loop-ends found v = points - v
 
 loop-holds : tie.Need-loop-holds Inv-loop μ-loop
 loop-holds c = λ q. begin q

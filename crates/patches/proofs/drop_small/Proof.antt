@@ -9,10 +9,10 @@ use Rattle.patches.proofs.drop_small.Statement.{statement}
 use Rattle.patches.proofs.drop_small.Tie as tie
 
 abbrev Inv-loop : tie.InvT-loop
-Inv-loop counts numbers count by least flags₀ k₀ flags k = Dropped counts numbers count (filterOf by) (limitOf least) flags₀ flags k
+Inv-loop face-counts numbers count by least flags₀ k₀ flags k = Dropped face-counts numbers count (filterOf by) (limitOf least) flags₀ flags k
 
 abbrev μ-loop : tie.MeasureT-loop
-μ-loop counts numbers count by least flags₀ k₀ flags k = count - k
+μ-loop face-counts numbers count by least flags₀ k₀ flags k = count - k
 
 loop-holds : tie.Need-loop-holds Inv-loop μ-loop
 loop-holds c = drop-begin (c .before .before .before .pre)

@@ -16,7 +16,7 @@ keep-requires : tie.Need-keep-requires
 keep-requires c κs =
     let s = c .before .before .before .before .before in
     let a = s .before .before .before .before .before .before .before .before .before .before .before .before .before in
-    keep-asks (a .args .counts .now) (a .args .numbers .now) (a .args .flags .now) (a .args .work .now) (a .pre) (s .sum-faces .ensures)
+    keep-asks (a .args .face-counts .now) (a .args .numbers .now) (a .args .flags .now) (a .args .work .now) (a .pre) (s .sum-faces .ensures)
 
 share-requires : tie.Need-share-requires
 share-requires c κs = search needs
@@ -32,7 +32,7 @@ clear-requires c κs =
     let k = c .before .before .before .before .before .before .before .before .before .before .before .before .before in
     let s = k .before .before .before .before .before .before in
     let a = s .before .before .before .before .before .before .before .before .before .before .before .before .before in
-    omega (arith, clear-fits (a .args .counts .now) (a .args .numbers .now) (a .args .flags .now) (a .args .work .now) (a .pre) (s .sum-faces .ensures) (k .keep .ensures))
+    omega (arith, clear-fits (a .args .face-counts .now) (a .args .numbers .now) (a .args .flags .now) (a .args .work .now) (a .pre) (s .sum-faces .ensures) (k .keep .ensures))
 
 same-length : tie.Need-same-length
 same-length c = search needs
@@ -54,7 +54,7 @@ returns c =
     let s = k .before .before .before .before .before .before in
     let n = s .before .before .before .before in
     let a = n .before .before .before .before .before .before .before .before .before in
-    filled (a .args .counts .now) (a .args .numbers .now) (a .args .flags .now) (a .args .work .now) (a .pre) (s .sum-faces .ensures) (filterOf (a .args .by))
+    filled (a .args .face-counts .now) (a .args .numbers .now) (a .args .flags .now) (a .args .work .now) (a .pre) (s .sum-faces .ensures) (filterOf (a .args .by))
     (n .count-faces .ensures) (k .keep .ensures) (h .share .ensures) (d .drop-small .ensures) (c .before .before .clear .ensures .0)
     (c .before .before .clear .ensures .1)
 

@@ -6,8 +6,8 @@ use borrow.Author.Needs.{needs}
 use Rattle.patches.proofs.find_patches.Statement.{statement}
 use Rattle.patches.proofs.find_patches.Tie as tie
 
-patches-check-requires : tie.Need-patches-check-requires
-patches-check-requires c κs = search needs
+patches-refusal-requires : tie.Need-patches-refusal-requires
+patches-refusal-requires c κs = search needs
 
 enum-known-number : tie.Need-enum-known-number
 enum-known-number c = search needs
@@ -20,8 +20,8 @@ fill-rooms-requires c κs =
     let t = c .before .before .before .before in
     let v = t .before .before in
     let a = v .before .before .before .before .before .before .before .before .args in
-    is-accepted (a .points .now) (a .faces .now) (a .labels .now) (a .count) (filterOf (a .by)) (roomsOf (a .counts .now) (a .numbers .now) (a .flags .now) (a .work .now)) _
-    (v .patches-check .ensures) (t .enum-told .given .1)
+    is-accepted (a .points .now) (a .faces .now) (a .labels .now) (a .count) (filterOf (a .by)) (roomsOf (a .face-counts .now) (a .numbers .now) (a .flags .now) (a .work .now)) _
+    (v .patches-refusal .ensures) (t .enum-told .given .1)
 
 mul-t28 : tie.Need-mul-t28
 mul-t28 c =
@@ -30,16 +30,16 @@ mul-t28 c =
     let a = v .before .before .before .before .before .before .before .before .args in
     omega (
       arith,
-      is-accepted (a .points .now) (a .faces .now) (a .labels .now) (a .count) (filterOf (a .by)) (roomsOf (a .counts .now) (a .numbers .now) (a .flags .now) (a .work .now)) _
-          (v .patches-check .ensures) (t .enum-told .given .1) .patches,
+      is-accepted (a .points .now) (a .faces .now) (a .labels .now) (a .count) (filterOf (a .by)) (roomsOf (a .face-counts .now) (a .numbers .now) (a .flags .now) (a .work .now)) _
+          (v .patches-refusal .ensures) (t .enum-told .given .1) .patches,
     )
 
 returns : tie.Need-returns
 returns c =
     let v = c .before .before .before in
     let a = v .before .before .before .before .before .before .before .before .args in
-    is-refused (a .points .now) (a .faces .now) (a .labels .now) (a .count) (filterOf (a .by)) (roomsOf (a .counts .now) (a .numbers .now) (a .flags .now) (a .work .now)) _
-    (v .patches-check .ensures) _ _ (c .before .number .given .1)
+    is-refused (a .points .now) (a .faces .now) (a .labels .now) (a .count) (filterOf (a .by)) (roomsOf (a .face-counts .now) (a .numbers .now) (a .flags .now) (a .work .now)) _
+    (v .patches-refusal .ensures) _ _ (c .before .number .given .1)
 
 same-length : tie.Need-same-length
 same-length c = search needs
@@ -58,14 +58,14 @@ returns-2 c =
     let t = c .before .before .before .before .before .before .before .before .before .before .before .before .before in
     let v = t .before .before in
     let a = v .before .before .before .before .before .before .before .before .args in
-    is-done (a .points .now) (a .faces .now) (a .labels .now) (a .count) (filterOf (a .by)) (roomsOf (a .counts .now) (a .numbers .now) (a .flags .now) (a .work .now)) _
-    (v .patches-check .ensures) (t .enum-told .given .1) (c .before .before .before .before .before .before .before .before .fill-rooms .ensures)
+    is-done (a .points .now) (a .faces .now) (a .labels .now) (a .count) (filterOf (a .by)) (roomsOf (a .face-counts .now) (a .numbers .now) (a .flags .now) (a .work .now)) _
+    (v .patches-refusal .ensures) (t .enum-told .given .1) (c .before .before .before .before .before .before .before .before .fill-rooms .ensures)
 
 pub find-patches-spec : {M : Type 1} → statement M
 find-patches-spec =
     tie.close
     (tie.spec
-    patches-check-requires
+    patches-refusal-requires
     enum-known-number
     enum-told
     fill-rooms-requires

@@ -1,5 +1,5 @@
 -- `refuse::contents` meets its contract. Assumes nothing.
-use Rattle.refuse.proofs.Groups.{last, stop-one, go-on-one}
+use Rattle.refuse.proofs.Groups.{last, hand-on-one, go-on-one}
 use borrow.Author.Needs.{needs}
 use Rattle.refuse.proofs.contents.Statement.{statement}
 use Rattle.refuse.proofs.contents.Tie as tie
@@ -10,11 +10,11 @@ coordinates-requires c κs = search needs
 enum-told : tie.Need-enum-told
 enum-told c = search needs
 
-enum-known-number : tie.Need-enum-known-number
-enum-known-number c = search needs
+enum-told-2 : tie.Need-enum-told-2
+enum-told-2 c = search needs
 
 returns : tie.Need-returns
-returns c = stop-one _ _ _ _ _ (c .before .before .before .coordinates .ensures) (c .before .number .given .1)
+returns c = hand-on-one _ _ _ _ _ (c .before .before .coordinates .ensures) (c .enum-told2 .given .1)
 
 corners-requires : tie.Need-corners-requires
 corners-requires c κs = search needs
@@ -26,4 +26,4 @@ returns-2 c = let t = c .before in
 pub contents-spec : {M : Type 1} → statement M
 contents-spec =
     tie.close
-    (tie.spec coordinates-requires enum-told enum-known-number returns corners-requires returns-2)
+    (tie.spec coordinates-requires enum-told enum-told-2 returns corners-requires returns-2)

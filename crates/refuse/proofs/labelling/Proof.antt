@@ -1,5 +1,5 @@
 -- `refuse::labelling` meets its contract. Assumes nothing.
-use Rattle.refuse.proofs.Groups.{last, stop-one, go-on-one}
+use Rattle.refuse.proofs.Groups.{last, hand-on-one, go-on-one}
 use Rattle.refuse.proofs.Singles.{as-many, other-number}
 use borrow.Author.Needs.{needs}
 use Rattle.refuse.proofs.labelling.Statement.{statement}
@@ -11,11 +11,11 @@ known-requires c κs = search needs
 enum-told : tie.Need-enum-told
 enum-told c = search needs
 
-enum-known-number : tie.Need-enum-known-number
-enum-known-number c = search needs
+enum-told-2 : tie.Need-enum-told-2
+enum-told-2 c = search needs
 
 returns : tie.Need-returns
-returns c = stop-one _ _ _ _ _ (c .before .before .before .known .ensures) (c .before .number .given .1)
+returns c = hand-on-one _ _ _ _ _ (c .before .before .known .ensures) (c .enum-told2 .given .1)
 
 returns-2 : tie.Need-returns-2
 returns-2 c = let t = c .before in
@@ -27,4 +27,4 @@ returns-3 c = let t = c .before in
 
 pub labelling-spec : {M : Type 1} → statement M
 labelling-spec =
-    tie.close (tie.spec known-requires enum-told enum-known-number returns returns-2 returns-3)
+    tie.close (tie.spec known-requires enum-told enum-told-2 returns returns-2 returns-3)

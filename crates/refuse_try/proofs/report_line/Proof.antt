@@ -4,38 +4,38 @@ use borrow.Author.Needs.{needs}
 use Rattle.refuse_try.proofs.report_line.Statement.{statement}
 use Rattle.refuse_try.proofs.report_line.Tie as tie
 
-slice-aggregate-line-check : tie.Need-slice-aggregate-line-check
-slice-aggregate-line-check c = search needs
+slice-aggregate-line-refusal : tie.Need-slice-aggregate-line-refusal
+slice-aggregate-line-refusal c = search needs
 
-line-check-requires : tie.Need-line-check-requires
-line-check-requires c κs = search needs
+line-refusal-requires : tie.Need-line-refusal-requires
+line-refusal-requires c κs = search needs
 
 accepted-requires : tie.Need-accepted-requires
 unfolding every-rule
-accepted-requires c κs = c .line-check .ensures
+accepted-requires c κs = c .line-refusal .ensures
 
-slice-aggregate-line-check-2 : tie.Need-slice-aggregate-line-check-2
-slice-aggregate-line-check-2 c = search needs
+slice-aggregate-line-refusal-2 : tie.Need-slice-aggregate-line-refusal-2
+slice-aggregate-line-refusal-2 c = search needs
 
-line-check-requires-2 : tie.Need-line-check-requires-2
-line-check-requires-2 c κs = search needs
+line-refusal-requires-2 : tie.Need-line-refusal-requires-2
+line-refusal-requires-2 c κs = search needs
 
 refused-requires : tie.Need-refused-requires
 unfolding every-rule
-refused-requires c κs = c .line-check2 .ensures
+refused-requires c κs = c .line-refusal2 .ensures
 
 array-share-prefix-counts : tie.Need-array-share-prefix-counts
 array-share-prefix-counts c = search needs
 
-slice-aggregate-line-check-3 : tie.Need-slice-aggregate-line-check-3
-slice-aggregate-line-check-3 c = search needs
+slice-aggregate-line-refusal-3 : tie.Need-slice-aggregate-line-refusal-3
+slice-aggregate-line-refusal-3 c = search needs
 
-line-check-requires-3 : tie.Need-line-check-requires-3
-line-check-requires-3 c κs = search needs
+line-refusal-requires-3 : tie.Need-line-refusal-requires-3
+line-refusal-requires-3 c κs = search needs
 
 refused-requires-2 : tie.Need-refused-requires-2
 unfolding every-rule
-refused-requires-2 c κs = c .line-check3 .ensures
+refused-requires-2 c κs = c .line-refusal3 .ensures
 
 returns : tie.Need-returns
 returns c = search needs
@@ -44,14 +44,14 @@ pub report-line-spec : {M : Type 1} → statement M
 report-line-spec =
     tie.close
     (tie.spec
-    slice-aggregate-line-check
-    line-check-requires
+    slice-aggregate-line-refusal
+    line-refusal-requires
     accepted-requires
-    slice-aggregate-line-check-2
-    line-check-requires-2
+    slice-aggregate-line-refusal-2
+    line-refusal-requires-2
     refused-requires
     array-share-prefix-counts
-    slice-aggregate-line-check-3
-    line-check-requires-3
+    slice-aggregate-line-refusal-3
+    line-refusal-requires-3
     refused-requires-2
     returns)

@@ -1,13 +1,13 @@
 -- `verdict_try::run` is safe and ends: what is not refused is accepted. Assumes nothing.
 use mathlib.Core.Path.{sym, ap, _∙_}
 use Rattle.refuse.specs.Verdicts.{checkOf}
-use Rattle.refuse.proofs.Accept.{check-accepted}
+use Rattle.edge_check_refusal.proofs.Accept.{check-accepted}
 use borrow.Author.Needs.{needs}
 use Rattle.verdict_try.proofs.run.Statement.{statement}
 use Rattle.verdict_try.proofs.run.Tie as tie
 
-check-check-requires : tie.Need-check-check-requires
-check-check-requires c κs = search needs
+edge-check-refusal-requires : tie.Need-edge-check-refusal-requires
+edge-check-refusal-requires c κs = search needs
 
 enum-told : tie.Need-enum-told
 enum-told c = search needs
@@ -16,7 +16,7 @@ slice-aggregate-both : tie.Need-slice-aggregate-both
 slice-aggregate-both c = search needs
 
 both-requires : tie.Need-both-requires
-both-requires c κs = check-accepted _ _ 400 (sym (c .before .before .before .check-check .ensures) ∙ ap checkOf (c .before .enum-told .given .1))
+both-requires c κs = check-accepted _ _ 400 (sym (c .before .before .before .edge-check-refusal .ensures) ∙ ap checkOf (c .before .enum-told .given .1))
 
 enum-told-2 : tie.Need-enum-told-2
 enum-told-2 c = search needs
@@ -37,7 +37,7 @@ pub run-spec : {M : Type 1} → statement M
 run-spec =
     tie.close
     (tie.spec
-    check-check-requires
+    edge-check-refusal-requires
     enum-told
     slice-aggregate-both
     both-requires

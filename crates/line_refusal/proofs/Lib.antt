@@ -1,0 +1,2 @@
+-- What an accepted report line may start from.
+pub mod Accept

@@ -41,6 +41,7 @@ use denote.Triple.Call.{calls-at}
 use denote.Triple.Clauses.{closing, ensured, lasts}
 use denote.Triple.Walked.{says}
 use Rattle.passes.specs.declared.Passed.{Passed}
+use Rattle.passes.specs.Passing.{lists}
 use Rattle.passes.proofs.Passed as S
 use Rattle.lending.specs.declared.Report.{Report}
 use Rattle.lending.proofs.Again.{LentAgain}
@@ -114,7 +115,7 @@ module _ {M : Type 1} (𝓤 : URA M) (H : Heap 𝓤) (A : Atoms 𝓤) (W : Given
   to = (((ν ∷ [], (ν-points ∷ [], (ν-faces ∷ [], (ν-work ∷ [], tt)))), (fullShare, (fullShare, (fullShare, (fullShare, tt)))), tt, args D h ys-points ys-faces ys-work δ δ-points δ-faces δ-work, vals D), tt)
 
   -- the callee may be called
-  goes : P .Req h (D .options) (D .s) ys-points (D .p) ys-faces (D .n) ys-work → ent 𝓤 (sep 𝓤 (sep 𝓤 (A .lft (ν ∷ []) fullShare) (sep 𝓤 (A .lft (ν-points ∷ []) fullShare) (sep 𝓤 (A .lft (ν-faces ∷ []) fullShare) (sep 𝓤 (A .lft (ν-work ∷ []) fullShare) (sem 𝓤 H A ftrue))))) (sem 𝓤 H A (owns (MutRef (named 0) (ν ∷ []) T.the-row ∷ u32 ∷ f64 ∷ MutSlice (named 1) (ν-points ∷ []) f64 ∷ usize ∷ MutSlice (named 2) (ν-faces ∷ []) u32 ∷ usize ∷ MutSlice (named 3) (ν-work ∷ []) u32 ∷ []) (args D h ys-points ys-faces ys-work δ δ-points δ-faces δ-work) (vals D)))) (L 𝓤 P H A .pre to)
+  goes : P .Req h (lists ys-points (D .p) ys-faces (D .n) ys-work) → ent 𝓤 (sep 𝓤 (sep 𝓤 (A .lft (ν ∷ []) fullShare) (sep 𝓤 (A .lft (ν-points ∷ []) fullShare) (sep 𝓤 (A .lft (ν-faces ∷ []) fullShare) (sep 𝓤 (A .lft (ν-work ∷ []) fullShare) (sem 𝓤 H A ftrue))))) (sem 𝓤 H A (owns (MutRef (named 0) (ν ∷ []) T.the-row ∷ u32 ∷ f64 ∷ MutSlice (named 1) (ν-points ∷ []) f64 ∷ usize ∷ MutSlice (named 2) (ν-faces ∷ []) u32 ∷ usize ∷ MutSlice (named 3) (ν-work ∷ []) u32 ∷ []) (args D h ys-points ys-faces ys-work δ δ-points δ-faces δ-work) (vals D)))) (L 𝓤 P H A .pre to)
   goes req = qed W ((‵ (flft (ν ∷ []) fullShare) ⊛ ‵ (flft (ν-points ∷ []) fullShare) ⊛ ‵ (flft (ν-faces ∷ []) fullShare) ⊛ ‵ (flft (ν-work ∷ []) fullShare) ⊛ ‵ ftrue) ∷ ‵ (owns (MutRef (named 0) (ν ∷ []) T.the-row ∷ u32 ∷ f64 ∷ MutSlice (named 1) (ν-points ∷ []) f64 ∷ usize ∷ MutSlice (named 2) (ν-faces ∷ []) u32 ∷ usize ∷ MutSlice (named 3) (ν-work ∷ []) u32 ∷ []) (args D h ys-points ys-faces ys-work δ δ-points δ-faces δ-work) (vals D)) ∷ []) ∵ says ! req $ frame ! $ done !
 
 -- what is kept while they are lent
@@ -125,7 +126,7 @@ module _ {M : Type 1} {𝓤 : URA M} {H : Heap 𝓤} {A : Atoms 𝓤} {K : Type 
   module _ {G : Goal 𝓤 H} where
     -- the report and the slices are lent
     gives :
-        K → Soaks G → (P : Pass) (D : Driver) (h : Report) (ys-points : List Float) (ys-faces : List ℕ) (ys-work : List ℕ) → Is T.the-row h (mach h ∷ []) → length ys-points ≡ D .m-points → length ys-faces ≡ D .m-faces → length ys-work ≡ D .m-work → P .Req h (D .options) (D .s) ys-points (D .p) ys-faces (D .n) ys-work
+        K → Soaks G → (P : Pass) (D : Driver) (h : Report) (ys-points : List Float) (ys-faces : List ℕ) (ys-work : List ℕ) → Is T.the-row h (mach h ∷ []) → length ys-points ≡ D .m-points → length ys-faces ≡ D .m-faces → length ys-work ≡ D .m-work → P .Req h (lists ys-points (D .p) ys-faces (D .n) ys-work)
         → ((ν ν-points ν-faces ν-work : ℕ) (δ δ-points δ-faces δ-work : GName) → Seq K W (raw (L 𝓤 P H A .pre (to 𝓤 H A W P D h ys-points ys-faces ys-work ν ν-points ν-faces ν-work δ δ-points δ-faces δ-work)) ∷ Kept D ys-points ys-faces ys-work ν ν-points ν-faces ν-work δ δ-points δ-faces δ-work Γ) G) → Seq K W (Has D h ys-points ys-faces ys-work Γ) G
     gives t z P D h ys-points ys-faces ys-work is e-points e-faces e-work req k =
         use1 W (‵ (cellAt fullShare (T.the-row .mir) (mach h ∷ []) (D .l) 0)) (W .laws .at-raw fullShare T′.mir (D .l) 0 (mach h)) $
@@ -140,11 +141,11 @@ module _ {M : Type 1} {𝓤 : URA M} {H : Heap 𝓤} {A : Atoms 𝓤} {K : Type 
     -- and come back
     takes :
         K → Soaks G → (P : Pass) (D : Driver) (h : Report) (ys-points : List Float) (ys-faces : List ℕ) (ys-work : List ℕ) → length ys-points ≡ D .m-points → length ys-faces ≡ D .m-faces → length ys-work ≡ D .m-work → (ν ν-points ν-faces ν-work : ℕ) (δ δ-points δ-faces δ-work : GName) (w : Val)
-        → ((r : Passed) (h₁ : Report) (zs-points : List Float) (zs-faces : List ℕ) (zs-work : List ℕ) → P .Ens (D .options) (D .s) ys-points (D .p) ys-faces (D .n) ys-work zs-points zs-faces zs-work r × (h₁ ≡ afterAll (P .adds) h r) → Is S.the-row r (w ∷ []) → Is T.the-row h₁ (mach h₁ ∷ []) → length zs-points ≡ D .m-points → length zs-faces ≡ D .m-faces → length zs-work ≡ D .m-work → Seq K W (Has D h₁ zs-points zs-faces zs-work Γ) G) → Seq K W (raw (L 𝓤 P H A .post (to 𝓤 H A W P D h ys-points ys-faces ys-work ν ν-points ν-faces ν-work δ δ-points δ-faces δ-work) w) ∷ Kept D ys-points ys-faces ys-work ν ν-points ν-faces ν-work δ δ-points δ-faces δ-work Γ) G
+        → ((r : Passed) (h₁ : Report) (zs-points : List Float) (zs-faces : List ℕ) (zs-work : List ℕ) → P .Ens (D .options) (D .s) (lists ys-points (D .p) ys-faces (D .n) ys-work) (lists zs-points (r .points) zs-faces (r .faces) zs-work) r × (h₁ ≡ afterAll (P .adds) h r) → Is S.the-row r (w ∷ []) → Is T.the-row h₁ (mach h₁ ∷ []) → length zs-points ≡ D .m-points → length zs-faces ≡ D .m-faces → length zs-work ≡ D .m-work → Seq K W (Has D h₁ zs-points zs-faces zs-work Γ) G) → Seq K W (raw (L 𝓤 P H A .post (to 𝓤 H A W P D h ys-points ys-faces ys-work ν ν-points ν-faces ν-work δ δ-points δ-faces δ-work) w) ∷ Kept D ys-points ys-faces ys-work ν ν-points ν-faces ν-work δ δ-points δ-faces δ-work Γ) G
     takes t z P D h ys-points ys-faces ys-work e-points e-faces e-work ν ν-points ν-faces ν-work δ δ-points δ-faces δ-work w k =
         use1 W (later (some (λ (r : Passed). ((‵ (flft (ν ∷ []) fullShare) ⊛ ‵ (flft (ν-points ∷ []) fullShare) ⊛ ‵ (flft (ν-faces ∷ []) fullShare) ⊛ ‵ (flft (ν-work ∷ []) fullShare) ⊛ ‵ ftrue) ⊛ ‵ (S.the-row .own r (w ∷ []))) ⊛ raw (ensured 𝓤 H A f.ended (clausesF 𝓤 P) (ν ∷ [], (ν-points ∷ [], (ν-faces ∷ [], (ν-work ∷ [], tt)))) (args D h ys-points ys-faces ys-work δ δ-points δ-faces δ-work) tt r)))) (id⊢ 𝓤 _) $ await t z $ pick t (λ r.
-        split t $ move t (1 ∷ []) $ use1 W (some (λ (ls : Report × (Unit {0} × (Unit {0} × (List Float × (Unit {0} × (List ℕ × (Unit {0} × (List ℕ × Unit {0})))))))). ‵ (lasts f.ended (ν ∷ [], (ν-points ∷ [], (ν-faces ∷ [], (ν-work ∷ [], tt)))) (args D h ys-points ys-faces ys-work δ δ-points δ-faces δ-work) ls) ⊛ raw (fact 𝓤 (P .Ens (D .options) (D .s) ys-points (D .p) ys-faces (D .n) ys-work (ls .1 .1 .1 .0) (ls .1 .1 .1 .1 .1 .0) (ls .1 .1 .1 .1 .1 .1 .1 .0) r × (ls .0 ≡ afterAll (P .adds) h r))))) (id⊢ 𝓤 _) $ pick t (λ ls.
-        split t $ move t (1 ∷ []) $ heard t (P .Ens (D .options) (D .s) ys-points (D .p) ys-faces (D .n) ys-work (ls .1 .1 .1 .0) (ls .1 .1 .1 .1 .1 .0) (ls .1 .1 .1 .1 .1 .1 .1 .0) r × (ls .0 ≡ afterAll (P .adds) h r)) (λ e. move t (1 ∷ []) $ split t $ move t (1 ∷ []) $ peeks t S.the-row (Is S.the-row) (shows 𝓤 H A S.the-row) r (w ∷ []) (λ is-r. drop t $
+        split t $ move t (1 ∷ []) $ use1 W (some (λ (ls : Report × (Unit {0} × (Unit {0} × (List Float × (Unit {0} × (List ℕ × (Unit {0} × (List ℕ × Unit {0})))))))). ‵ (lasts f.ended (ν ∷ [], (ν-points ∷ [], (ν-faces ∷ [], (ν-work ∷ [], tt)))) (args D h ys-points ys-faces ys-work δ δ-points δ-faces δ-work) ls) ⊛ raw (fact 𝓤 (P .Ens (D .options) (D .s) (lists ys-points (D .p) ys-faces (D .n) ys-work) (lists (ls .1 .1 .1 .0) (r .points) (ls .1 .1 .1 .1 .1 .0) (r .faces) (ls .1 .1 .1 .1 .1 .1 .1 .0)) r × (ls .0 ≡ afterAll (P .adds) h r))))) (id⊢ 𝓤 _) $ pick t (λ ls.
+        split t $ move t (1 ∷ []) $ heard t (P .Ens (D .options) (D .s) (lists ys-points (D .p) ys-faces (D .n) ys-work) (lists (ls .1 .1 .1 .0) (r .points) (ls .1 .1 .1 .1 .1 .0) (r .faces) (ls .1 .1 .1 .1 .1 .1 .1 .0)) r × (ls .0 ≡ afterAll (P .adds) h r)) (λ e. move t (1 ∷ []) $ split t $ move t (1 ∷ []) $ peeks t S.the-row (Is S.the-row) (shows 𝓤 H A S.the-row) r (w ∷ []) (λ is-r. drop t $
         split t $ move t (1 ∷ []) $ split t $ move t (1 ∷ []) $ split t $ move t (1 ∷ []) $ split t $ move t (1 ∷ []) $ drop t $ move t (4 ∷ []) $ fsplit t $ move t (1 ∷ []) $ fsplit t $ drop t $ fsplit t $ drop t $ fsplit t $ fsplit t $ move t (1 ∷ []) $ feqL t (λ len-points. move t (1 ∷ []) $ fsplit t $ drop t $ fsplit t $ fsplit t $ move t (1 ∷ []) $ feqL t (λ len-faces. move t (1 ∷ []) $ fsplit t $ drop t $ fsplit t $ fsplit t $ move t (1 ∷ []) $ feqL t (λ len-work. move t (1 ∷ []) $ drop t $
         move t (7 ∷ 11 ∷ 3 ∷ []) $ local-back t z T.the-row (Is T.the-row) (shows 𝓤 H A T.the-row) (LL.vals T.the-type T′.the-laws) (LL.tells T.the-type T′.the-laws) (ls .0) (D .l) (λ is-h.
         use1 W (‵ (fat fullShare T′.mir (D .l) 0 (mach (ls .0)))) (W .laws .raw-at fullShare T′.mir (D .l) 0 (mach (ls .0))) $
@@ -156,8 +157,8 @@ module _ {M : Type 1} {𝓤 : URA M} {H : Heap 𝓤} {A : Atoms 𝓤} {K : Type 
   module _ {C : Calls 𝓤 H} {Λ : Loops 𝓤 H} {E : Env 𝓤 H} {q : Post 𝓤 H} {g : Name} {xs : List Operand} {d : Place} where
     -- the call between
     pub passes :
-        K → FmC 𝓤 H (W .laws) C → {rest : Body} (P : Pass) → Triple 𝓤 (C g) (L 𝓤 P H A) → (D : Driver) (h : Report) (ys-points : List Float) (ys-faces : List ℕ) (ys-work : List ℕ) → Is T.the-row h (mach h ∷ []) → length ys-points ≡ D .m-points → length ys-faces ≡ D .m-faces → length ys-work ≡ D .m-work → P .Req h (D .options) (D .s) ys-points (D .p) ys-faces (D .n) ys-work
+        K → FmC 𝓤 H (W .laws) C → {rest : Body} (P : Pass) → Triple 𝓤 (C g) (L 𝓤 P H A) → (D : Driver) (h : Report) (ys-points : List Float) (ys-faces : List ℕ) (ys-work : List ℕ) → Is T.the-row h (mach h ∷ []) → length ys-points ≡ D .m-points → length ys-faces ≡ D .m-faces → length ys-work ≡ D .m-work → P .Req h (lists ys-points (D .p) ys-faces (D .n) ys-work)
         → ((i0 i1 i2 i3 i4 : Item 𝓤) → Opds K W (i0 ∷ i1 ∷ i2 ∷ i3 ∷ i4 ∷ Γ) E xs (vptr (D .l) 0 ∷ vint w32 (D .options) ∷ vfloat binary64 (D .s) ∷ s-points D ∷ vint w64 (D .p) ∷ s-faces D ∷ vint w64 (D .n) ∷ s-work D ∷ []))
-        → ((w : Val) (r : Passed) (h₁ : Report) (zs-points : List Float) (zs-faces : List ℕ) (zs-work : List ℕ) → P .Ens (D .options) (D .s) ys-points (D .p) ys-faces (D .n) ys-work zs-points zs-faces zs-work r × (h₁ ≡ afterAll (P .adds) h r) → Is S.the-row r (w ∷ []) → Is T.the-row h₁ (mach h₁ ∷ []) → length zs-points ≡ D .m-points → length zs-faces ≡ D .m-faces → length zs-work ≡ D .m-work → Seq K W (Has D h₁ zs-points zs-faces zs-work Γ) (lands C Λ E d w rest q)) → Seq K W (Has D h ys-points ys-faces ys-work Γ) (runs C Λ E (seq (call g xs d) rest) q)
+        → ((w : Val) (r : Passed) (h₁ : Report) (zs-points : List Float) (zs-faces : List ℕ) (zs-work : List ℕ) → P .Ens (D .options) (D .s) (lists ys-points (D .p) ys-faces (D .n) ys-work) (lists zs-points (r .points) zs-faces (r .faces) zs-work) r × (h₁ ≡ afterAll (P .adds) h r) → Is S.the-row r (w ∷ []) → Is T.the-row h₁ (mach h₁ ∷ []) → length zs-points ≡ D .m-points → length zs-faces ≡ D .m-faces → length zs-work ≡ D .m-work → Seq K W (Has D h₁ zs-points zs-faces zs-work Γ) (lands C Λ E d w rest q)) → Seq K W (Has D h ys-points ys-faces ys-work Γ) (runs C Λ E (seq (call g xs d) rest) q)
     passes t fm P known D h ys-points ys-faces ys-work is e-points e-faces e-work req ops k =
         gives t tt P D h ys-points ys-faces ys-work is e-points e-faces e-work req (λ ν ν-points ν-faces ν-work δ δ-points δ-faces δ-work. calls-at t fm (L 𝓤 P H A) known (to 𝓤 H A W P D h ys-points ys-faces ys-work ν ν-points ν-faces ν-work δ δ-points δ-faces δ-work) (ops _ _ _ _ _) (λ w. takes t tt P D h ys-points ys-faces ys-work e-points e-faces e-work ν ν-points ν-faces ν-work δ δ-points δ-faces δ-work w (k w)))

@@ -6,13 +6,12 @@ use native.Mathlib.Omega.{arith}
 use lib.ListN.{length, getD, take, replicate}
 use lib.Seq.{getD-take, take-all}
 use lib.Ieee.{Float, nan}
-use Rattle.leaving.specs.Pass.{stateOf}
 use Rattle.rows.specs.Region.{RowAsks, RowGives}
 use Rattle.rows.proofs.Regions.{only-both, only-more}
 use Rattle.rules.specs.Mesh.{pointsOf, facesOf}
 use Rattle.rules.specs.Repair.{passes, repaired}
 use Rattle.rules.specs.State.{start, report-counts}
-use Rattle.split_bowtie_vertices.specs.Splits.{SplitAsks}
+use Rattle.passes.specs.Passing.{Lists, lists, stateIn, stated, Stands}
 use Rattle.lending.specs.declared.Mended.{Mended}
 use Rattle.lending.specs.Mended.{TurnsGive, MendAsks, MendGives}
 
@@ -41,8 +40,12 @@ module _ {points : List Float} {faces : List ℕ} {ps : List Float} {xs w : List
   copies-faces = record { from-fit = omega arith; to-fit = omega (arith, a .room-faces) }
 
   module _ {ps₁ : List Float} (cp : RowGives nan points (3 * P) ps ps₁) {xs₁ : List ℕ} (cf : RowGives 0 faces (3 * n) xs xs₁) where
-    -- the copies stand as the passes ask
-    pub turns-ask : SplitAsks ps₁ P xs₁ n w
+    -- the lists that are copied
+    abbrev given : Lists
+    given = lists ps₁ P xs₁ n w
+
+    -- they stand as the passes ask
+    pub turns-ask : Stands (stated given) given
     turns-ask =
         let f = a .input .faces-fine in
         let lp = cp .only .long in
@@ -62,13 +65,13 @@ module _ {points : List Float} {faces : List ℕ} {ps : List Float} {xs w : List
         }
 
     -- at first the state is the rules' start
-    first-state : stateOf ps₁ P xs₁ n (replicate report-counts 0) ≡ start (pointsOf points) (facesOf faces)
+    first-state : stateIn given (replicate report-counts 0) ≡ start (pointsOf points) (facesOf faces)
     unfolding start
     first-state =
         ap₂ (λ qs fs. record { points = pointsOf qs; faces = facesOf fs; report = replicate report-counts 0 }) (cp .copied ∙ whole-points) (cf .copied ∙ whole-faces)
 
     -- the whole repair stands in the rooms
-    pub mend-done : {s : Float} {o : ℕ} {ps₂ : List Float} {xs₂ w₂ : List ℕ} {m : Mended} → TurnsGive s o ps₁ P xs₁ n w ps₂ xs₂ w₂ m → MendGives points faces s o ps xs w ps₂ xs₂ w₂ m
+    pub mend-done : {s : Float} {o : ℕ} {m′ : Lists} {r : Mended} → TurnsGive s o given m′ r → MendGives points faces s o ps xs w m′ r
     unfolding repaired
     mend-done {s = s} {o = o} g =
         record {

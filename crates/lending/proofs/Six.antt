@@ -2,18 +2,8 @@
 -- Assumes nothing.
 use mathlib.Core.List.{List, [], _∷_}
 use Prim.Native.Nat.{ℕ, _+_, _-_, _*_, _^_, _≤_}
-use Rattle.rules.specs.Repair.{optional, bit}
-use Rattle.rules.specs.Rooms.{work-room}
 use Rattle.rules.specs.State.{place, more, degenerates, duplicates, crowded-edges, dropped-at-edges, dropped-for-direction, vertices-split, points-added, reoriented, components, isolated}
-use Rattle.rules.specs.Pass1 as one
-use Rattle.rules.specs.Pass2 as two
-use Rattle.rules.specs.Pass3 as three
-use Rattle.rules.specs.Pass4 as four
-use Rattle.rules.specs.Pass5 as five
-use Rattle.rules.specs.Pass6 as six
-use Rattle.split_bowtie_vertices.specs.Splits.{SplitAsks}
-use Rattle.drop_isolated_vertices.specs.Unused.{UnusedAsks}
-use Rattle.passes.specs.Passing.{PassGives}
+use Rattle.passes.specs.Passing.{Lists, stated, Stands, StandsLast, Pass1, Pass2, Pass3, Pass4, Pass5, Pass6}
 use Rattle.passes.specs.declared.Passed.{Passed}
 use Rattle.lending.specs.declared.Report.{Report}
 use Rattle.lending.specs.Reports.{CountsBelow}
@@ -21,16 +11,20 @@ use Rattle.lending.proofs.Thin.{Add, fitAll, Pass}
 use Rattle.lending.proofs.Fields.{dropped, found, changed, adding}
 use Rattle.lending.proofs.Raised.{fits}
 
+-- what passes 1 to 5 ask: the lists stand, and each count has room for what is added
+abbrev pub Ready : Report → Lists → Type 0
+Ready h m = Stands (stated m) m × CountsBelow (2 ^ 64 - (m .p + 3 * m .n)) h
+
 -- pass 1
 abbrev pub pass1 : Pass
 pass1 =
     record {
       adds = adding degenerates dropped ∷ [];
-      Req = λ h options s points p faces n work. SplitAsks points p faces n work × CountsBelow (2 ^ 64 - (p + 3 * n)) h;
-      ReqG = λ options s points p faces n work. SplitAsks points p faces n work;
-      Ens = λ options s points p faces n work points₁ faces₁ work₁ r. PassGives (optional (bit 0 options) (one.pass1 s)) (more degenerates (r .dropped)) p p (work-room p n) points p faces n work points₁ faces₁ work₁ r;
-      ready = λ h options s points p faces n work req. req .0;
-      sums = λ h options s points p faces n work points₁ faces₁ work₁ r req e. (fits degenerates (req .1) (e .few-dropped), tt);
+      Req = Ready;
+      ReqG = λ m. Stands (stated m) m;
+      Ens = Pass1;
+      ready = λ h m req. req .0;
+      sums = λ h options s m m′ r req e. (fits degenerates (req .1) (e .few-dropped), tt);
     }
 
 -- pass 2
@@ -38,11 +32,11 @@ abbrev pub pass2 : Pass
 pass2 =
     record {
       adds = adding duplicates dropped ∷ [];
-      Req = λ h options s points p faces n work. SplitAsks points p faces n work × CountsBelow (2 ^ 64 - (p + 3 * n)) h;
-      ReqG = λ options s points p faces n work. SplitAsks points p faces n work;
-      Ens = λ options s points p faces n work points₁ faces₁ work₁ r. PassGives (optional (bit 1 options) two.pass2) (more duplicates (r .dropped)) p p (work-room p n) points p faces n work points₁ faces₁ work₁ r;
-      ready = λ h options s points p faces n work req. req .0;
-      sums = λ h options s points p faces n work points₁ faces₁ work₁ r req e. (fits duplicates (req .1) (e .few-dropped), tt);
+      Req = Ready;
+      ReqG = λ m. Stands (stated m) m;
+      Ens = Pass2;
+      ready = λ h m req. req .0;
+      sums = λ h options s m m′ r req e. (fits duplicates (req .1) (e .few-dropped), tt);
     }
 
 -- what pass 3 adds
@@ -59,11 +53,11 @@ abbrev pub pass3 : Pass
 pass3 =
     record {
       adds = adds3;
-      Req = λ h options s points p faces n work. SplitAsks points p faces n work × CountsBelow (2 ^ 64 - (p + 3 * n)) h;
-      ReqG = λ options s points p faces n work. SplitAsks points p faces n work;
-      Ens = λ options s points p faces n work points₁ faces₁ work₁ r. PassGives (optional (bit 2 options) three.pass3) (λ (report : List ℕ). more dropped-at-edges (r .dropped) (more crowded-edges (r .found) report)) p p (work-room p n) points p faces n work points₁ faces₁ work₁ r;
-      ready = λ h options s points p faces n work req. req .0;
-      sums = λ h options s points p faces n work points₁ faces₁ work₁ r req e. fit3 h r (req .1) (e .few-found) (e .few-dropped);
+      Req = Ready;
+      ReqG = λ m. Stands (stated m) m;
+      Ens = Pass3;
+      ready = λ h m req. req .0;
+      sums = λ h options s m m′ r req e. fit3 h r (req .1) (e .few-found) (e .few-dropped);
     }
 
 -- what pass 4 adds
@@ -80,11 +74,11 @@ abbrev pub pass4 : Pass
 pass4 =
     record {
       adds = adds4;
-      Req = λ h options s points p faces n work. SplitAsks points p faces n work × CountsBelow (2 ^ 64 - (p + 3 * n)) h;
-      ReqG = λ options s points p faces n work. SplitAsks points p faces n work;
-      Ens = λ options s points p faces n work points₁ faces₁ work₁ r. PassGives (optional (bit 4 options) four.pass4) (λ (report : List ℕ). more dropped-for-direction (r .dropped) (more components (r .found) (more reoriented (r .changed) report))) p p (work-room p n) points p faces n work points₁ faces₁ work₁ r;
-      ready = λ h options s points p faces n work req. req .0;
-      sums = λ h options s points p faces n work points₁ faces₁ work₁ r req e. fit4 h r (req .1) (e .few-changed) (e .few-found) (e .few-dropped);
+      Req = Ready;
+      ReqG = λ m. Stands (stated m) m;
+      Ens = Pass4;
+      ready = λ h m req. req .0;
+      sums = λ h options s m m′ r req e. fit4 h r (req .1) (e .few-changed) (e .few-found) (e .few-dropped);
     }
 
 -- what pass 5 adds
@@ -101,11 +95,11 @@ abbrev pub pass5 : Pass
 pass5 =
     record {
       adds = adds5;
-      Req = λ h options s points p faces n work. SplitAsks points p faces n work × CountsBelow (2 ^ 64 - (p + 3 * n)) h;
-      ReqG = λ options s points p faces n work. SplitAsks points p faces n work;
-      Ens = λ options s points p faces n work points₁ faces₁ work₁ r. PassGives (optional (bit 3 options) five.pass5) (λ (report : List ℕ). more points-added (r .changed) (more vertices-split (r .found) report)) p (p + 3 * n) (work-room p n) points p faces n work points₁ faces₁ work₁ r;
-      ready = λ h options s points p faces n work req. req .0;
-      sums = λ h options s points p faces n work points₁ faces₁ work₁ r req e. fit5 h r (req .1) (e .few-found) (e .few-changed);
+      Req = Ready;
+      ReqG = λ m. Stands (stated m) m;
+      Ens = Pass5;
+      ready = λ h m req. req .0;
+      sums = λ h options s m m′ r req e. fit5 h r (req .1) (e .few-found) (e .few-changed);
     }
 
 -- pass 6
@@ -113,9 +107,9 @@ abbrev pub pass6 : Pass
 pass6 =
     record {
       adds = adding isolated dropped ∷ [];
-      Req = λ h options s points p faces n work. UnusedAsks points p faces n work × CountsBelow (2 ^ 64 - (p + 3 * n)) h;
-      ReqG = λ options s points p faces n work. UnusedAsks points p faces n work;
-      Ens = λ options s points p faces n work points₁ faces₁ work₁ r. PassGives (optional (bit 5 options) six.pass6) (more isolated (r .dropped)) 0 p (2 * p) points p faces n work points₁ faces₁ work₁ r;
-      ready = λ h options s points p faces n work req. req .0;
-      sums = λ h options s points p faces n work points₁ faces₁ work₁ r req e. (fits isolated (req .1) (e .few-dropped), tt);
+      Req = λ h m. StandsLast m × CountsBelow (2 ^ 64 - (m .p + 3 * m .n)) h;
+      ReqG = StandsLast;
+      Ens = Pass6;
+      ready = λ h m req. req .0;
+      sums = λ h options s m m′ r req e. (fits isolated (req .1) (e .few-dropped), tt);
     }

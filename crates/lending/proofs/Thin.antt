@@ -53,6 +53,7 @@ use denote.Triple.Walked.{says, needs, Stays, stay-ref, stay-none, gave-slice, w
 use denote.Exit.{yes}
 use denote.Signature.{plain}
 use Rattle.passes.specs.declared.Passed.{Passed}
+use Rattle.passes.specs.Passing.{Lists, lists}
 use Rattle.lending.specs.declared.Report.{Report}
 use Rattle.lending.specs.Reports.{countsOf}
 use Rattle.passes.proofs.Passed as S
@@ -118,11 +119,11 @@ fitAll (a ∷ us) h r = (a .field .get h + a .part .get r < 2 ^ 64) × fitAll us
 
 pub record Pass : Type 1 where
   pub adds : List Add
-  pub Req : Report → ℕ → Float → List Float → ℕ → List ℕ → ℕ → List ℕ → Type 0
-  pub ReqG : ℕ → Float → List Float → ℕ → List ℕ → ℕ → List ℕ → Type 0
-  pub Ens : ℕ → Float → List Float → ℕ → List ℕ → ℕ → List ℕ → List Float → List ℕ → List ℕ → Passed → Type 0
-  pub ready : (h : Report) (options : ℕ) (s : Float) (points : List Float) (p : ℕ) (faces : List ℕ) (n : ℕ) (work : List ℕ) → Req h options s points p faces n work → ReqG options s points p faces n work
-  pub sums : (h : Report) (options : ℕ) (s : Float) (points : List Float) (p : ℕ) (faces : List ℕ) (n : ℕ) (work : List ℕ) (points₁ : List Float) (faces₁ : List ℕ) (work₁ : List ℕ) (r : Passed) → Req h options s points p faces n work → Ens options s points p faces n work points₁ faces₁ work₁ r → fitAll adds h r
+  pub Req : Report → Lists → Type 0
+  pub ReqG : Lists → Type 0
+  pub Ens : ℕ → Float → Lists → Lists → Passed → Type 0
+  pub ready : (h : Report) (m : Lists) → Req h m → ReqG m
+  pub sums : (h : Report) (options : ℕ) (s : Float) (m m′ : Lists) (r : Passed) → Req h m → Ens options s m m′ r → fitAll adds h r
 
 -- a `&mut [T]` at a lifetime
 abbrev slice : Ty → Ty
@@ -159,16 +160,16 @@ module _ {M : Type 1} (𝓤 : URA M) (P : Pass) where
   clausesF κs a =
       record {
         ghost = Unit {0};
-        requires = λ _. fact 𝓤 (P .Req (a .0 .now) (a .1 .0) (a .1 .1 .0) (a .1 .1 .1 .0 .now) (a .1 .1 .1 .1 .0) (a .1 .1 .1 .1 .1 .0 .now) (a .1 .1 .1 .1 .1 .1 .0) (a .1 .1 .1 .1 .1 .1 .1 .0 .now));
-        ensures = λ _ r e. fact 𝓤 (P .Ens (a .1 .0) (a .1 .1 .0) (a .1 .1 .1 .0 .now) (a .1 .1 .1 .1 .0) (a .1 .1 .1 .1 .1 .0 .now) (a .1 .1 .1 .1 .1 .1 .0) (a .1 .1 .1 .1 .1 .1 .1 .0 .now) (e .1 .1 .1 .0 .now) (e .1 .1 .1 .1 .1 .0 .now) (e .1 .1 .1 .1 .1 .1 .1 .0 .now) r × (e .0 .now ≡ afterAll (P .adds) (a .0 .now) r));
+        requires = λ _. fact 𝓤 (P .Req (a .0 .now) (lists (a .1 .1 .1 .0 .now) (a .1 .1 .1 .1 .0) (a .1 .1 .1 .1 .1 .0 .now) (a .1 .1 .1 .1 .1 .1 .0) (a .1 .1 .1 .1 .1 .1 .1 .0 .now)));
+        ensures = λ _ r e. fact 𝓤 (P .Ens (a .1 .0) (a .1 .1 .0) (lists (a .1 .1 .1 .0 .now) (a .1 .1 .1 .1 .0) (a .1 .1 .1 .1 .1 .0 .now) (a .1 .1 .1 .1 .1 .1 .0) (a .1 .1 .1 .1 .1 .1 .1 .0 .now)) (lists (e .1 .1 .1 .0 .now) (r .points) (e .1 .1 .1 .1 .1 .0 .now) (r .faces) (e .1 .1 .1 .1 .1 .1 .1 .0 .now)) r × (e .0 .now ≡ afterAll (P .adds) (a .0 .now) r));
       }
 
   abbrev pub clausesG : Clauses 𝓤 g.ended
   clausesG κs a =
       record {
         ghost = Unit {0};
-        requires = λ _. fact 𝓤 (P .ReqG (a .0) (a .1 .0) (a .1 .1 .0 .now) (a .1 .1 .1 .0) (a .1 .1 .1 .1 .0 .now) (a .1 .1 .1 .1 .1 .0) (a .1 .1 .1 .1 .1 .1 .0 .now));
-        ensures = λ _ r e. fact 𝓤 (P .Ens (a .0) (a .1 .0) (a .1 .1 .0 .now) (a .1 .1 .1 .0) (a .1 .1 .1 .1 .0 .now) (a .1 .1 .1 .1 .1 .0) (a .1 .1 .1 .1 .1 .1 .0 .now) (e .1 .1 .0 .now) (e .1 .1 .1 .1 .0 .now) (e .1 .1 .1 .1 .1 .1 .0 .now) r);
+        requires = λ _. fact 𝓤 (P .ReqG (lists (a .1 .1 .0 .now) (a .1 .1 .1 .0) (a .1 .1 .1 .1 .0 .now) (a .1 .1 .1 .1 .1 .0) (a .1 .1 .1 .1 .1 .1 .0 .now)));
+        ensures = λ _ r e. fact 𝓤 (P .Ens (a .0) (a .1 .0) (lists (a .1 .1 .0 .now) (a .1 .1 .1 .0) (a .1 .1 .1 .1 .0 .now) (a .1 .1 .1 .1 .1 .0) (a .1 .1 .1 .1 .1 .1 .0 .now)) (lists (e .1 .1 .0 .now) (r .points) (e .1 .1 .1 .1 .0 .now) (r .faces) (e .1 .1 .1 .1 .1 .1 .0 .now)) r);
       }
 
 -- the contract of the callee
@@ -181,7 +182,7 @@ reads-as :
     → v ≡ v′ → Opd K W Γ E x v → Opd K W Γ E x v′
 reads-as {K = K} {W = W} {Γ = Γ} {E = E} {x = x} e = subst (λ (u : Val). Opd K W Γ E x u) e
 
-module _ {M : Type 1} (𝓤 : URA M) (H : Heap 𝓤) (A : Atoms 𝓤) (W : Given 𝓤 H A) (P : Pass) (gname : Name) (κ κ-points κ-faces κ-work : Lft) (q q-points q-faces q-work : Share) (b o : ℕ) (γ : GName) (h : Report) (options : ℕ) (options-fits : options < 2 ^ 32) (s : Float) (s-fits : Ieee.fits binary64 s ≡ true) (p : ℕ) (p-fits : p < 2 ^ 64) (n : ℕ) (n-fits : n < 2 ^ 64) (b-points o-points : ℕ) (γ-points : GName) (points₀ : List Float) (room-points : Room f64 (length points₀)) (b-faces o-faces : ℕ) (γ-faces : GName) (faces₀ : List ℕ) (room-faces : Room u32 (length faces₀)) (b-work o-work : ℕ) (γ-work : GName) (work₀ : List ℕ) (room-work : Room u32 (length work₀)) (req : P .Req h options s points₀ p faces₀ n work₀) where
+module _ {M : Type 1} (𝓤 : URA M) (H : Heap 𝓤) (A : Atoms 𝓤) (W : Given 𝓤 H A) (P : Pass) (gname : Name) (κ κ-points κ-faces κ-work : Lft) (q q-points q-faces q-work : Share) (b o : ℕ) (γ : GName) (h : Report) (options : ℕ) (options-fits : options < 2 ^ 32) (s : Float) (s-fits : Ieee.fits binary64 s ≡ true) (p : ℕ) (p-fits : p < 2 ^ 64) (n : ℕ) (n-fits : n < 2 ^ 64) (b-points o-points : ℕ) (γ-points : GName) (points₀ : List Float) (room-points : Room f64 (length points₀)) (b-faces o-faces : ℕ) (γ-faces : GName) (faces₀ : List ℕ) (room-faces : Room u32 (length faces₀)) (b-work o-work : ℕ) (γ-work : GName) (work₀ : List ℕ) (room-work : Room u32 (length work₀)) (req : P .Req h (lists points₀ p faces₀ n work₀)) where
   abbrev points′ : RefT (List Float)
   points′ = record { ptr = (b-points, o-points); name = γ-points; now = points₀ }
 
@@ -222,10 +223,10 @@ module _ {M : Type 1} (𝓤 : URA M) (H : Heap 𝓤) (A : Atoms 𝓤) (W : Given
 
   -- the callee may be called
   goes-g : ent 𝓤 (sep 𝓤 (sep 𝓤 (A .lft κ-points q-points) (sep 𝓤 (A .lft κ-faces q-faces) (sep 𝓤 (A .lft κ-work q-work) (sem 𝓤 H A ftrue)))) (sem 𝓤 H A (owns (u32 ∷ f64 ∷ MutSlice (named 0) κ-points f64 ∷ usize ∷ MutSlice (named 1) κ-faces u32 ∷ usize ∷ MutSlice (named 2) κ-work u32 ∷ []) (options, (s, (points′, (p, (faces′, (n, (work′, tt))))))) (vint w32 options ∷ [], (vfloat binary64 s ∷ [], (s-points ∷ [], (vint w64 p ∷ [], (s-faces ∷ [], (vint w64 n ∷ [], (s-work ∷ [], tt)))))))))) (G 𝓤 H A P .pre to-g)
-  goes-g = qed W ((‵ (flft κ-points q-points) ⊛ ‵ (flft κ-faces q-faces) ⊛ ‵ (flft κ-work q-work) ⊛ ‵ ftrue) ∷ ‵ (owns (u32 ∷ f64 ∷ MutSlice (named 0) κ-points f64 ∷ usize ∷ MutSlice (named 1) κ-faces u32 ∷ usize ∷ MutSlice (named 2) κ-work u32 ∷ []) (options, (s, (points′, (p, (faces′, (n, (work′, tt))))))) (vint w32 options ∷ [], (vfloat binary64 s ∷ [], (s-points ∷ [], (vint w64 p ∷ [], (s-faces ∷ [], (vint w64 n ∷ [], (s-work ∷ [], tt)))))))) ∷ []) ∵ says ! (P .ready h options s points₀ p faces₀ n work₀ req) $ frame ! $ done !
+  goes-g = qed W ((‵ (flft κ-points q-points) ⊛ ‵ (flft κ-faces q-faces) ⊛ ‵ (flft κ-work q-work) ⊛ ‵ ftrue) ∷ ‵ (owns (u32 ∷ f64 ∷ MutSlice (named 0) κ-points f64 ∷ usize ∷ MutSlice (named 1) κ-faces u32 ∷ usize ∷ MutSlice (named 2) κ-work u32 ∷ []) (options, (s, (points′, (p, (faces′, (n, (work′, tt))))))) (vint w32 options ∷ [], (vfloat binary64 s ∷ [], (s-points ∷ [], (vint w64 p ∷ [], (s-faces ∷ [], (vint w64 n ∷ [], (s-work ∷ [], tt)))))))) ∷ []) ∵ says ! (P .ready h (lists points₀ p faces₀ n work₀) req) $ frame ! $ done !
 
   -- what is held after the additions is what the caller is owed
-  exits : (r : Passed) (h₁ : Report) (points₁ : List Float) (faces₁ : List ℕ) (work₁ : List ℕ) → P .Ens options s points₀ p faces₀ n work₀ points₁ faces₁ work₁ r → h₁ ≡ afterAll (P .adds) h r → length points₁ ≡ length points₀ → length faces₁ ≡ length faces₀ → length work₁ ≡ length work₀ → Is S.the-row r (passed r ∷ []) → ent 𝓤 (⋆ 𝓤 H A (‵ (fobs γ (T.the-row .coded .code h₁)) ∷ ‵ (fbor κ (Body (mem T.the-row) b o γ)) ∷ ‵ (flft κ q) ∷ (‵ (flft κ-points q-points) ⊛ ‵ (flft κ-faces q-faces) ⊛ ‵ (flft κ-work q-work) ⊛ ‵ ftrue) ∷ ‵ (finally f64 γ-points points₁) ∷ ‵ (finally u32 γ-faces faces₁) ∷ ‵ (finally u32 γ-work work₁) ∷ [])) (Post (passed r))
+  exits : (r : Passed) (h₁ : Report) (points₁ : List Float) (faces₁ : List ℕ) (work₁ : List ℕ) → P .Ens options s (lists points₀ p faces₀ n work₀) (lists points₁ (r .points) faces₁ (r .faces) work₁) r → h₁ ≡ afterAll (P .adds) h r → length points₁ ≡ length points₀ → length faces₁ ≡ length faces₀ → length work₁ ≡ length work₀ → Is S.the-row r (passed r ∷ []) → ent 𝓤 (⋆ 𝓤 H A (‵ (fobs γ (T.the-row .coded .code h₁)) ∷ ‵ (fbor κ (Body (mem T.the-row) b o γ)) ∷ ‵ (flft κ q) ∷ (‵ (flft κ-points q-points) ⊛ ‵ (flft κ-faces q-faces) ⊛ ‵ (flft κ-work q-work) ⊛ ‵ ftrue) ∷ ‵ (finally f64 γ-points points₁) ∷ ‵ (finally u32 γ-faces faces₁) ∷ ‵ (finally u32 γ-work work₁) ∷ [])) (Post (passed r))
   exits r h₁ points₁ faces₁ work₁ e same l-points l-faces l-work ok =
       qed W (‵ (fobs γ (T.the-row .coded .code h₁)) ∷ ‵ (fbor κ (Body (mem T.the-row) b o γ)) ∷ ‵ (flft κ q) ∷ (‵ (flft κ-points q-points) ⊛ ‵ (flft κ-faces q-faces) ⊛ ‵ (flft κ-work q-work) ⊛ ‵ ftrue) ∷ ‵ (finally f64 γ-points points₁) ∷ ‵ (finally u32 γ-faces faces₁) ∷ ‵ (finally u32 γ-work work₁) ∷ []) ∵
       suffices ! _ (ends-at 𝓤 H A f.ended stayed (clausesF 𝓤 P) W (((κ, (κ-points, (κ-faces, (κ-work, tt)))), (q, (q-points, (q-faces, (q-work, tt)))), tt, a, vals), tt) (passed r) r (h₁, (tt, (tt, (points₁, (tt, (faces₁, (tt, (work₁, tt)))))))) (tt, (tt, (tt, (l-points, (tt, (l-faces, (tt, (l-work, tt))))))))) $ says ! (e, same) $
@@ -233,7 +234,7 @@ module _ {M : Type 1} (𝓤 : URA M) (H : Heap 𝓤) (A : Atoms 𝓤) (W : Given
       nothing ! $ move ! (4 ∷ 0 ∷ []) $ fjoin ! $ owned ! usize (Is usize) (uint-makes 𝓤 H A W w64) n _ (refl, n-fits) $ fjoin ! $ move ! (3 ∷ 0 ∷ []) $ fjoin ! $ owned ! usize (Is usize) (uint-makes 𝓤 H A W w64) p _ (refl, p-fits) $ fjoin ! $ move ! (2 ∷ 0 ∷ []) $ fjoin ! $ owned ! f64 (Is f64) (float-makes 𝓤 H A W binary64) s _ (refl, s-fits) $ fjoin ! $ owned ! u32 (Is u32) (uint-makes 𝓤 H A W w32) options _ (refl, options-fits) $ fjoin ! $ move ! (1 ∷ 0 ∷ []) $ fjoin ! $ owned ! S.the-row (Is S.the-row) (LL.makes S.the-type S′.the-plain 𝓤 H A) r _ ok $ move ! (1 ∷ 0 ∷ []) $ done !
 
   module _ (C : Calls 𝓤 H) (Λ : Loops 𝓤 H) where
-    module _ (l0 l1 l2 l3 l4 l5 l6 l7 l8 l9 l10 l11 l12 l13 l14 l15 l16 l17 : ℕ) (r : Passed) (points₁ : List Float) (faces₁ : List ℕ) (work₁ : List ℕ) (e : P .Ens options s points₀ p faces₀ n work₀ points₁ faces₁ work₁ r) (l-points : length points₁ ≡ length points₀) (l-faces : length faces₁ ≡ length faces₀) (l-work : length work₁ ≡ length work₀) (ok : Is S.the-row r (passed r ∷ [])) where
+    module _ (l0 l1 l2 l3 l4 l5 l6 l7 l8 l9 l10 l11 l12 l13 l14 l15 l16 l17 : ℕ) (r : Passed) (points₁ : List Float) (faces₁ : List ℕ) (work₁ : List ℕ) (e : P .Ens options s (lists points₀ p faces₀ n work₀) (lists points₁ (r .points) faces₁ (r .faces) work₁) r) (l-points : length points₁ ≡ length points₀) (l-faces : length faces₁ ≡ length faces₀) (l-work : length work₁ ≡ length work₀) (ok : Is S.the-row r (passed r ∷ [])) where
       abbrev E : Env 𝓤 H
       E = (S′.mir, l0) ∷ (tyRef (named 0) mut (pointee (T.the-row .written)), l1) ∷ (tyInt w32, l2) ∷ (tyFloat binary64, l3) ∷ (slice (tyRef (named 1) mut (tyFloat binary64)), l4) ∷ (tyInt w64, l5) ∷ (slice (tyRef (named 2) mut (tyInt w32)), l6) ∷ (tyInt w64, l7) ∷ (slice (tyRef (named 3) mut (tyInt w32)), l8) ∷ (S′.mir, l9) ∷ (tyRef erased mut (tyFloat binary64), l10) ∷ (slice (tyRef erased mut (tyFloat binary64)), l11) ∷ (tyRef erased mut (tyInt w32), l12) ∷ (slice (tyRef erased mut (tyInt w32)), l13) ∷ (tyRef erased mut (tyInt w32), l14) ∷ (slice (tyRef erased mut (tyInt w32)), l15) ∷ (tyInt w64, l16) ∷ (tyInt w64, l17) ∷ []
 
@@ -275,8 +276,8 @@ module _ {M : Type 1} (𝓤 : URA M) (H : Heap 𝓤) (A : Atoms 𝓤) (W : Given
           move ! (37 ∷ []) $ fsplit ! $ move ! (38 ∷ []) $ split ! $ move ! (1 ∷ 3 ∷ []) $ use2 W (raw (G 𝓤 H A P .pre to-g)) goes-g $
           calls-at ! fm (G 𝓤 H A P) known to-g (and-then ! (load ! (from ! (stop !)) (look ! 33 refl)) (and-then ! (load ! (from ! (stop !)) (look ! 31 refl)) (and-then ! (load ! (from ! (stop !)) (look ! 15 refl)) (and-then ! (load ! (from ! (stop !)) (look ! 27 refl)) (and-then ! (load ! (from ! (stop !)) (look ! 11 refl)) (and-then ! (load ! (from ! (stop !)) (look ! 23 refl)) (and-then ! (load ! (from ! (stop !)) (look ! 7 refl)) (no-more !)))))))) (λ w.
           use1 W (later (some (λ (r : Passed). ((‵ (flft κ-points q-points) ⊛ ‵ (flft κ-faces q-faces) ⊛ ‵ (flft κ-work q-work) ⊛ ‵ ftrue) ⊛ ‵ (S.the-row .own r (w ∷ []))) ⊛ raw (ensured 𝓤 H A g.ended (clausesG 𝓤 P) (κ-points, (κ-faces, (κ-work, tt))) (options, (s, (points′, (p, (faces′, (n, (work′, tt))))))) tt r)))) (id⊢ 𝓤 _) $ await ! tt $ pick ! (λ r.
-          split ! $ move ! (1 ∷ []) $ use1 W (some (λ (ls : Unit {0} × (Unit {0} × (List Float × (Unit {0} × (List ℕ × (Unit {0} × (List ℕ × Unit {0}))))))). ‵ (lasts g.ended (κ-points, (κ-faces, (κ-work, tt))) (options, (s, (points′, (p, (faces′, (n, (work′, tt))))))) ls) ⊛ raw (fact 𝓤 (P .Ens options s points₀ p faces₀ n work₀ (ls .1 .1 .0) (ls .1 .1 .1 .1 .0) (ls .1 .1 .1 .1 .1 .1 .0) r)))) (id⊢ 𝓤 _) $ pick ! (λ ls.
-          split ! $ move ! (1 ∷ []) $ heard ! (P .Ens options s points₀ p faces₀ n work₀ (ls .1 .1 .0) (ls .1 .1 .1 .1 .0) (ls .1 .1 .1 .1 .1 .1 .0) r) (λ e.
+          split ! $ move ! (1 ∷ []) $ use1 W (some (λ (ls : Unit {0} × (Unit {0} × (List Float × (Unit {0} × (List ℕ × (Unit {0} × (List ℕ × Unit {0}))))))). ‵ (lasts g.ended (κ-points, (κ-faces, (κ-work, tt))) (options, (s, (points′, (p, (faces′, (n, (work′, tt))))))) ls) ⊛ raw (fact 𝓤 (P .Ens options s (lists points₀ p faces₀ n work₀) (lists (ls .1 .1 .0) (r .points) (ls .1 .1 .1 .1 .0) (r .faces) (ls .1 .1 .1 .1 .1 .1 .0)) r)))) (id⊢ 𝓤 _) $ pick ! (λ ls.
+          split ! $ move ! (1 ∷ []) $ heard ! (P .Ens options s (lists points₀ p faces₀ n work₀) (lists (ls .1 .1 .0) (r .points) (ls .1 .1 .1 .1 .0) (r .faces) (ls .1 .1 .1 .1 .1 .1 .0)) r) (λ e.
           fsplit ! $ move ! (1 ∷ []) $ fsplit ! $ move ! (1 ∷ []) $ fsplit ! $ fsplit ! $ move ! (1 ∷ []) $ feqL ! (λ l-points. move ! (1 ∷ []) $ fsplit ! $ move ! (1 ∷ []) $ fsplit ! $ fsplit ! $ move ! (1 ∷ []) $ feqL ! (λ l-faces. move ! (1 ∷ []) $ fsplit ! $ move ! (1 ∷ []) $ fsplit ! $ fsplit ! $ move ! (1 ∷ []) $ feqL ! (λ l-work. move ! (1 ∷ []) $
           move ! (8 ∷ []) $ split ! $ move ! (1 ∷ []) $ peeks ! S.the-row (Is S.the-row) (shows 𝓤 H A S.the-row) r (w ∷ []) (λ is.
           land ! (from ! (stop !)) (init ! 28 refl (LL.lawful S.the-type S′.the-laws 𝓤 H A W .typed r _ is .0)) $ rewrite ! 28 (λ (u : Val). ‵ (fat fullShare S′.mir l9 0 u)) (ap only (LL.tells S.the-type S′.the-laws r _ is)) refl $
@@ -286,7 +287,7 @@ module _ {M : Type 1} (𝓤 : URA M) (H : Heap 𝓤) (A : Atoms 𝓤) (W : Given
           move ! (1 ∷ []) $ peeks ! T.the-row (Is T.the-row) (shows 𝓤 H A T.the-row) h (mach h ∷ []) (λ was. drop ! $
           -- [cell; obor; obs; auth; ownr; toks; true; fin6; true; fin4; true; fin2; true; true; the locals, the last first]
           keep ! (0 ∷ 1 ∷ 2 ∷ 3 ∷ 5 ∷ 11 ∷ 9 ∷ 7 ∷ 14 ∷ 15 ∷ 16 ∷ 17 ∷ 18 ∷ 19 ∷ 20 ∷ 21 ∷ 22 ∷ 23 ∷ 24 ∷ 25 ∷ 26 ∷ 27 ∷ 28 ∷ 29 ∷ 30 ∷ 31 ∷ 32 ∷ 33 ∷ 34 ∷ 35 ∷ 36 ∷ 37 ∷ 38 ∷ 39 ∷ 40 ∷ 41 ∷ 42 ∷ 43 ∷ 44 ∷ 45 ∷ 46 ∷ 47 ∷ 48 ∷ 49 ∷ []) $
-          adds-up l0 l1 l2 l3 l4 l5 l6 l7 l8 l9 l10 l11 l12 l13 l14 l15 l16 l17 r (ls .1 .1 .0) (ls .1 .1 .1 .1 .0) (ls .1 .1 .1 .1 .1 .1 .0) e l-points l-faces l-work (LL.owes S.the-type S′.the-laws r (LL.owed S.the-type S′.the-laws r _ is)) (P .adds) h was (P .sums h options s points₀ p faces₀ n work₀ (ls .1 .1 .0) (ls .1 .1 .1 .1 .0) (ls .1 .1 .1 .1 .1 .1 .0) r req e) refl))))))))))))))))))))))))))))
+          adds-up l0 l1 l2 l3 l4 l5 l6 l7 l8 l9 l10 l11 l12 l13 l14 l15 l16 l17 r (ls .1 .1 .0) (ls .1 .1 .1 .1 .0) (ls .1 .1 .1 .1 .1 .1 .0) e l-points l-faces l-work (LL.owes S.the-type S′.the-laws r (LL.owed S.the-type S′.the-laws r _ is)) (P .adds) h was (P .sums h options s (lists points₀ p faces₀ n work₀) (lists (ls .1 .1 .0) (r .points) (ls .1 .1 .1 .1 .0) (r .faces) (ls .1 .1 .1 .1 .1 .1 .0)) r req e) refl))))))))))))))))))))))))))))
 
 module _ {M : Type 1} (𝓤 : URA M) (H : Heap 𝓤) (A : Atoms 𝓤) (W : Given 𝓤 H A) (P : Pass) (gname : Name) where
   -- the walk, at every argument
@@ -295,7 +296,7 @@ module _ {M : Type 1} (𝓤 : URA M) (H : Heap 𝓤) (A : Atoms 𝓤) (W : Given
       walked 𝓤 H A f.ended stayed (clausesF 𝓤 P) (WpFn 𝓤 H C Λ (fnOf gname (P .adds)))
       (λ κs. (ptr-vals, (uint-vals w32, (float-vals binary64, (slice-vals, (uint-vals w64, (slice-vals, (uint-vals w64, (slice-vals, tt)))))))))
       (λ κs. (mut-tells (named 0) (κs .0) T.the-row, (uint-tells w32, (float-tells binary64, (mut-slice-tells (named 1) (κs .1 .0) f64, (uint-tells w64, (mut-slice-tells (named 2) (κs .1 .1 .0) u32, (uint-tells w64, (mut-slice-tells (named 3) (κs .1 .1 .1 .0) u32, tt)))))))))
-      (λ κs qs bounds a _ are. needs 𝓤 (P .Req (a .0 .now) (a .1 .0) (a .1 .1 .0) (a .1 .1 .1 .0 .now) (a .1 .1 .1 .1 .0) (a .1 .1 .1 .1 .1 .0 .now) (a .1 .1 .1 .1 .1 .1 .0) (a .1 .1 .1 .1 .1 .1 .1 .0 .now)) _ (λ req.
+      (λ κs qs bounds a _ are. needs 𝓤 (P .Req (a .0 .now) (lists (a .1 .1 .1 .0 .now) (a .1 .1 .1 .1 .0) (a .1 .1 .1 .1 .1 .0 .now) (a .1 .1 .1 .1 .1 .1 .0) (a .1 .1 .1 .1 .1 .1 .1 .0 .now))) _ (λ req.
       walk 𝓤 H A W P gname (κs .0) (κs .1 .0) (κs .1 .1 .0) (κs .1 .1 .1 .0) (qs .0) (qs .1 .0) (qs .1 .1 .0) (qs .1 .1 .1 .0) (a .0 .ptr .0) (a .0 .ptr .1) (a .0 .name) (a .0 .now) (a .1 .0) (are .1 .0 .1) (a .1 .1 .0) (are .1 .1 .0 .1) (a .1 .1 .1 .1 .0) (are .1 .1 .1 .1 .0 .1) (a .1 .1 .1 .1 .1 .1 .0) (are .1 .1 .1 .1 .1 .1 .0 .1) (a .1 .1 .1 .0 .ptr .0) (a .1 .1 .1 .0 .ptr .1) (a .1 .1 .1 .0 .name) (a .1 .1 .1 .0 .now) (are .1 .1 .1 .0 .0 .1) (a .1 .1 .1 .1 .1 .0 .ptr .0) (a .1 .1 .1 .1 .1 .0 .ptr .1) (a .1 .1 .1 .1 .1 .0 .name) (a .1 .1 .1 .1 .1 .0 .now) (are .1 .1 .1 .1 .1 .0 .0 .1) (a .1 .1 .1 .1 .1 .1 .1 .0 .ptr .0) (a .1 .1 .1 .1 .1 .1 .1 .0 .ptr .1) (a .1 .1 .1 .1 .1 .1 .1 .0 .name) (a .1 .1 .1 .1 .1 .1 .1 .0 .now) (are .1 .1 .1 .1 .1 .1 .1 .0 .0 .1) req C Λ fm known))
 
 -- the law

@@ -1,20 +1,9 @@
 // One report lent to each of the six passes in turn and added to there, and the whole repair on the lists in the rooms.
 use passes::Passed;
 ghost use mathlib.Core.Path.{_≡_};
-ghost use mathlib.Core.List.{List};
-ghost use Prim.Native.Nat.{ℕ, _+_, _-_, _*_, _^_};
-ghost use Rattle.rules.specs.Repair.{optional, bit};
-ghost use Rattle.rules.specs.Rooms.{work-room};
-ghost use Rattle.rules.specs.State.{more, degenerates, duplicates, crowded-edges, dropped-at-edges, dropped-for-direction, vertices-split, points-added, reoriented, components, isolated};
-ghost use Rattle.rules.specs.Pass1 as one;
-ghost use Rattle.rules.specs.Pass2 as two;
-ghost use Rattle.rules.specs.Pass3 as three;
-ghost use Rattle.rules.specs.Pass4 as four;
-ghost use Rattle.rules.specs.Pass5 as five;
-ghost use Rattle.rules.specs.Pass6 as six;
-ghost use Rattle.split_bowtie_vertices.specs.Splits.{SplitAsks};
-ghost use Rattle.drop_isolated_vertices.specs.Unused.{UnusedAsks};
-ghost use Rattle.passes.specs.Passing.{PassGives};
+ghost use Prim.Native.Nat.{_+_, _-_, _*_, _^_};
+ghost use Rattle.rules.specs.State.{degenerates, duplicates, crowded-edges, dropped-at-edges, dropped-for-direction, vertices-split, points-added, reoriented, components, isolated};
+ghost use Rattle.passes.specs.Passing.{lists, stated, Stands, StandsLast, Pass1, Pass2, Pass3, Pass4, Pass5, Pass6};
 ghost use Rattle.lending.specs.Reports.{empty, added, CountsBelow};
 ghost use Rattle.lending.specs.Mended.{TurnsGive, MendAsks, MendGives};
 
@@ -68,8 +57,16 @@ pub fn drop_degenerate(
     n: usize,
     work: &mut [u32],
 ) -> Passed
-    requires { ⌜ SplitAsks (now points) p (now faces) n (now work) × CountsBelow (2 ^ 64 - (p + 3 * n)) (now report) ⌝ }
-    ensures { λ r. ⌜ PassGives (optional (bit 0 options) (one.pass1 s)) (more degenerates (r .dropped)) p p (work-room p n) (now (points .entry)) p (now (faces .entry)) n (now (work .entry)) (now (points .exit)) (now (faces .exit)) (now (work .exit)) r × (now (report .exit) ≡ added degenerates (r .dropped) (now (report .entry))) ⌝ }
+    requires { ⌜
+        (let before = lists (now points) p (now faces) n (now work) in
+        Stands (stated before) before × CountsBelow (2 ^ 64 - (p + 3 * n)) (now report))
+        ⌝ }
+    ensures { λ r. ⌜
+        (let before = lists (now (points .entry)) p (now (faces .entry)) n (now (work .entry)) in
+        let after = lists (now (points .exit)) (r .points) (now (faces .exit)) (r .faces) (now (work .exit)) in
+        Pass1 options s before after r
+        × (now (report .exit) ≡ added degenerates (r .dropped) (now (report .entry))))
+        ⌝ }
 {
     let r = passes::pass1(options, s, points, p, faces, n, work);
     report.degenerate_removed = report.degenerate_removed + r.dropped;
@@ -87,8 +84,16 @@ pub fn drop_duplicate_faces(
     n: usize,
     work: &mut [u32],
 ) -> Passed
-    requires { ⌜ SplitAsks (now points) p (now faces) n (now work) × CountsBelow (2 ^ 64 - (p + 3 * n)) (now report) ⌝ }
-    ensures { λ r. ⌜ PassGives (optional (bit 1 options) two.pass2) (more duplicates (r .dropped)) p p (work-room p n) (now (points .entry)) p (now (faces .entry)) n (now (work .entry)) (now (points .exit)) (now (faces .exit)) (now (work .exit)) r × (now (report .exit) ≡ added duplicates (r .dropped) (now (report .entry))) ⌝ }
+    requires { ⌜
+        (let before = lists (now points) p (now faces) n (now work) in
+        Stands (stated before) before × CountsBelow (2 ^ 64 - (p + 3 * n)) (now report))
+        ⌝ }
+    ensures { λ r. ⌜
+        (let before = lists (now (points .entry)) p (now (faces .entry)) n (now (work .entry)) in
+        let after = lists (now (points .exit)) (r .points) (now (faces .exit)) (r .faces) (now (work .exit)) in
+        Pass2 options s before after r
+        × (now (report .exit) ≡ added duplicates (r .dropped) (now (report .entry))))
+        ⌝ }
 {
     let r = passes::pass2(options, s, points, p, faces, n, work);
     report.duplicate_faces_removed = report.duplicate_faces_removed + r.dropped;
@@ -106,8 +111,16 @@ pub fn resolve_nonmanifold_edges(
     n: usize,
     work: &mut [u32],
 ) -> Passed
-    requires { ⌜ SplitAsks (now points) p (now faces) n (now work) × CountsBelow (2 ^ 64 - (p + 3 * n)) (now report) ⌝ }
-    ensures { λ r. ⌜ PassGives (optional (bit 2 options) three.pass3) (λ (report : List ℕ). more dropped-at-edges (r .dropped) (more crowded-edges (r .found) report)) p p (work-room p n) (now (points .entry)) p (now (faces .entry)) n (now (work .entry)) (now (points .exit)) (now (faces .exit)) (now (work .exit)) r × (now (report .exit) ≡ added dropped-at-edges (r .dropped) (added crowded-edges (r .found) (now (report .entry)))) ⌝ }
+    requires { ⌜
+        (let before = lists (now points) p (now faces) n (now work) in
+        Stands (stated before) before × CountsBelow (2 ^ 64 - (p + 3 * n)) (now report))
+        ⌝ }
+    ensures { λ r. ⌜
+        (let before = lists (now (points .entry)) p (now (faces .entry)) n (now (work .entry)) in
+        let after = lists (now (points .exit)) (r .points) (now (faces .exit)) (r .faces) (now (work .exit)) in
+        Pass3 options s before after r
+        × (now (report .exit) ≡ added dropped-at-edges (r .dropped) (added crowded-edges (r .found) (now (report .entry)))))
+        ⌝ }
 {
     let r = passes::pass3(options, s, points, p, faces, n, work);
     report.nonmanifold_edges = report.nonmanifold_edges + r.found;
@@ -126,8 +139,16 @@ pub fn orient_consistently(
     n: usize,
     work: &mut [u32],
 ) -> Passed
-    requires { ⌜ SplitAsks (now points) p (now faces) n (now work) × CountsBelow (2 ^ 64 - (p + 3 * n)) (now report) ⌝ }
-    ensures { λ r. ⌜ PassGives (optional (bit 4 options) four.pass4) (λ (report : List ℕ). more dropped-for-direction (r .dropped) (more components (r .found) (more reoriented (r .changed) report))) p p (work-room p n) (now (points .entry)) p (now (faces .entry)) n (now (work .entry)) (now (points .exit)) (now (faces .exit)) (now (work .exit)) r × (now (report .exit) ≡ added dropped-for-direction (r .dropped) (added components (r .found) (added reoriented (r .changed) (now (report .entry))))) ⌝ }
+    requires { ⌜
+        (let before = lists (now points) p (now faces) n (now work) in
+        Stands (stated before) before × CountsBelow (2 ^ 64 - (p + 3 * n)) (now report))
+        ⌝ }
+    ensures { λ r. ⌜
+        (let before = lists (now (points .entry)) p (now (faces .entry)) n (now (work .entry)) in
+        let after = lists (now (points .exit)) (r .points) (now (faces .exit)) (r .faces) (now (work .exit)) in
+        Pass4 options s before after r
+        × (now (report .exit) ≡ added dropped-for-direction (r .dropped) (added components (r .found) (added reoriented (r .changed) (now (report .entry))))))
+        ⌝ }
 {
     let r = passes::pass4(options, s, points, p, faces, n, work);
     report.faces_reoriented = report.faces_reoriented + r.changed;
@@ -147,8 +168,16 @@ pub fn split_bowtie_vertices(
     n: usize,
     work: &mut [u32],
 ) -> Passed
-    requires { ⌜ SplitAsks (now points) p (now faces) n (now work) × CountsBelow (2 ^ 64 - (p + 3 * n)) (now report) ⌝ }
-    ensures { λ r. ⌜ PassGives (optional (bit 3 options) five.pass5) (λ (report : List ℕ). more points-added (r .changed) (more vertices-split (r .found) report)) p (p + 3 * n) (work-room p n) (now (points .entry)) p (now (faces .entry)) n (now (work .entry)) (now (points .exit)) (now (faces .exit)) (now (work .exit)) r × (now (report .exit) ≡ added points-added (r .changed) (added vertices-split (r .found) (now (report .entry)))) ⌝ }
+    requires { ⌜
+        (let before = lists (now points) p (now faces) n (now work) in
+        Stands (stated before) before × CountsBelow (2 ^ 64 - (p + 3 * n)) (now report))
+        ⌝ }
+    ensures { λ r. ⌜
+        (let before = lists (now (points .entry)) p (now (faces .entry)) n (now (work .entry)) in
+        let after = lists (now (points .exit)) (r .points) (now (faces .exit)) (r .faces) (now (work .exit)) in
+        Pass5 options s before after r
+        × (now (report .exit) ≡ added points-added (r .changed) (added vertices-split (r .found) (now (report .entry)))))
+        ⌝ }
 {
     let r = passes::pass5(options, s, points, p, faces, n, work);
     report.bowtie_vertices_split = report.bowtie_vertices_split + r.found;
@@ -167,8 +196,16 @@ pub fn drop_isolated_vertices(
     n: usize,
     work: &mut [u32],
 ) -> Passed
-    requires { ⌜ UnusedAsks (now points) p (now faces) n (now work) × CountsBelow (2 ^ 64 - (p + 3 * n)) (now report) ⌝ }
-    ensures { λ r. ⌜ PassGives (optional (bit 5 options) six.pass6) (more isolated (r .dropped)) 0 p (2 * p) (now (points .entry)) p (now (faces .entry)) n (now (work .entry)) (now (points .exit)) (now (faces .exit)) (now (work .exit)) r × (now (report .exit) ≡ added isolated (r .dropped) (now (report .entry))) ⌝ }
+    requires { ⌜
+        (let before = lists (now points) p (now faces) n (now work) in
+        StandsLast before × CountsBelow (2 ^ 64 - (p + 3 * n)) (now report))
+        ⌝ }
+    ensures { λ r. ⌜
+        (let before = lists (now (points .entry)) p (now (faces .entry)) n (now (work .entry)) in
+        let after = lists (now (points .exit)) (r .points) (now (faces .exit)) (r .faces) (now (work .exit)) in
+        Pass6 options s before after r
+        × (now (report .exit) ≡ added isolated (r .dropped) (now (report .entry))))
+        ⌝ }
 {
     let r = passes::pass6(options, s, points, p, faces, n, work);
     report.isolated_vertices_removed = report.isolated_vertices_removed + r.dropped;
@@ -185,8 +222,12 @@ fn in_turn(
     n: usize,
     work: &mut [u32],
 ) -> Mended
-    requires { ⌜ SplitAsks (now points) p (now faces) n (now work) ⌝ }
-    ensures { λ r. ⌜ TurnsGive s options (now (points .entry)) p (now (faces .entry)) n (now (work .entry)) (now (points .exit)) (now (faces .exit)) (now (work .exit)) r ⌝ }
+    requires { ⌜ (let before = lists (now points) p (now faces) n (now work) in Stands (stated before) before) ⌝ }
+    ensures { λ r. ⌜
+        (let before = lists (now (points .entry)) p (now (faces .entry)) n (now (work .entry)) in
+        let after = lists (now (points .exit)) (r .points) (now (faces .exit)) (r .faces) (now (work .exit)) in
+        TurnsGive s options before after r)
+        ⌝ }
 {
     let mut report = new();
     let a = drop_degenerate(&mut report, options, s, points, p, faces, n, work);
@@ -258,7 +299,10 @@ pub fn mend(
     work: &mut [u32],
 ) -> Mended
     requires { ⌜ MendAsks (now points) (now faces) (now «out_points») (now «out_faces») (now work) ⌝ }
-    ensures { λ r. ⌜ MendGives (now (points .entry)) (now (faces .entry)) s options (now («out_points» .entry)) (now («out_faces» .entry)) (now (work .entry)) (now («out_points» .exit)) (now («out_faces» .exit)) (now (work .exit)) r ⌝ }
+    ensures { λ r. ⌜
+        (let after = lists (now («out_points» .exit)) (r .points) (now («out_faces» .exit)) (r .faces) (now (work .exit)) in
+        MendGives (now (points .entry)) (now (faces .entry)) s options (now («out_points» .entry)) (now («out_faces» .entry)) (now (work .entry)) after r)
+        ⌝ }
 {
     let p = points.len() / 3;
     let n = faces.len() / 3;

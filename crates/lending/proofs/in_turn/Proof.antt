@@ -43,7 +43,7 @@ use denote.Triple.Table.{entered, cited}
 use denote.Triple.Walked.{says, needs, Stays, stay-none, stay-slice, walkOf, goes-none, goes-slice, Walks, ends-at, walked, walk-meets}
 use denote.Exit.{yes}
 use denote.Signature.{plain}
-use Rattle.split_bowtie_vertices.specs.Splits.{SplitAsks}
+use Rattle.passes.specs.Passing.{Lists, lists, stated, Stands}
 use Rattle.passes.specs.declared.Passed.{Passed}
 use Rattle.lending.specs.declared.Report.{Report}
 use Rattle.lending.specs.declared.Mended.{Mended}
@@ -91,6 +91,10 @@ use Rattle.lending.proofs.in_turn.Code.Mir as parts
 abbrev stayed : Stays (f.ended .signature .params) (f.ended .kept)
 stayed = (stay-none (λ _. u32) yes, (stay-none (λ _. f64) yes, (stay-slice (0 ∷ []) tt (plain (λ _. f64)), (stay-none (λ _. usize) yes, (stay-slice (1 ∷ []) tt (plain (λ _. u32)), (stay-none (λ _. usize) yes, (stay-slice (2 ∷ []) tt (plain (λ _. u32)), tt)))))))
 
+-- what is asked of the lists
+abbrev asked : Lists → Type 0
+asked m = Stands (stated m) m
+
 abbrev slice : Lifetime → Ty → Ty
 slice ℓ τ = tyStruct sliceName (tcons (tyRef ℓ mut τ) (tcons (tyInt w64) tnil))
 
@@ -119,7 +123,7 @@ module _ {M : Type 1} (𝓤 : URA M) (H : Heap 𝓤) (A : Atoms 𝓤) (at-mem : 
   new-of : (r : Report) → ent 𝓤 (ensured 𝓤 H A new.ended (new.clauses 𝓤 H A at-mem run) tt tt tt r) (fact 𝓤 (r ≡ empty))
   new-of r = exE 𝓤 _ (λ ws. snd∗ 𝓤 (sem 𝓤 H A (lasts new.ended tt tt ws)) (fact 𝓤 (r ≡ empty)))
 
-module _ {M : Type 1} (𝓤 : URA M) (H : Heap 𝓤) (A : Atoms 𝓤) (W : Given 𝓤 H A) (at-mem : Memory → SProp 𝓤) (run : Routine → Fun 𝓤) (options : ℕ) (options-fits : options < 2 ^ 32) (s : Float) (s-fits : Ieee.fits binary64 s ≡ true) (p : ℕ) (p-fits : p < 2 ^ 64) (n : ℕ) (n-fits : n < 2 ^ 64) (κ-points : Lft) (q-points : Share) (b-points o-points : ℕ) (γ-points : GName) (points₀ : List Float) (room-points : Room f64 (length points₀)) (κ-faces : Lft) (q-faces : Share) (b-faces o-faces : ℕ) (γ-faces : GName) (faces₀ : List ℕ) (room-faces : Room u32 (length faces₀)) (κ-work : Lft) (q-work : Share) (b-work o-work : ℕ) (γ-work : GName) (work₀ : List ℕ) (room-work : Room u32 (length work₀)) (req : SplitAsks points₀ p faces₀ n work₀) where
+module _ {M : Type 1} (𝓤 : URA M) (H : Heap 𝓤) (A : Atoms 𝓤) (W : Given 𝓤 H A) (at-mem : Memory → SProp 𝓤) (run : Routine → Fun 𝓤) (options : ℕ) (options-fits : options < 2 ^ 32) (s : Float) (s-fits : Ieee.fits binary64 s ≡ true) (p : ℕ) (p-fits : p < 2 ^ 64) (n : ℕ) (n-fits : n < 2 ^ 64) (κ-points : Lft) (q-points : Share) (b-points o-points : ℕ) (γ-points : GName) (points₀ : List Float) (room-points : Room f64 (length points₀)) (κ-faces : Lft) (q-faces : Share) (b-faces o-faces : ℕ) (γ-faces : GName) (faces₀ : List ℕ) (room-faces : Room u32 (length faces₀)) (κ-work : Lft) (q-work : Share) (b-work o-work : ℕ) (γ-work : GName) (work₀ : List ℕ) (room-work : Room u32 (length work₀)) (req : Stands (stated (lists points₀ p faces₀ n work₀)) (lists points₀ p faces₀ n work₀)) where
   abbrev s-points : Val
   s-points = sliceVal (b-points, o-points) (length points₀)
 
@@ -186,7 +190,7 @@ module _ {M : Type 1} (𝓤 : URA M) (H : Heap 𝓤) (A : Atoms 𝓤) (W : Given
       }
 
   -- what is held after the last pass is what the caller is owed
-  exits : (x : Passed) (h : Report) (pointsₙ : List Float) (facesₙ : List ℕ) (workₙ : List ℕ) → TurnsGive s options points₀ p faces₀ n work₀ pointsₙ facesₙ workₙ (mended x h) → length pointsₙ ≡ length points₀ → length facesₙ ≡ length faces₀ → length workₙ ≡ length work₀ → Is Out.the-row (mended x h) (whole-mach x h ∷ []) → ent 𝓤 (⋆ 𝓤 H A (‵ (MutSlice (named 0) κ-points f64 .own (at-list f64 b-points o-points γ-points pointsₙ) (s-points ∷ [])) ∷ ‵ (MutSlice (named 1) κ-faces u32 .own (at-list u32 b-faces o-faces γ-faces facesₙ) (s-faces ∷ [])) ∷ ‵ (MutSlice (named 2) κ-work u32 .own (at-list u32 b-work o-work γ-work workₙ) (s-work ∷ [])) ∷ ‵ (flft κ-points q-points) ∷ ‵ (flft κ-faces q-faces) ∷ ‵ (flft κ-work q-work) ∷ [])) (Post (whole-mach x h))
+  exits : (x : Passed) (h : Report) (pointsₙ : List Float) (facesₙ : List ℕ) (workₙ : List ℕ) → TurnsGive s options (lists points₀ p faces₀ n work₀) (lists pointsₙ (x .points) facesₙ (x .faces) workₙ) (mended x h) → length pointsₙ ≡ length points₀ → length facesₙ ≡ length faces₀ → length workₙ ≡ length work₀ → Is Out.the-row (mended x h) (whole-mach x h ∷ []) → ent 𝓤 (⋆ 𝓤 H A (‵ (MutSlice (named 0) κ-points f64 .own (at-list f64 b-points o-points γ-points pointsₙ) (s-points ∷ [])) ∷ ‵ (MutSlice (named 1) κ-faces u32 .own (at-list u32 b-faces o-faces γ-faces facesₙ) (s-faces ∷ [])) ∷ ‵ (MutSlice (named 2) κ-work u32 .own (at-list u32 b-work o-work γ-work workₙ) (s-work ∷ [])) ∷ ‵ (flft κ-points q-points) ∷ ‵ (flft κ-faces q-faces) ∷ ‵ (flft κ-work q-work) ∷ [])) (Post (whole-mach x h))
   exits x h pointsₙ facesₙ workₙ e l-points l-faces l-work is =
       qed W (‵ (MutSlice (named 0) κ-points f64 .own (at-list f64 b-points o-points γ-points pointsₙ) (s-points ∷ [])) ∷ ‵ (MutSlice (named 1) κ-faces u32 .own (at-list u32 b-faces o-faces γ-faces facesₙ) (s-faces ∷ [])) ∷ ‵ (MutSlice (named 2) κ-work u32 .own (at-list u32 b-work o-work γ-work workₙ) (s-work ∷ [])) ∷ ‵ (flft κ-points q-points) ∷ ‵ (flft κ-faces q-faces) ∷ ‵ (flft κ-work q-work) ∷ []) ∵
       suffices ! _ (ends-at 𝓤 H A f.ended stayed (f.clauses 𝓤 H A at-mem run) W (((κ-points, (κ-faces, (κ-work, tt))), (q-points, (q-faces, (q-work, tt))), tt, a, vals), tt) (whole-mach x h) (mended x h) (tt, (tt, (pointsₙ, (tt, (facesₙ, (tt, (workₙ, tt))))))) (tt, (tt, (l-points, (tt, (l-faces, (tt, (l-work, tt)))))))) $ says ! e $
@@ -330,7 +334,7 @@ module _ {M : Type 1} (𝓤 : URA M) (H : Heap 𝓤) (A : Atoms 𝓤) (W : Given
       walked 𝓤 H A f.ended stayed (f.clauses 𝓤 H A at-mem run) (WpFn 𝓤 H C Λ code.function)
       (λ κs. (uint-vals w32, (float-vals binary64, (slice-vals, (uint-vals w64, (slice-vals, (uint-vals w64, (slice-vals, tt))))))))
       (λ κs. (uint-tells w32, (float-tells binary64, (mut-slice-tells (named 0) (κs .0) f64, (uint-tells w64, (mut-slice-tells (named 1) (κs .1 .0) u32, (uint-tells w64, (mut-slice-tells (named 2) (κs .1 .1 .0) u32, tt))))))))
-      (λ κs qs bounds a _ are. needs 𝓤 (SplitAsks (a .1 .1 .0 .now) (a .1 .1 .1 .0) (a .1 .1 .1 .1 .0 .now) (a .1 .1 .1 .1 .1 .0) (a .1 .1 .1 .1 .1 .1 .0 .now)) _ (λ req.
+      (λ κs qs bounds a _ are. needs 𝓤 (asked (lists (a .1 .1 .0 .now) (a .1 .1 .1 .0) (a .1 .1 .1 .1 .0 .now) (a .1 .1 .1 .1 .1 .0) (a .1 .1 .1 .1 .1 .1 .0 .now))) _ (λ req.
       walk 𝓤 H A W at-mem run (a .0) (are .0 .1) (a .1 .0) (are .1 .0 .1) (a .1 .1 .1 .0) (are .1 .1 .1 .0 .1) (a .1 .1 .1 .1 .1 .0) (are .1 .1 .1 .1 .1 .0 .1) (κs .0) (qs .0) (a .1 .1 .0 .ptr .0) (a .1 .1 .0 .ptr .1) (a .1 .1 .0 .name) (a .1 .1 .0 .now) (are .1 .1 .0 .0 .1) (κs .1 .0) (qs .1 .0) (a .1 .1 .1 .1 .0 .ptr .0) (a .1 .1 .1 .1 .0 .ptr .1) (a .1 .1 .1 .1 .0 .name) (a .1 .1 .1 .1 .0 .now) (are .1 .1 .1 .1 .0 .0 .1) (κs .1 .1 .0) (qs .1 .1 .0) (a .1 .1 .1 .1 .1 .1 .0 .ptr .0) (a .1 .1 .1 .1 .1 .1 .0 .ptr .1) (a .1 .1 .1 .1 .1 .1 .0 .name) (a .1 .1 .1 .1 .1 .1 .0 .now) (are .1 .1 .1 .1 .1 .1 .0 .0 .1) req C Λ fm known-new known-g1 known-g2 known-g3 known-g4 known-g5 known-g6))
 
 -- and so the contract is met where the callees meet theirs

@@ -23,6 +23,7 @@ use Rattle.repair_refusal.specs.Checks.{repair-list, RepairAccepted}
 use Rattle.repair_refusal.proofs.Accept.{repair-is, repair-accepted}
 use Rattle.lending.specs.declared.Mended.{Mended}
 use Rattle.repair.specs.declared.Repaired.the-variants as repaired-as
+use Rattle.passes.specs.Passing.{lists}
 use Rattle.lending.specs.Mended.{MendAsks, MendGives}
 use Rattle.repair.specs.Answers.{roomsOf, outcomeOf, ReportAsks, ReportGives}
 use Rattle.leaving.proofs.Leaving.{length-points-take}
@@ -85,7 +86,7 @@ module _ (points : List Float) (faces : List ℕ) (s : Float) (o : ℕ) (ps : Li
         let a = is-accepted in
         record { input = a .input; room-points = a .room-out-points; room-faces = a .room-out-faces; room-work = a .room-work }
 
-    module _ {ps₁ : List Float} {xs₁ w₁ : List ℕ} {r : Mended} (g : MendGives points faces s o ps xs w ps₁ xs₁ w₁ r) where
+    module _ {ps₁ : List Float} {xs₁ w₁ : List ℕ} {r : Mended} (g : MendGives points faces s o ps xs w (lists ps₁ (r .points) xs₁ (r .faces) w₁) r) where
       -- the bounds of what is cleared
       pub sizes : Sizes P F (r .points) (r .faces) (length ps₁) (length xs₁) (length rs) (length w₁)
       unfolding work-room

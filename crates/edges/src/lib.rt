@@ -81,7 +81,11 @@ fn list(
     work: &mut [u32],
 ) -> Loops
     requires { ⌜ ListAsks (now points) (now faces) m (roomsOf (now edges) (now lengths) (now «face_edges») (now «loop_vertices») (now «loop_ends») (now work)) ⌝ }
-    ensures { λ r. ⌜ ListGives (now (points .entry)) (now (faces .entry)) (roomsOf (now (edges .entry)) (now (lengths .entry)) (now («face_edges» .entry)) (now («loop_vertices» .entry)) (now («loop_ends» .entry)) (now (work .entry))) (roomsOf (now (edges .exit)) (now (lengths .exit)) (now («face_edges» .exit)) (now («loop_vertices» .exit)) (now («loop_ends» .exit)) (now (work .exit))) (r .«loop_vertices») (r .«loop_ends») ⌝ }
+    ensures { λ r. ⌜
+        (let before = roomsOf (now (edges .entry)) (now (lengths .entry)) (now («face_edges» .entry)) (now («loop_vertices» .entry)) (now («loop_ends» .entry)) (now (work .entry)) in
+        let after = roomsOf (now (edges .exit)) (now (lengths .exit)) (now («face_edges» .exit)) (now («loop_vertices» .exit)) (now («loop_ends» .exit)) (now (work .exit)) in
+        ListGives (now (points .entry)) (now (faces .entry)) before after (r .«loop_vertices») (r .«loop_ends»))
+        ⌝ }
 {
     let count = points.len() / 3;
     let next = 5 * faces.len() + 1 + 3 * count;
@@ -113,7 +117,11 @@ pub fn find_edges(
     loop_ends: &mut [u32],
     work: &mut [u32],
 ) -> Found
-    ensures { λ r. ⌜ outcomeOf r (roomsOf (now (edges .exit)) (now (lengths .exit)) (now («face_edges» .exit)) (now («loop_vertices» .exit)) (now («loop_ends» .exit)) (now (work .exit))) ≡ rule.find-edges (now (points .entry)) (now (faces .entry)) (roomsOf (now (edges .entry)) (now (lengths .entry)) (now («face_edges» .entry)) (now («loop_vertices» .entry)) (now («loop_ends» .entry)) (now (work .entry))) ⌝ }
+    ensures { λ r. ⌜
+        (let before = roomsOf (now (edges .entry)) (now (lengths .entry)) (now («face_edges» .entry)) (now («loop_vertices» .entry)) (now («loop_ends» .entry)) (now (work .entry)) in
+        let after = roomsOf (now (edges .exit)) (now (lengths .exit)) (now («face_edges» .exit)) (now («loop_vertices» .exit)) (now («loop_ends» .exit)) (now (work .exit)) in
+        outcomeOf r after ≡ rule.find-edges (now (points .entry)) (now (faces .entry)) before)
+        ⌝ }
 {
     let rooms = Rooms {
         edges: edges.len(),

@@ -20,7 +20,11 @@ pub struct Rooms {
 // 6: edges 6F, lengths 3F, face edges 3F, loop vertices 3F, loop ends 3F, work.
 fn short_room(p: usize, f: usize, rooms: Rooms) -> Verdict
     requires { ⌜ by.Limits p f ⌝ }
-    ensures { λ r. ⌜ by.checkOf r ≡ refusal.no6 (rule.edges-rooms p f) (rooms .edges ∷ rooms .lengths ∷ rooms .«face_edges» ∷ rooms .«loop_vertices» ∷ rooms .«loop_ends» ∷ rooms .work ∷ []) ⌝ }
+    ensures { λ r. ⌜
+        by.checkOf r
+        ≡ refusal.no6 (rule.edges-rooms p f)
+        (rooms .edges ∷ rooms .lengths ∷ rooms .«face_edges» ∷ rooms .«loop_vertices» ∷ rooms .«loop_ends» ∷ rooms .work ∷ [])
+        ⌝ }
 {
     if rooms.edges < 6 * f {
         return Verdict::Refused(6, 0);
@@ -45,7 +49,11 @@ fn short_room(p: usize, f: usize, rooms: Rooms) -> Verdict
 
 // What the edge call refuses up to 6: 1, 2, 4, 5, 6.
 pub fn edges_refusal(points: &[f64], faces: &[u32], rooms: Rooms) -> Verdict
-    ensures { λ r. ⌜ by.checkOf r ≡ refusal.decided (edges-list (now (points .entry)) (now (faces .entry)) (rooms .edges) (rooms .lengths) (rooms .«face_edges») (rooms .«loop_vertices») (rooms .«loop_ends») (rooms .work)) ⌝ }
+    ensures { λ r. ⌜
+        by.checkOf r
+        ≡ refusal.decided
+        (edges-list (now (points .entry)) (now (faces .entry)) (rooms .edges) (rooms .lengths) (rooms .«face_edges») (rooms .«loop_vertices») (rooms .«loop_ends») (rooms .work))
+        ⌝ }
 {
     let found = refuse::sizes(points.len(), faces.len());
     let Verdict::Fine = found else {

@@ -57,7 +57,10 @@ fn add_loop(
     found: Loops,
 ) -> Loops
     requires { ⌜ AddAsks (now work) points next spare v (now «loop_vertices») (now «loop_ends») (found .«loop_vertices») (found .«loop_ends») ⌝ }
-    ensures { λ r. ⌜ ((q : AddAsks (now (work .entry)) points next spare v (now («loop_vertices» .entry)) (now («loop_ends» .entry)) (found .«loop_vertices») (found .«loop_ends»)) → AddGives q (now (work .exit)) (now («loop_vertices» .exit)) (now («loop_ends» .exit)) (r .«loop_vertices») (r .«loop_ends»)) ⌝ }
+    ensures { λ r. ⌜
+        ((q : AddAsks (now (work .entry)) points next spare v (now («loop_vertices» .entry)) (now («loop_ends» .entry)) (found .«loop_vertices») (found .«loop_ends»))
+        → AddGives q (now (work .exit)) (now («loop_vertices» .exit)) (now («loop_ends» .exit)) (r .«loop_vertices») (r .«loop_ends»))
+        ⌝ }
 {
     let n = walk(work, points, next, spare, v);
     if n == 0 {
@@ -84,7 +87,10 @@ fn trace(
     loop_ends: &mut [u32],
 ) -> Loops
     requires { ⌜ TraceAsks (now work) points next spare (now «loop_vertices») (now «loop_ends») ⌝ }
-    ensures { λ r. ⌜ ((q : TraceAsks (now (work .entry)) points next spare (now («loop_vertices» .entry)) (now («loop_ends» .entry))) → TraceGives q (now (work .exit)) (now («loop_vertices» .exit)) (now («loop_ends» .exit)) (r .«loop_vertices») (r .«loop_ends»)) ⌝ }
+    ensures { λ r. ⌜
+        ((q : TraceAsks (now (work .entry)) points next spare (now («loop_vertices» .entry)) (now («loop_ends» .entry)))
+        → TraceGives q (now (work .exit)) (now («loop_vertices» .exit)) (now («loop_ends» .exit)) (r .«loop_vertices») (r .«loop_ends»))
+        ⌝ }
 {
     let mut found = Loops {
         loop_vertices: 0,
@@ -119,7 +125,10 @@ pub fn list_loops(
     loop_ends: &mut [u32],
 ) -> Loops
     requires { ⌜ LoopsAsks (now work) (now faces) points next spare (now «loop_vertices») (now «loop_ends») ⌝ }
-    ensures { λ r. ⌜ LoopsGives (now (work .entry)) (now (faces .entry)) points next spare (now («loop_vertices» .entry)) (now («loop_ends» .entry)) (now (work .exit)) (now («loop_vertices» .exit)) (now («loop_ends» .exit)) (r .«loop_vertices») (r .«loop_ends») ⌝ }
+    ensures { λ r. ⌜
+        LoopsGives (now (work .entry)) (now (faces .entry)) points next spare (now («loop_vertices» .entry)) (now («loop_ends» .entry))
+        (now (work .exit)) (now («loop_vertices» .exit)) (now («loop_ends» .exit)) (r .«loop_vertices») (r .«loop_ends»)
+        ⌝ }
 {
     let found = trace(work, points, next, spare, loop_vertices, loop_ends);
     wiping::wipe(

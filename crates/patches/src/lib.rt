@@ -181,7 +181,11 @@ fn fill_rooms(
     work: &mut [u32],
 )
     requires { ⌜ PatchesAccepted (now points) (now faces) (now labels) count (length (now «face_counts»)) (length (now numbers)) (length (now flags)) (length (now work)) ⌝ }
-    ensures { λ _. ⌜ FillGives (now (points .entry)) (now (faces .entry)) (now (labels .entry)) count (filterOf by) (roomsOf (now («face_counts» .entry)) (now (numbers .entry)) (now (flags .entry)) (now (work .entry))) (roomsOf (now («face_counts» .exit)) (now (numbers .exit)) (now (flags .exit)) (now (work .exit))) ⌝ }
+    ensures { λ _. ⌜
+        (let before = roomsOf (now («face_counts» .entry)) (now (numbers .entry)) (now (flags .entry)) (now (work .entry)) in
+        let after = roomsOf (now («face_counts» .exit)) (now (numbers .exit)) (now (flags .exit)) (now (work .exit)) in
+        FillGives (now (points .entry)) (now (faces .entry)) (now (labels .entry)) count (filterOf by) before after)
+        ⌝ }
 {
     patch_sums::count_faces(labels, face_counts, count);
     patch_sums::sum_faces(points, faces, labels, numbers, count);
@@ -205,7 +209,11 @@ pub fn find_patches(
     flags: &mut [u32],
     work: &mut [u32],
 ) -> Patched
-    ensures { λ r. ⌜ outcomeOf r (roomsOf (now («face_counts» .exit)) (now (numbers .exit)) (now (flags .exit)) (now (work .exit))) ≡ call.find-patches (now (points .entry)) (now (faces .entry)) (now (labels .entry)) count (filterOf by) (roomsOf (now («face_counts» .entry)) (now (numbers .entry)) (now (flags .entry)) (now (work .entry))) ⌝ }
+    ensures { λ r. ⌜
+        (let before = roomsOf (now («face_counts» .entry)) (now (numbers .entry)) (now (flags .entry)) (now (work .entry)) in
+        let after = roomsOf (now («face_counts» .exit)) (now (numbers .exit)) (now (flags .exit)) (now (work .exit)) in
+        outcomeOf r after ≡ call.find-patches (now (points .entry)) (now (faces .entry)) (now (labels .entry)) count (filterOf by) before)
+        ⌝ }
 {
     let rooms = Rooms {
         face_counts: face_counts.len(),

@@ -47,7 +47,11 @@ pub fn patches_refusal(
     count: usize,
     rooms: Rooms,
 ) -> Verdict
-    ensures { λ r. ⌜ by.checkOf r ≡ refusal.decided (patches-list (now (points .entry)) (now (faces .entry)) (now (labels .entry)) count (rooms .«face_counts») (rooms .numbers) (rooms .flags) (rooms .work)) ⌝ }
+    ensures { λ r. ⌜
+        by.checkOf r
+        ≡ refusal.decided
+        (patches-list (now (points .entry)) (now (faces .entry)) (now (labels .entry)) count (rooms .«face_counts») (rooms .numbers) (rooms .flags) (rooms .work))
+        ⌝ }
 {
     let found = refuse::sizes(points.len(), faces.len());
     let Verdict::Fine = found else {

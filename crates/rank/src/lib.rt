@@ -163,7 +163,12 @@ fn scan_other(
 // the second entry.
 pub fn second(points: &[f64], faces: &[u32], run: &[u32], from: u32, to: u32, one: usize) -> usize
     requires { ⌜ SecondAsks (now points) (now faces) (now run) one ⌝ }
-    ensures { λ r. ⌜ r ≡ pass3.second (valueOf (now (points .entry)) (now (faces .entry))) one (facesIn (now (run .entry))) (others (facesOf (now (faces .entry))) (steps.step from to) (steps.walks (face (facesOf (now (faces .entry))) one) (steps.step from to)) (facesIn (now (run .entry)))) ⌝ }
+    ensures { λ r. ⌜
+        (let fs = facesOf (now (faces .entry)) in
+        let us = facesIn (now (run .entry)) in
+        let e = steps.step from to in
+        r ≡ pass3.second (valueOf (now (points .entry)) (now (faces .entry))) one us (others fs e (steps.walks (face fs one) e) us))
+        ⌝ }
 {
     let f = walks(faces, one, from, to);
     let o = scan_other(points, faces, run, from, to, f);

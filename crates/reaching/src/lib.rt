@@ -138,7 +138,11 @@ fn met(work: &[u32], faces: &[u32], n: usize, known: u32, i: usize, x: u32, y: u
 // Who of a run does not make the step from x to y.
 pub fn lone(work: &[u32], faces: &[u32], n: usize, from: usize, to: usize, x: u32, y: u32) -> u32
     requires { ⌜ RunAsks (now work) (now faces) n from to ⌝ }
-    ensures { λ r. ⌜ r ≡ lone (n + 1) (walkOf (facesOf (now (faces .entry))) n (now (work .entry)) .faces) (step x y) (map (λ (id : ℕ). id / 3) (part (now (work .entry)) from (to - from))) ⌝ }
+    ensures { λ r. ⌜
+        r
+        ≡ lone (n + 1) (walkOf (facesOf (now (faces .entry))) n (now (work .entry)) .faces) (step x y)
+        (map (λ (id : ℕ). id / 3) (part (now (work .entry)) from (to - from)))
+        ⌝ }
 {
     let mut known: u32 = 0;
     let mut k = from;

@@ -105,7 +105,10 @@ fn triples(n: usize, work: &[u32], faces: &mut [u32])
 // Reads a file: corners equal as numbers become one point, numbered by first appearance, with the bits that appear first. Then the rooms: each answer in
 // front, zero to the stated room, the work room all zero.
 pub fn read_stl(file: &[u8], points: &mut [f64], faces: &mut [u32], work: &mut [u32]) -> Read
-    ensures { λ r. ⌜ outcomeOf r (now (points .exit)) (now (faces .exit)) (now (work .exit)) ≡ rule.read-stl (now (file .entry)) (roomsOf (now (points .entry)) (now (faces .entry)) (now (work .entry))) ⌝ }
+    ensures { λ r. ⌜
+        (let before = roomsOf (now (points .entry)) (now (faces .entry)) (now (work .entry)) in
+        outcomeOf r (now (points .exit)) (now (faces .exit)) (now (work .exit)) ≡ rule.read-stl (now (file .entry)) before)
+        ⌝ }
 {
     match stl_file::stl_check(file, points.len(), faces.len(), work.len()) {
         Verdict::Fine => {}

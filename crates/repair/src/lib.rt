@@ -47,7 +47,11 @@ pub fn repair(
     report: &mut [u32],
     work: &mut [u32],
 ) -> Repaired
-    ensures { λ r. ⌜ outcomeOf r (now («out_points» .exit)) (now («out_faces» .exit)) (now (report .exit)) (now (work .exit)) ≡ rule.repair (now (points .entry)) (now (faces .entry)) s options (roomsOf (now («out_points» .entry)) (now («out_faces» .entry)) (now (report .entry)) (now (work .entry))) ⌝ }
+    ensures { λ r. ⌜
+        (let before = roomsOf (now («out_points» .entry)) (now («out_faces» .entry)) (now (report .entry)) (now (work .entry)) in
+        outcomeOf r (now («out_points» .exit)) (now («out_faces» .exit)) (now (report .exit)) (now (work .exit))
+        ≡ rule.repair (now (points .entry)) (now (faces .entry)) s options before)
+        ⌝ }
 {
     let rooms = Rooms {
         out_points: out_points.len(),

@@ -37,7 +37,11 @@ fn short_room(p: usize, f: usize, rooms: Rooms) -> Verdict
 
 // What a repair refuses: 1, 2, 3, 4, 5, 6.
 pub fn repair_refusal(points: &[f64], faces: &[u32], s: f64, options: u32, rooms: Rooms) -> Verdict
-    ensures { λ r. ⌜ by.checkOf r ≡ refusal.decided (repair-list (now (points .entry)) (now (faces .entry)) s options (rooms .«out_points») (rooms .«out_faces») (rooms .report) (rooms .work)) ⌝ }
+    ensures { λ r. ⌜
+        by.checkOf r
+        ≡ refusal.decided
+        (repair-list (now (points .entry)) (now (faces .entry)) s options (rooms .«out_points») (rooms .«out_faces») (rooms .report) (rooms .work))
+        ⌝ }
 {
     let found = refuse::sizes(points.len(), faces.len());
     let Verdict::Fine = found else {

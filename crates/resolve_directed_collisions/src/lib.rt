@@ -51,7 +51,11 @@ fn mark_rest(work: &mut [u32], from: usize, len: usize, marks: usize, count: usi
 // Marks the face of each entry of run r after the first in rank.
 fn resolve_edge(points: &[f64], faces: &[u32], work: &mut [u32], marks: usize, r: usize)
     requires { ⌜ RunAsks true (now points) (now faces) (now work) marks r ⌝ }
-    ensures { λ _. ⌜ LostGives (afterFirst (valueOf (now (points .entry)) (now (faces .entry))) (facesOf (now (faces .entry))) (edgeAt true (now (points .entry)) (now (faces .entry)) r)) (now (work .entry)) marks (faceCount (now (faces .entry))) (now (work .exit)) ⌝ }
+    ensures { λ _. ⌜
+        (let ps = now (points .entry) in
+        let xs = now (faces .entry) in
+        LostGives (afterFirst (valueOf ps xs) (facesOf xs) (edgeAt true ps xs r)) (now (work .entry)) marks (faceCount xs) (now (work .exit)))
+        ⌝ }
 {
     let n = faces.len();
     let a = work[4 * n + r] as usize;
@@ -67,7 +71,10 @@ fn resolve_edge(points: &[f64], faces: &[u32], work: &mut [u32], marks: usize, r
 // Marks every face that leaves, on the unchanged list.
 fn mark_edges(points: &[f64], faces: &[u32], work: &mut [u32], marks: usize)
     requires { ⌜ MarkAsks (now points) (now faces) (now work) marks ⌝ }
-    ensures { λ _. ⌜ MarkGives (marked4 (pointsOf (now (points .entry))) (facesOf (now (faces .entry)))) (marks + faceCount (now (faces .entry))) (faceCount (now (faces .entry))) (now (work .entry)) (now (work .exit)) marks ⌝ }
+    ensures { λ _. ⌜
+        (let xs = now (faces .entry) in
+        MarkGives (marked4 (pointsOf (now (points .entry))) (facesOf xs)) (marks + faceCount xs) (faceCount xs) (now (work .entry)) (now (work .exit)) marks)
+        ⌝ }
 {
     let m = table::table(work, faces, points.len() / 3, true, 0);
     rows::clear(work, marks, faces.len() / 3);
@@ -81,7 +88,10 @@ fn mark_edges(points: &[f64], faces: &[u32], work: &mut [u32], marks: usize)
 // The second half of pass 4 marks each face that has an entry after the first in rank at some directed edge. The n faces stand at the front of their room.
 pub fn mark(points: &[f64], faces: &[u32], n: usize, work: &mut [u32]) -> Marked
     requires { ⌜ PassAsks (taken (length (now points) / 3) n) (now points) (now faces) n (now work) ⌝ }
-    ensures { λ r. ⌜ MarkGives (marked4 (pointsOf (now (points .entry))) (standing (now (faces .entry)) n)) (taken (length (now (points .entry)) / 3) n) n (now (work .entry)) (now (work .exit)) (r .at) ⌝ }
+    ensures { λ r. ⌜
+        (let ps = now (points .entry) in
+        MarkGives (marked4 (pointsOf ps) (standing (now (faces .entry)) n)) (taken (length ps / 3) n) n (now (work .entry)) (now (work .exit)) (r .at))
+        ⌝ }
     ensures { λ r. ⌜ r .found ≡ 0 ⌝ }
 {
     let marks = 15 * n + 1 + points.len() / 3;

@@ -93,7 +93,10 @@ fn mark_edges(points: &[f64], faces: &[u32], work: &mut [u32], marks: usize) -> 
 // Pass 3 marks the faces that leave at an edge with more than two entries, and counts such edges. The n faces stand at the front of their room.
 pub fn mark(points: &[f64], faces: &[u32], n: usize, work: &mut [u32]) -> Marked
     requires { ⌜ PassAsks (taken (length (now points) / 3) n) (now points) (now faces) n (now work) ⌝ }
-    ensures { λ r. ⌜ MarkGives (marked3 (pointsOf (now (points .entry))) (standing (now (faces .entry)) n)) (taken (length (now (points .entry)) / 3) n) n (now (work .entry)) (now (work .exit)) (r .at) ⌝ }
+    ensures { λ r. ⌜
+        (let ps = now (points .entry) in
+        MarkGives (marked3 (pointsOf ps) (standing (now (faces .entry)) n)) (taken (length ps / 3) n) n (now (work .entry)) (now (work .exit)) (r .at))
+        ⌝ }
     ensures { λ r. ⌜ r .found ≡ length (crowded (length (now (points .entry)) / 3) (standing (now (faces .entry)) n)) ⌝ }
 {
     let marks = 15 * n + 1 + points.len() / 3;

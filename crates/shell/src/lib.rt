@@ -42,7 +42,11 @@ pub extern "C" fn shell_repair(
     report: &mut [u32],
     work: &mut [u32],
 ) -> ShellRepaired
-    ensures { λ r. ⌜ Given (r .number) (r .place) (r .points ∷ r .faces ∷ r .counts ∷ []) (repaired.roomsOf (now («out_points» .exit)) (now («out_faces» .exit)) (now (report .exit)) (now (work .exit))) (rule.repair (now (points .entry)) (now (faces .entry)) s options (repaired.roomsOf (now («out_points» .entry)) (now («out_faces» .entry)) (now (report .entry)) (now (work .entry)))) ⌝ }
+    ensures { λ r. ⌜
+        (let before = repaired.roomsOf (now («out_points» .entry)) (now («out_faces» .entry)) (now (report .entry)) (now (work .entry)) in
+        let after = repaired.roomsOf (now («out_points» .exit)) (now («out_faces» .exit)) (now (report .exit)) (now (work .exit)) in
+        Given (r .number) (r .place) (r .points ∷ r .faces ∷ r .counts ∷ []) after (rule.repair (now (points .entry)) (now (faces .entry)) s options before))
+        ⌝ }
 {
     match repair::repair(
         points,
@@ -98,7 +102,12 @@ pub extern "C" fn shell_edges(
     loop_ends: &mut [u32],
     work: &mut [u32],
 ) -> ShellEdges
-    ensures { λ r. ⌜ Given (r .number) (r .place) (r .edges ∷ r .lengths ∷ r .«face_edges» ∷ r .«loop_vertices» ∷ r .«loop_ends» ∷ []) (edged.roomsOf (now (edges .exit)) (now (lengths .exit)) (now («face_edges» .exit)) (now («loop_vertices» .exit)) (now («loop_ends» .exit)) (now (work .exit))) (rule.find-edges (now (points .entry)) (now (faces .entry)) (edged.roomsOf (now (edges .entry)) (now (lengths .entry)) (now («face_edges» .entry)) (now («loop_vertices» .entry)) (now («loop_ends» .entry)) (now (work .entry)))) ⌝ }
+    ensures { λ r. ⌜
+        (let before = edged.roomsOf (now (edges .entry)) (now (lengths .entry)) (now («face_edges» .entry)) (now («loop_vertices» .entry)) (now («loop_ends» .entry)) (now (work .entry)) in
+        let after = edged.roomsOf (now (edges .exit)) (now (lengths .exit)) (now («face_edges» .exit)) (now («loop_vertices» .exit)) (now («loop_ends» .exit)) (now (work .exit)) in
+        let entries = r .edges ∷ r .lengths ∷ r .«face_edges» ∷ r .«loop_vertices» ∷ r .«loop_ends» ∷ [] in
+        Given (r .number) (r .place) entries after (rule.find-edges (now (points .entry)) (now (faces .entry)) before))
+        ⌝ }
 {
     match edges::find_edges(
         points,
@@ -260,7 +269,13 @@ pub extern "C" fn shell_patches(
     flags: &mut [u32],
     work: &mut [u32],
 ) -> ShellPatches
-    ensures { λ r. ⌜ Given (r .number) (r .place) (r .«face_counts» ∷ r .numbers ∷ r .flags ∷ []) (roomsOf (now («face_counts» .exit)) (now (numbers .exit)) (now (flags .exit)) (now (work .exit))) (clipped (rule.find-patches (now (points .entry)) (now (faces .entry)) (now (labels .entry)) «patch_count» (masked limits «min_faces» «min_area» «min_aabb_diagonal» «min_area_fraction» «keep_largest_n») (roomsOf (now («face_counts» .entry)) (now (numbers .entry)) (now (flags .entry)) (now (work .entry))))) ⌝ }
+    ensures { λ r. ⌜
+        (let before = roomsOf (now («face_counts» .entry)) (now (numbers .entry)) (now (flags .entry)) (now (work .entry)) in
+        let after = roomsOf (now («face_counts» .exit)) (now (numbers .exit)) (now (flags .exit)) (now (work .exit)) in
+        let filter = masked limits «min_faces» «min_area» «min_aabb_diagonal» «min_area_fraction» «keep_largest_n» in
+        let outcome = rule.find-patches (now (points .entry)) (now (faces .entry)) (now (labels .entry)) «patch_count» filter before in
+        Given (r .number) (r .place) (r .«face_counts» ∷ r .numbers ∷ r .flags ∷ []) after (clipped outcome))
+        ⌝ }
 {
     let by = Filter {
         min_faces: whole(is_set(limits, 1), min_faces),
@@ -314,7 +329,11 @@ pub extern "C" fn shell_read_stl(
     faces: &mut [u32],
     work: &mut [u32],
 ) -> ShellStl
-    ensures { λ r. ⌜ Given (r .number) (r .place) (r .points ∷ r .faces ∷ []) (stl.roomsOf (now (points .exit)) (now (faces .exit)) (now (work .exit))) (rule-stl.read-stl (now (file .entry)) (stl.roomsOf (now (points .entry)) (now (faces .entry)) (now (work .entry)))) ⌝ }
+    ensures { λ r. ⌜
+        (let before = stl.roomsOf (now (points .entry)) (now (faces .entry)) (now (work .entry)) in
+        let after = stl.roomsOf (now (points .exit)) (now (faces .exit)) (now (work .exit)) in
+        Given (r .number) (r .place) (r .points ∷ r .faces ∷ []) after (rule-stl.read-stl (now (file .entry)) before))
+        ⌝ }
 {
     match read_stl::read_stl(file, points, faces, work) {
         Read::Done(a, b) => ShellStl {

@@ -27,7 +27,11 @@ fn begin(work: &[u32], faces: &[u32], states: usize, id: usize) -> u32
 // Whether the entries at the places j and j + 1 of the order begin at the same end.
 fn alike(work: &[u32], faces: &[u32], states: usize, at: usize, j: usize) -> bool
     requires { ⌜ PairAsks (now work) (now faces) states at j ⌝ }
-    ensures { λ b. ⌜ b ≡ eqb (beginOf (now (work .entry)) (now (faces .entry)) states (entry (now (work .entry)) (now (faces .entry)) at j)) (beginOf (now (work .entry)) (now (faces .entry)) states (entry (now (work .entry)) (now (faces .entry)) at (j + 1))) ⌝ }
+    ensures { λ b. ⌜
+        (let w = now (work .entry) in
+        let xs = now (faces .entry) in
+        b ≡ eqb (beginOf w xs states (entry w xs at j)) (beginOf w xs states (entry w xs at (j + 1))))
+        ⌝ }
 {
     let place = at + 3 * faces.len() + j;
     let x = begin(work, faces, states, work[place] as usize);

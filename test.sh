@@ -1,10 +1,13 @@
 #!/usr/bin/env bash
 # The whole test: what is listed, the layout, every crate with its must-fail edits, and the host tests of tests/.
-# Exit status and last line, `N passed, M failed`, are the verdict.
+# Exit status and last line, `N passed, M failed`, are the verdict; the line before it says how long proofs, edits and host tests took.
 set -u
+shopt -s lastpipe
 cd "$(dirname "${BASH_SOURCE[0]}")" || exit 1
 passed=0
 failed=0
+proved=0
+edited=0
 
 # Runs a test under its name, and counts it.
 try() {
@@ -18,14 +21,19 @@ try() {
     fi
 }
 
-# Every crate by `rt ci`, whose last line is added to the count. It must agree with the exit status, and something must have passed.
+# Every crate by `rt ci`, whose last line is added to the count. It must agree with the exit status, and something must have passed. When the last proof
+# and the last edit were told is noted.
 crates() {
-    local log status last
-    log=$(mktemp) || return 1
-    rt ci 2>&1 | tee "$log"
+    local line last='' status
+    rt ci 2>&1 | while IFS= read -r line; do
+        printf '%s\n' "$line"
+        last=$line
+        case $line in
+        "rt: "*" proved ("*) proved=$SECONDS ;;
+        "rt: must-fail "*) edited=$SECONDS ;;
+        esac
+    done
     status=${PIPESTATUS[0]}
-    last=$(tail -n 1 "$log")
-    rm -f "$log"
     if [[ $last =~ ^([0-9]+)\ passed,\ ([0-9]+)\ failed$ ]]; then
         passed=$((passed + BASH_REMATCH[1]))
         failed=$((failed + BASH_REMATCH[2]))
@@ -36,15 +44,23 @@ crates() {
     echo "test: FAILED: rt ci ended with status $status and the line '$last'"
 }
 
+# So many seconds, as minutes and seconds.
+minutes() {
+    printf '%d min %02d s' $(($1 / 60)) $(($1 % 60))
+}
+
 kit=$(rt version 2>&1)
 [ "$kit" = "$(cat kit.txt)" ] || echo "test: the kit here is '$kit'; the proofs were written with '$(cat kit.txt)' (kit.txt)"
 
 try listed bash tests/listed.sh .
 try layout rt fmt --check
+began=$SECONDS
 crates
+hosted=$SECONDS
 for t in tests/*.test.sh; do
     [ -f "$t" ] && try "$t" bash "$t"
 done
 
+echo "test: proofs $(minutes $((proved - began))), must-fail edits $(minutes $((edited - proved))), host tests $(minutes $((SECONDS - hosted))), $(minutes $SECONDS) in all"
 echo "$passed passed, $failed failed"
 [ "$failed" -eq 0 ] && [ "$passed" -gt 0 ]

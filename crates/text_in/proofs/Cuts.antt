@@ -9,7 +9,8 @@ use lib.Dec.{eqb}
 use lib.ListN.{length, take, drop}
 use Rattle.rows.specs.Region.{part}
 use Rattle.rules.specs.Text.{onto, parted, Job, first-line, with-line}
-use Rattle.text_in.specs.Asked.{Piece, PartsThree, PartsFour, PartsOther}
+use Rattle.text_fields.specs.Fields.{Piece}
+use Rattle.text_in.specs.Asked.{PartsThree, PartsFour, PartsOther}
 
 -- a list with a first element
 pub record Some (ps : List (List ℕ)) : Type 0 where

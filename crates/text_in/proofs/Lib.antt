@@ -1,8 +1,3 @@
-pub mod Pieces
-pub mod Bytes
-pub mod Numbers
-pub mod Hex
-pub mod Floats
 pub mod Cuts
 pub mod Storing
 pub mod Growing

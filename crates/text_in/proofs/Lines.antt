@@ -17,7 +17,8 @@ use Rattle.rules.specs.Line.{bytes}
 use Rattle.rules.specs.Text.{Job, equal, real, whole, three, parted, lines-of, with-point, with-corners, with-line, and-line, first-line, job-of, small, all-lines, read}
 use Rattle.text_in.specs.declared.Grown.{Grown}
 use Rattle.text_in.specs.declared.Grown.the-variants as grown
-use Rattle.text_in.specs.Asked.{Piece, RoomAsks, LinesAsks, Grows, jobOf, grownOf, empty, ends, rest}
+use Rattle.text_fields.specs.Fields.{Piece}
+use Rattle.text_in.specs.Asked.{RoomAsks, LinesAsks, Grows, jobOf, grownOf, empty, ends, rest}
 use Rattle.text_in.proofs.Cuts.{Some, parted-some}
 use Rattle.text_in.proofs.Growing.{small-none, small-points, small-faces, small-fits}
 

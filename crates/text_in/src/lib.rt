@@ -1,8 +1,10 @@
 // Reading the text of the program `meshfix`: from bytes to the job that they ask for, or to none, which is refused 11.
+use text_fields::Real;
+use text_fields::Whole;
 ghost use mathlib.Core.Path.{_≡_};
 ghost use Prim.Native.Nat.{_≤_, _<_};
 ghost use lib.ListN.{length, drop};
-ghost use lib.Ieee.{binary64, nan, ofBits};
+ghost use lib.Ieee.{nan};
 ghost use Rattle.rules.specs.Text as rule;
 ghost use Rattle.text_in.specs.Asked as by;
 
@@ -11,18 +13,6 @@ enum Fields {
     Three(usize, usize),
     Four(usize, usize, usize),
     Other,
-}
-
-// A field read as a decimal number.
-enum Whole {
-    Number(u32),
-    Bad,
-}
-
-// A field read as a float.
-enum Real {
-    Number(f64),
-    Bad,
 }
 
 // The first line: options and threshold.
@@ -43,136 +33,27 @@ pub enum Told {
     Bad,
 }
 
-// Where the piece that begins at `from` ends: at the next such byte, or at the end of the text.
-fn find(text: &[u8], from: usize, byte: u8) -> usize
-    requires { ⌜ from ≤ length (now text) ⌝ }
-    ensures { λ r. ⌜ by.Piece (now (text .entry)) from byte r ⌝ }
-{
-    let mut i = from;
-    while i < text.len() {
-        if text[i] == byte {
-            return i;
-        }
-        i += 1;
-    }
-    i
-}
-
 // The fields of a line, parted by tabs.
 fn cut(line: &[u8]) -> Fields
     ensures { λ r. ⌜ by.Parts (now (line .entry)) r ⌝ }
 {
-    let a = find(line, 0, 9);
+    let a = text_fields::find(line, 0, 9);
     if a == line.len() {
         return Fields::Other;
     }
-    let b = find(line, a + 1, 9);
+    let b = text_fields::find(line, a + 1, 9);
     if b == line.len() {
         return Fields::Other;
     }
-    let c = find(line, b + 1, 9);
+    let c = text_fields::find(line, b + 1, 9);
     if c == line.len() {
         return Fields::Three(a, b);
     }
-    let d = find(line, c + 1, 9);
+    let d = text_fields::find(line, c + 1, 9);
     if d == line.len() {
         return Fields::Four(a, b, c);
     }
     Fields::Other
-}
-
-// The number that a decimal digit writes; 10 for any other byte.
-fn digit(byte: u8) -> u64
-    ensures { λ r. ⌜ r ≡ by.digit byte ⌝ }
-{
-    if byte < 48 {
-        return 10;
-    }
-    if byte > 57 {
-        return 10;
-    }
-    (byte - 48) as u64
-}
-
-// A decimal u32 without leading zeros.
-fn read_whole(field: &[u8]) -> Whole
-    ensures { λ r. ⌜ by.wholeOf r ≡ rule.whole (now (field .entry)) ⌝ }
-{
-    if field.len() == 0 {
-        return Whole::Bad;
-    }
-    if field.len() > 10 {
-        return Whole::Bad;
-    }
-    if field[0] == b'0' {
-        if field.len() > 1 {
-            return Whole::Bad;
-        }
-        return Whole::Number(0);
-    }
-    let mut n = 0;
-    let mut i = 0;
-    while i < field.len() {
-        let d = digit(field[i]);
-        if d == 10 {
-            return Whole::Bad;
-        }
-        n = 10 * n + d;
-        i += 1;
-    }
-    if n > 4_294_967_295 {
-        return Whole::Bad;
-    }
-    Whole::Number(n as u32)
-}
-
-// The number that a lower-case hex digit writes; 16 for any other byte.
-fn hex_digit(byte: u8) -> u64
-    ensures { λ r. ⌜ r ≡ by.nibble byte ⌝ }
-{
-    if byte < 48 {
-        return 16;
-    }
-    if byte <= 57 {
-        return (byte - 48) as u64;
-    }
-    if byte < 97 {
-        return 16;
-    }
-    if byte > 102 {
-        return 16;
-    }
-    (byte - 87) as u64
-}
-
-// The float of a bit pattern, also where that is no number's.
-fn float(bits: u64) -> f64
-    ensures { λ r. ⌜ r ≡ ofBits binary64 bits ⌝ }
-{
-    if bits % 0x8000_0000_0000_0000 > 0x7ff0_0000_0000_0000 {
-        return 0.0 / 0.0;
-    }
-    f64::from_bits(bits)
-}
-
-// A float as the 16 hex digits of its bits.
-fn read_real(field: &[u8]) -> Real
-    ensures { λ r. ⌜ by.realOf r ≡ rule.real (now (field .entry)) ⌝ }
-{
-    if field.len() != 16 {
-        return Real::Bad;
-    }
-    let mut n = 0;
-    let mut i = 0;
-    while i < 16 {
-        let d = hex_digit(field[i]);
-        if d == 16 {
-            return Real::Bad;
-        }
-        n = 16 * n + d;
-        i += 1;
-    }
-    Real::Number(float(n))
 }
 
 // Reads a float into the points at `at`. False where the field holds none.
@@ -180,7 +61,7 @@ fn store_real(field: &[u8], points: &mut [f64], at: usize) -> bool
     requires { ⌜ at < length (now points) ⌝ }
     ensures { λ r. ⌜ by.Stores nan (rule.real (now (field .entry))) at (now (points .entry)) (now (points .exit)) r ⌝ }
 {
-    match read_real(field) {
+    match text_fields::read_real(field) {
         Real::Bad => false,
         Real::Number(x) => {
             points[at] = x;
@@ -194,7 +75,7 @@ fn store_whole(field: &[u8], faces: &mut [u32], at: usize) -> bool
     requires { ⌜ at < length (now faces) ⌝ }
     ensures { λ r. ⌜ by.Stores 0 (rule.whole (now (field .entry))) at (now (faces .entry)) (now (faces .exit)) r ⌝ }
 {
-    match read_whole(field) {
+    match text_fields::read_whole(field) {
         Whole::Bad => false,
         Whole::Number(n) => {
             faces[at] = n;
@@ -324,9 +205,9 @@ fn open_job(line: &[u8], a: usize, b: usize) -> Opened
     if line[0] != b'o' {
         return Opened::Bad;
     }
-    match read_whole(&line[a + 1..b]) {
+    match text_fields::read_whole(&line[a + 1..b]) {
         Whole::Bad => Opened::Bad,
-        Whole::Number(options) => match read_real(&line[b + 1..]) {
+        Whole::Number(options) => match text_fields::read_real(&line[b + 1..]) {
             Real::Bad => Opened::Bad,
             Real::Number(threshold) => Opened::Job(options, threshold),
         },
@@ -361,7 +242,7 @@ fn read_lines(
     let mut p = 0;
     let mut f = 0;
     while at < text.len() {
-        let end = find(text, at, 10);
+        let end = text_fields::find(text, at, 10);
         if end == text.len() {
             return Told::Bad;
         }
@@ -388,7 +269,7 @@ pub fn read(text: &[u8], points: &mut [f64], faces: &mut [u32]) -> Told
     if text.len() > 8_192 {
         return Told::Bad;
     }
-    let end = find(text, 0, 10);
+    let end = text_fields::find(text, 0, 10);
     if end == text.len() {
         return Told::Bad;
     }

@@ -15,8 +15,8 @@ use Rattle.rules.specs.Lists.{through}
 use Rattle.rules.proofs.Lists.{through-append}
 use Rattle.rules.specs.Line.{digits, decimal}
 use Rattle.rules.specs.Text.{equal, of-decimal, whole}
-use Rattle.text_in.specs.Asked.{digit}
-use Rattle.text_in.proofs.Bytes.{Digit, digit-of, digit-in}
+use Rattle.text_fields.specs.Fields.{digit}
+use Rattle.text_fields.proofs.Bytes.{Digit, digit-of, digit-in}
 
 -- ---- equal fields
 

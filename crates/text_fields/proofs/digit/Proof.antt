@@ -1,9 +1,9 @@
--- `text_in::digit` meets its contract. Assumes nothing.
+-- `text_fields::digit` meets its contract. Assumes nothing.
 use mathlib.Core.Path.{sym}
 use borrow.Author.Needs.{needs}
-use Rattle.text_in.proofs.Bytes.{digit-low, digit-high, digit-in}
-use Rattle.text_in.proofs.digit.Statement.{statement}
-use Rattle.text_in.proofs.digit.Tie as tie
+use Rattle.text_fields.proofs.Bytes.{digit-low, digit-high, digit-in}
+use Rattle.text_fields.proofs.digit.Statement.{statement}
+use Rattle.text_fields.proofs.digit.Tie as tie
 
 returns : tie.Need-returns
 returns c = sym (digit-low (c .if1 .taken))

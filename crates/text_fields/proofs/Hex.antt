@@ -14,9 +14,9 @@ use Rattle.rows.proofs.FilterLaws.{All, all-at, all-append}
 use Rattle.rules.specs.Lists.{through}
 use Rattle.rules.proofs.Lists.{through-append}
 use Rattle.rules.specs.Text.{equal, hex, of-hex, real}
-use Rattle.text_in.specs.Asked.{nibble}
-use Rattle.text_in.proofs.Bytes.{hex-byte, Nibble, nibble-of, nibble-byte}
-use Rattle.text_in.proofs.Numbers.{equal-same, equal-self}
+use Rattle.text_fields.specs.Fields.{nibble}
+use Rattle.text_fields.proofs.Bytes.{hex-byte, Nibble, nibble-of, nibble-byte}
+use Rattle.text_fields.proofs.Numbers.{equal-same, equal-self}
 
 -- k digits are k bytes
 hex-long : (k n : ℕ) → length (hex k n) ≡ k

@@ -1,13 +1,13 @@
--- `text_in::read_whole` meets its contract: the first i bytes are what is written for n. Assumes nothing.
+-- `text_fields::read_whole` meets its contract: the first i bytes are what is written for n. Assumes nothing.
 use mathlib.Core.Path.{sym, _∙_}
 use Prim.Native.Nat.{_-_}
 use native.Mathlib.Omega.{arith}
 use borrow.Author.Needs.{needs}
 use lib.ListN.{length}
-use Rattle.text_in.proofs.Bytes.{digit-of}
-use Rattle.text_in.proofs.Numbers.{Digits, digits-begin, digits-turn, digits-again, no-digit, digits-done, digits-above, none-empty, none-long, none-lead, just-zero}
-use Rattle.text_in.proofs.read_whole.Statement.{statement}
-use Rattle.text_in.proofs.read_whole.Tie as tie
+use Rattle.text_fields.proofs.Bytes.{digit-of}
+use Rattle.text_fields.proofs.Numbers.{Digits, digits-begin, digits-turn, digits-again, no-digit, digits-done, digits-above, none-empty, none-long, none-lead, just-zero}
+use Rattle.text_fields.proofs.read_whole.Statement.{statement}
+use Rattle.text_fields.proofs.read_whole.Tie as tie
 
 abbrev Inv-loop : tie.InvT-loop
 Inv-loop field n₀ i₀ n i = Digits field n i

@@ -10,7 +10,7 @@ use native.Mathlib.Numerals.{add-one}
 use Rattle.rows.specs.Region.{part}
 use Rattle.rows.proofs.Regions.{part-suc}
 use Rattle.rules.specs.Text.{onto, parted}
-use Rattle.text_in.specs.Asked.{Piece}
+use Rattle.text_fields.specs.Fields.{Piece}
 
 -- bytes put before the first piece
 unfoldable pub before-all : List ℕ → List (List ℕ) → List (List ℕ)

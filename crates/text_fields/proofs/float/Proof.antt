@@ -1,8 +1,8 @@
--- `text_in::float` meets its contract. Assumes nothing.
-use Rattle.text_in.proofs.Floats.{no-number, number}
+-- `text_fields::float` meets its contract. Assumes nothing.
+use Rattle.text_fields.proofs.Floats.{no-number, number}
 use borrow.Author.Needs.{needs}
-use Rattle.text_in.proofs.float.Statement.{statement}
-use Rattle.text_in.proofs.float.Tie as tie
+use Rattle.text_fields.proofs.float.Statement.{statement}
+use Rattle.text_fields.proofs.float.Tie as tie
 
 returns : tie.Need-returns
 returns c = no-number _ (c .if1 .taken)

@@ -1,11 +1,11 @@
--- `text_in::read_real` meets its contract: the first i bytes are what is written for n. Assumes nothing.
+-- `text_fields::read_real` meets its contract: the first i bytes are what is written for n. Assumes nothing.
 use mathlib.Core.Path.{sym, ap, _∙_}
 use mathlib.Core.Option.{some}
 use Prim.Native.Nat.{_-_}
 use native.Mathlib.Omega.{arith}
-use Rattle.text_in.proofs.Hex.{Nibbles, nibbles-begin, nibbles-turn, nibbles-again, no-nibble, nibbles-done, none-other}
-use Rattle.text_in.proofs.read_real.Statement.{statement}
-use Rattle.text_in.proofs.read_real.Tie as tie
+use Rattle.text_fields.proofs.Hex.{Nibbles, nibbles-begin, nibbles-turn, nibbles-again, no-nibble, nibbles-done, none-other}
+use Rattle.text_fields.proofs.read_real.Statement.{statement}
+use Rattle.text_fields.proofs.read_real.Tie as tie
 
 abbrev Inv-loop : tie.InvT-loop
 Inv-loop field n₀ i₀ n i = Nibbles field n i

@@ -1,9 +1,9 @@
--- `text_in::hex_digit` meets its contract. Assumes nothing.
+-- `text_fields::hex_digit` meets its contract. Assumes nothing.
 use mathlib.Core.Path.{sym}
-use Rattle.text_in.proofs.Bytes.{nibble-low, nibble-digit, nibble-between, nibble-letter, nibble-high}
+use Rattle.text_fields.proofs.Bytes.{nibble-low, nibble-digit, nibble-between, nibble-letter, nibble-high}
 use borrow.Author.Needs.{needs}
-use Rattle.text_in.proofs.hex_digit.Statement.{statement}
-use Rattle.text_in.proofs.hex_digit.Tie as tie
+use Rattle.text_fields.proofs.hex_digit.Statement.{statement}
+use Rattle.text_fields.proofs.hex_digit.Tie as tie
 
 returns : tie.Need-returns
 returns c = sym (nibble-low (c .if1 .taken))

@@ -1,10 +1,10 @@
--- `text_in::find` meets its contract: no separator stands before i. Assumes nothing.
+-- `text_fields::find` meets its contract: no separator stands before i. Assumes nothing.
 use Prim.Native.Nat.{_-_}
 use native.Mathlib.Omega.{arith}
 use lib.ListN.{length}
-use Rattle.text_in.proofs.Pieces.{Clear, begin, again, found, done}
-use Rattle.text_in.proofs.find.Statement.{statement}
-use Rattle.text_in.proofs.find.Tie as tie
+use Rattle.text_fields.proofs.Pieces.{Clear, begin, again, found, done}
+use Rattle.text_fields.proofs.find.Statement.{statement}
+use Rattle.text_fields.proofs.find.Tie as tie
 
 abbrev Inv-loop : tie.InvT-loop
 Inv-loop text from byte i₀ i = Clear text from byte i

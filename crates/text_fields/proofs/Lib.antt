@@ -1,0 +1,5 @@
+pub mod Pieces
+pub mod Bytes
+pub mod Numbers
+pub mod Hex
+pub mod Floats

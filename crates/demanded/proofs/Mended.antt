@@ -7,8 +7,7 @@ use lib.Ieee.{Float}
 use Rattle.rules.specs.Mesh.{pointsOf, facesOf}
 use Rattle.rules.specs.State.{State, report-counts}
 use Rattle.rules.specs.Rooms.{accepted}
-use Rattle.rules.specs.RepairCall.{repair}
-use Rattle.rules.specs.EdgesCall.{EdgesRooms, find-edges}
+use Rattle.rules.specs.Calls.{EdgesRooms, repair, find-edges}
 use Rattle.rules.proofs.Demand.{Demand3, Beside, Looped, Rooms-enough}
 use Rattle.rules.proofs.Called.{Called3, called3, left}
 use Rattle.repair.specs.declared.Repaired.the-variants.{Done}

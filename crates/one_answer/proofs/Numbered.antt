@@ -8,7 +8,7 @@ use Rattle.rules.specs.Refusal.{Check, ok, no, decided, unless, at-first, no1, 
 use Rattle.rules.specs.Rooms.{Answer, accepted, refused, outcome}
 use Rattle.rules.specs.Edges.{no7, no8}
 use Rattle.rules.specs.Patches.{Filter}
-use Rattle.rules.specs.Calls.{RepairRooms, repair, repair-check, EdgesRooms, find-edges, edges-check, check, check-check, PatchesRooms, find-patches, patches-check, write-line, line-check}
+use Rattle.rules.specs.Calls.{RepairRooms, EdgesRooms, PatchesRooms, repair, repair-check, find-edges, edges-check, check, check-check, find-patches, patches-check, write-line, line-check}
 use Rattle.rules.specs.Stl.{StlRooms, read-stl, stl-check, no12}
 
 -- a refusal's number is not 0

@@ -16,7 +16,7 @@ use Rattle.rules.specs.Pass5.{pass5}
 use Rattle.rules.specs.Pass6.{marked6, pass6}
 use Rattle.rules.specs.Refusal.{ok}
 use Rattle.rules.specs.Repair.{bit, optional, passes, repaired}
-use Rattle.rules.specs.RepairCall.{RepairRooms, repair-check}
+use Rattle.rules.specs.Calls.{RepairRooms, repair-check}
 use Rattle.rules.proofs.Lists.{leave-length}
 use Rattle.rules.proofs.Flat.{length-points, length-faces}
 use Rattle.rules.proofs.Accepted.{accepted-inside}

@@ -18,8 +18,7 @@ use Rattle.rules.specs.Pass6.{used}
 use Rattle.rules.specs.Refusal.{ok}
 use Rattle.rules.specs.Edges.{boundary, loops}
 use Rattle.rules.specs.Repair.{repaired}
-use Rattle.rules.specs.RepairCall.{RepairRooms, repair-check}
-use Rattle.rules.specs.EdgesCall.{EdgesRooms, edges-check}
+use Rattle.rules.specs.Calls.{RepairRooms, repair-check, EdgesRooms, edges-check}
 
 -- ---- one fan
 

@@ -19,7 +19,7 @@ use Rattle.rules.specs.Pass6.{used}
 use Rattle.rules.specs.Repair.{repaired}
 use Rattle.rules.specs.Refusal.{ok, no}
 use Rattle.rules.specs.Edges.{no8}
-use Rattle.rules.specs.RepairCall.{RepairRooms}
+use Rattle.rules.specs.Calls.{RepairRooms}
 use Rattle.rules.specs.Bench.{legs, origins}
 use Rattle.rules.specs.Open.{every-rule}
 use Rattle.rules.proofs.Demand.{at, Claim, Claim-beside, Demand3, Beside, Distinct}

@@ -1,22 +1,13 @@
--- The patch call for C: the filter that a mask and five numbers say, and a place in 32 bits, which loses nothing below 2^32 labels. Assumes nothing.
+-- The patch call for C: its outcome by the mask's filter, with a place in 32 bits. Assumes nothing.
 use mathlib.Core.Path.{_≡_, ap, _∙_}
-use mathlib.Core.Bool.{Bool}
 use mathlib.Core.List.{List}
-use Prim.Native.Nat.{ℕ, _≤_, _<_, _^_}
+use Prim.Native.Nat.{ℕ, _≤_, _<_}
 use borrow.Author.Tests.{lt-ltb, le-ltb}
 use lib.Ieee.{Float}
-use Rattle.rules.specs.Patches.{Filter, Limit}
+use Rattle.rules.specs.Patches.{Filter}
 use Rattle.rules.specs.Rooms.{Outcome}
 use Rattle.rules.specs.PatchesCall.{PatchesRooms, find-patches}
-use Rattle.shell.specs.Mask.{set, held, masked, clip, clipped}
-
--- the filter, limit by limit
-module _ (limits n : ℕ) (x y z : Float) (m : ℕ) where
-  pub masked-is :
-      {s t u v w : Bool} {a : Limit ℕ} {b c d : Limit Float} {e : Limit ℕ} → s ≡ set limits 1 → a ≡ held s n → t ≡ set limits 2 → b ≡ held t x
-      → u ≡ set limits 4 → c ≡ held u y → v ≡ set limits 8 → d ≡ held v z → w ≡ set limits 16 → e ≡ held w m
-      → record { min-faces = a; min-area = b; min-diagonal = c; min-fraction = d; keep-largest = e } ≡ masked limits n x y z m
-  masked-is es ea et eb eu ec ev ed ew ee = rw (ea, eb, ec, ed, ee, es, et, eu, ev, ew)
+use Rattle.shell.specs.Clip.{clip, clipped}
 
 -- an outcome under the filter of the code is that under the mask's, with its place in 32 bits
 pub told-by :

@@ -2,23 +2,20 @@
 use edge_check::Checked;
 use edges::Found;
 use line::Lined;
-use patches::Filter;
-use patches::Limit;
 use patches::Patched;
-use patches::Whole;
 use read_stl::Read;
 use repair::Repaired;
 ghost use mathlib.Core.Path.{_≡_};
 ghost use mathlib.Core.List.{[], _∷_};
-ghost use Prim.Native.Nat.{_<_};
 ghost use Rattle.rules.specs.Calls as rule;
 ghost use Rattle.rules.specs.Stl as rule-stl;
 ghost use Rattle.repair.specs.Answers as repaired;
 ghost use Rattle.edges.specs.Answers as edged;
 ghost use Rattle.read_stl.specs.Answers as stl;
-ghost use Rattle.patches.specs.Answers.{limitOf, wholeOf, roomsOf};
+ghost use Rattle.patches.specs.Answers.{roomsOf};
+ghost use Rattle.patch_mask.specs.Mask.{masked};
 ghost use Rattle.shell.specs.Told.{Given};
-ghost use Rattle.shell.specs.Mask.{set, held, clip, clipped, masked};
+ghost use Rattle.shell.specs.Clip.{clip, clipped};
 
 // What a repair gives back: how many entries stand in the rooms of points, faces and report.
 #[repr(C)]
@@ -213,32 +210,6 @@ pub struct ShellPatches {
     pub flags: u64,
 }
 
-// Whether the mask sets the limit with this bit.
-fn is_set(limits: u32, bit: u32) -> bool
-    requires { ⌜ 0 < bit ⌝ }
-    ensures { λ r. ⌜ r ≡ set limits bit ⌝ }
-{
-    limits / bit % 2 == 1
-}
-
-// A float limit, if it is set.
-fn limit(is: bool, x: f64) -> Limit
-    ensures { λ r. ⌜ limitOf r ≡ held is x ⌝ }
-{
-    if is { Limit::Limit(x) } else { Limit::Absent }
-}
-
-// A limit that is a whole number, if it is set.
-fn whole(is: bool, n: u64) -> Whole
-    ensures { λ r. ⌜ wholeOf r ≡ held is n ⌝ }
-{
-    if is {
-        Whole::Limit(n as usize)
-    } else {
-        Whole::Absent
-    }
-}
-
 // A place in 32 bits: one that does not fit is told as the largest that does.
 fn place_of(at: usize) -> u32
     ensures { λ r. ⌜ r ≡ clip at ⌝ }
@@ -277,13 +248,14 @@ pub extern "C" fn shell_patches(
         Given (r .number) (r .place) (r .«face_counts» ∷ r .numbers ∷ r .flags ∷ []) after (clipped outcome))
         ⌝ }
 {
-    let by = Filter {
-        min_faces: whole(is_set(limits, 1), min_faces),
-        min_area: limit(is_set(limits, 2), min_area),
-        min_aabb_diagonal: limit(is_set(limits, 4), min_aabb_diagonal),
-        min_area_fraction: limit(is_set(limits, 8), min_area_fraction),
-        keep_largest_n: whole(is_set(limits, 16), keep_largest_n),
-    };
+    let by = patch_mask::filter(
+        limits,
+        min_faces,
+        min_area,
+        min_aabb_diagonal,
+        min_area_fraction,
+        keep_largest_n,
+    );
     match patches::find_patches(
         points,
         faces,

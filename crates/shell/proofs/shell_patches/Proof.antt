@@ -1,40 +1,13 @@
 -- `shell::shell_patches` meets its contract: the outcome of the patch call, told in numbers. Assumes nothing.
 use Rattle.patches.specs.Answers.{roomsOf}
 use Rattle.shell.proofs.Outcomes.{given-accepted, given-refused}
-use Rattle.shell.proofs.Patching.{masked-is, told-by}
+use Rattle.shell.proofs.Patching.{told-by}
 use borrow.Author.Needs.{needs}
 use Rattle.shell.proofs.shell_patches.Statement.{statement}
 use Rattle.shell.proofs.shell_patches.Tie as tie
 
-is-set-requires : tie.Need-is-set-requires
-is-set-requires c κs = search needs
-
-whole-requires : tie.Need-whole-requires
-whole-requires c κs = search needs
-
-is-set-requires-2 : tie.Need-is-set-requires-2
-is-set-requires-2 c κs = search needs
-
-limit-requires : tie.Need-limit-requires
-limit-requires c κs = search needs
-
-is-set-requires-3 : tie.Need-is-set-requires-3
-is-set-requires-3 c κs = search needs
-
-limit-requires-2 : tie.Need-limit-requires-2
-limit-requires-2 c κs = search needs
-
-is-set-requires-4 : tie.Need-is-set-requires-4
-is-set-requires-4 c κs = search needs
-
-limit-requires-3 : tie.Need-limit-requires-3
-limit-requires-3 c κs = search needs
-
-is-set-requires-5 : tie.Need-is-set-requires-5
-is-set-requires-5 c κs = search needs
-
-whole-requires-2 : tie.Need-whole-requires-2
-whole-requires-2 c κs = search needs
+filter-requires : tie.Need-filter-requires
+filter-requires c κs = search needs
 
 find-patches-requires : tie.Need-find-patches-requires
 find-patches-requires c κs = search needs
@@ -64,12 +37,10 @@ returns : tie.Need-returns
 returns c =
     let f = c .before .before .before .before .before .before .before .before .before .before .before in
     let w = f .before .before .before .before .before in
-    let a = w .before .before .before .before .before .before .before .before .before .before .before .before .before .before .before .before .before .args in
+    let a = w .before .before .before .before .before .before .before .before .args in
     given-accepted
     (told-by (a .points .now) (a .faces .now) (a .labels .now) (a .patch-count) (roomsOf (a .face-counts .now) (a .numbers .now) (a .flags .now) (a .work .now))
-    (masked-is (a .limits) (a .min-faces) (a .min-area) (a .min-aabb-diagonal) (a .min-area-fraction) (a .keep-largest-n) (w .before .before .before .before .before .before .before .before .before .is-set .ensures) (w .before .before .before .before .before .before .before .before .whole .ensures)
-    (w .before .before .before .before .before .before .before .is-set2 .ensures) (w .before .before .before .before .before .before .limit .ensures) (w .before .before .before .before .before .is-set3 .ensures) (w .before .before .before .before .limit2 .ensures) (w .before .before .before .is-set4 .ensures)
-    (w .before .before .limit3 .ensures) (w .before .is-set5 .ensures) (w .whole2 .ensures))
+    (w .filter .ensures)
     (rw (c .before .a .given .1) at (f .find-patches .ensures)))
 
 same-length-5 : tie.Need-same-length-5
@@ -88,29 +59,18 @@ returns-2 : tie.Need-returns-2
 returns-2 c =
     let f = c .before .before .before .before .before .before .before .before .before .before .before .before in
     let w = f .before .before .before .before .before in
-    let a = w .before .before .before .before .before .before .before .before .before .before .before .before .before .before .before .before .before .args in
+    let a = w .before .before .before .before .before .before .before .before .args in
     rw (c .place-of .ensures)
     (given-refused 3
     (told-by (a .points .now) (a .faces .now) (a .labels .now) (a .patch-count) (roomsOf (a .face-counts .now) (a .numbers .now) (a .flags .now) (a .work .now))
-    (masked-is (a .limits) (a .min-faces) (a .min-area) (a .min-aabb-diagonal) (a .min-area-fraction) (a .keep-largest-n) (w .before .before .before .before .before .before .before .before .before .is-set .ensures) (w .before .before .before .before .before .before .before .before .whole .ensures)
-    (w .before .before .before .before .before .before .before .is-set2 .ensures) (w .before .before .before .before .before .before .limit .ensures) (w .before .before .before .before .before .is-set3 .ensures) (w .before .before .before .before .limit2 .ensures) (w .before .before .before .is-set4 .ensures)
-    (w .before .before .limit3 .ensures) (w .before .is-set5 .ensures) (w .whole2 .ensures))
+    (w .filter .ensures)
     (rw (c .before .before .number .given .1) at (f .find-patches .ensures))))
 
 pub shell-patches-spec : {M : Type 1} → statement M
 shell-patches-spec =
     tie.close
     (tie.spec
-    is-set-requires
-    whole-requires
-    is-set-requires-2
-    limit-requires
-    is-set-requires-3
-    limit-requires-2
-    is-set-requires-4
-    limit-requires-3
-    is-set-requires-5
-    whole-requires-2
+    filter-requires
     find-patches-requires
     enum-known-a
     enum-known-number

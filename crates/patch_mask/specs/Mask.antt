@@ -1,10 +1,9 @@
--- The patch call as C gives it: a filter by a mask and five numbers, and a place in 32 bits. Definitions only.
-use mathlib.Core.Bool.{Bool, true, false, cond}
+-- The patch filter as C gives it: a mask and five numbers. Definitions only.
+use mathlib.Core.Bool.{Bool, true, false}
 use Prim.Native.Nat.{ℕ, _/_, _%_}
-use lib.Dec.{eqb, ltb}
+use lib.Dec.{eqb}
 use lib.Ieee.{Float}
 use Rattle.rules.specs.Patches.{Filter, Limit, absent, limit}
-use Rattle.rules.specs.Rooms.{Answer, accepted, refused, Outcome}
 
 -- the mask sets the limit with this bit
 abbrev pub set : ℕ → ℕ → Bool
@@ -25,16 +24,3 @@ masked limits min-faces min-area min-diagonal min-fraction keep-largest =
       min-fraction = held (set limits 8) min-fraction;
       keep-largest = held (set limits 16) keep-largest;
     }
-
--- a place in 32 bits: one that does not fit, in a list of more than 4,294,967,295 labels, is told as the largest that does
-abbrev pub clip : ℕ → ℕ
-clip p = cond (ltb p 4294967295) p 4294967295
-
--- an answer with its place so
-abbrev pub clipped-answer : Answer → Answer
-clipped-answer (accepted entries) = accepted entries
-clipped-answer (refused n p) = refused n (clip p)
-
--- an outcome with its place so
-abbrev pub clipped : {R : Type 0} → Outcome R → Outcome R
-clipped o = record { answer = clipped-answer (o .answer); rooms = o .rooms }

@@ -1,6 +1,6 @@
--- `shell::limit` meets its contract: the number counts if it is set. Assumes nothing.
-use Rattle.shell.proofs.limit.Statement.{statement}
-use Rattle.shell.proofs.limit.Tie as tie
+-- `patch_mask::limit` meets its contract: the number counts if it is set. Assumes nothing.
+use Rattle.patch_mask.proofs.limit.Statement.{statement}
+use Rattle.patch_mask.proofs.limit.Tie as tie
 
 returns : tie.Need-returns
 returns c = rw (c .if1 .taken)

@@ -1,6 +1,6 @@
--- `shell::whole` meets its contract: the number counts if it is set. Assumes nothing.
-use Rattle.shell.proofs.whole.Statement.{statement}
-use Rattle.shell.proofs.whole.Tie as tie
+-- `patch_mask::whole` meets its contract: the number counts if it is set. Assumes nothing.
+use Rattle.patch_mask.proofs.whole.Statement.{statement}
+use Rattle.patch_mask.proofs.whole.Tie as tie
 
 returns : tie.Need-returns
 returns c = rw (c .if1 .taken)

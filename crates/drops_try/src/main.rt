@@ -4,27 +4,6 @@ ghost use Rattle.leaving.specs.Pass.{FacesStand, PassAsks};
 ghost use Rattle.drop_duplicate_faces.specs.Keys.{taken};
 ghost use Rattle.drop_isolated_vertices.specs.Unused.{UnusedAsks};
 
-// A u32 as a u64.
-fn wide(x: u32) -> u64 {
-    x as u64
-}
-
-// Writes a number and a space.
-fn show_number(n: u64) {
-    io::print_decimal(1, n);
-    io::write_all(1, b" ");
-}
-
-// Writes the numbers of a row, and ends the line.
-fn show(row: &[u32]) {
-    let mut i = 0;
-    while i < row.len() {
-        show_number(wide(row[i]));
-        i += 1;
-    }
-    io::write_all(1, b"\n");
-}
-
 // Writes how many entries of two rows of floats are equal, from the front on.
 fn show_equal(row: &[f64], other: &[f64]) {
     let mut i = 0;
@@ -37,8 +16,8 @@ fn show_equal(row: &[f64], other: &[f64]) {
         }
         i += 1;
     }
-    show_number(i as u64);
-    io::write_all(1, b"\n");
+    show::number(i as u64);
+    show::end_line();
 }
 
 // Pass 1.
@@ -46,8 +25,8 @@ fn degenerate(points: &[f64], s: f64, faces: &mut [u32], n: usize, work: &mut [u
     requires { ⌜ PassAsks n (now points) (now faces) n (now work) ⌝ }
 {
     let marked = drop_degenerate::mark(points, s, faces, n, work);
-    show_number(leaving::leave(faces, work, marked.at, n) as u64);
-    show(faces);
+    show::number(leaving::leave(faces, work, marked.at, n) as u64);
+    show::row(faces, faces.len());
 }
 
 // Pass 2.
@@ -55,18 +34,18 @@ fn duplicate(faces: &mut [u32], n: usize, count: usize, work: &mut [u32])
     requires { ⌜ FacesStand (taken count n) count (now faces) n (now work) ⌝ }
 {
     let marked = drop_duplicate_faces::mark(faces, n, count, work);
-    show_number(leaving::leave(faces, work, marked.at, n) as u64);
-    show(faces);
+    show::number(leaving::leave(faces, work, marked.at, n) as u64);
+    show::row(faces, faces.len());
 }
 
 // Pass 6.
 fn isolated(points: &mut [f64], count: usize, faces: &mut [u32], n: usize, work: &mut [u32])
     requires { ⌜ UnusedAsks (now points) count (now faces) n (now work) ⌝ }
 {
-    show_number(
+    show::number(
         drop_isolated_vertices::drop_isolated_vertices(points, count, faces, n, work) as u64,
     );
-    show(faces);
+    show::row(faces, faces.len());
 }
 
 // A good face, one with its corners in line, one that repeats a corner, and a good one. At the threshold 1 the right angles are degenerate too.

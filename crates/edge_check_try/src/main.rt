@@ -6,12 +6,6 @@ ghost use Prim.Native.Nat.{_≤_};
 // The largest number that a count can be.
 const HUGE: usize = 18446744073709551615;
 
-// Writes a number and a space.
-fn show_number(n: u64) {
-    io::print_decimal(1, n);
-    io::write_all(1, b" ");
-}
-
 // How many entries are 0, from the front on.
 fn zeros(row: &[u32]) -> u64 {
     let mut i = 0;
@@ -58,13 +52,13 @@ fn run(count: usize, faces: &[u32], length: usize)
         }
         Checked::Refused(number, place) => {
             io::write_all(1, b"refused ");
-            show_number(number as u64);
-            show_number(place as u64);
+            show::number(number as u64);
+            show::number(place as u64);
         }
     }
-    show_number(zeros(work));
-    show_number(sevens(work));
-    io::write_all(1, b"\n");
+    show::number(zeros(work));
+    show::number(sevens(work));
+    show::end_line();
 }
 
 // Each directed edge used at most once: no faces, a face, both sides of a face, a closed shell.

@@ -1,33 +1,12 @@
 // Writes what each function of `flood` makes of small tables of runs. The file stdout says what it must be.
 ghost use Rattle.flood.specs.Plan.{plan, FloodAsks};
 
-// A u32 as a u64.
-fn wide(x: u32) -> u64 {
-    x as u64
-}
-
-// Writes a number and a space.
-fn show_number(n: u64) {
-    io::print_decimal(1, n);
-    io::write_all(1, b" ");
-}
-
-// Writes the numbers of a row, and ends the line.
-fn show(row: &[u32]) {
-    let mut i = 0;
-    while i < row.len() {
-        show_number(wide(row[i]));
-        i += 1;
-    }
-    io::write_all(1, b"\n");
-}
-
 // Writes the number of groups, and the row with the labels.
 fn label(work: &mut [u32], things: usize, runs: usize, starts: usize, order: usize, labels: usize)
     requires { ⌜ FloodAsks (now work) (plan things runs starts order labels) ⌝ }
 {
-    show_number(flood::label_all(work, things, runs, starts, order, labels) as u64);
-    show(work);
+    show::number(flood::label_all(work, things, runs, starts, order, labels) as u64);
+    show::row(work, work.len());
 }
 
 // Writes the row with the first members.
@@ -35,7 +14,7 @@ fn lead(work: &mut [u32], things: usize, runs: usize, starts: usize, order: usiz
     requires { ⌜ FloodAsks (now work) (plan things runs starts order labels) ⌝ }
 {
     flood::lead_all(work, things, runs, starts, order, labels);
-    show(work);
+    show::row(work, work.len());
 }
 
 // Six things in the runs 4 2, 5 0, none, 2 1 1 and 3.

@@ -2,36 +2,15 @@
 // faces. The file stdout says what they must be.
 ghost use Rattle.orient_consistently_try.specs.Asks.{RunAsks};
 
-// A u32 as a u64.
-fn wide(x: u32) -> u64 {
-    x as u64
-}
-
-// Writes a number and a space.
-fn show_number(n: u64) {
-    io::print_decimal(1, n);
-    io::write_all(1, b" ");
-}
-
-// Writes the numbers of a row, and ends the line.
-fn show(row: &[u32]) {
-    let mut i = 0;
-    while i < row.len() {
-        show_number(wide(row[i]));
-        i += 1;
-    }
-    io::write_all(1, b"\n");
-}
-
 // Orients n faces over a number of points, and writes what comes of it.
 fn run(faces: &mut [u32], n: usize, count: usize)
     requires { ⌜ RunAsks (now faces) n count ⌝ }
 {
     let mut work = [7; 464];
     let turned = orient_consistently::orient_consistently(faces, n, count, &mut work);
-    show_number(turned.reoriented as u64);
-    show_number(turned.components as u64);
-    show(faces);
+    show::number(turned.reoriented as u64);
+    show::number(turned.components as u64);
+    show::row(faces, faces.len());
 }
 
 // Two faces that agree; two that do not, and two entries behind them; three on one edge; a strip with a twist; faces that repeat corners.

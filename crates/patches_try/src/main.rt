@@ -5,19 +5,9 @@ use patches::Limit;
 use patches::Patched;
 use patches::Whole;
 
-// Writes a number and a space.
-fn show_number(n: u64) {
-    io::print_decimal(1, n);
-    io::write_all(1, b" ");
-}
-
 // Writes the entries of a row.
 fn show_row(row: &[u32]) {
-    let mut i = 0;
-    while i < row.len() {
-        show_number(row[i] as u64);
-        i += 1;
-    }
+    show::numbers(row, row.len());
     io::write_all(1, b"| ");
 }
 
@@ -42,21 +32,21 @@ fn run(labels: &[u32], by: Filter) {
     ) {
         Patched::Done(a, b, c) => {
             io::write_all(1, b"done ");
-            show_number(a as u64);
-            show_number(b as u64);
-            show_number(c as u64);
+            show::number(a as u64);
+            show::number(b as u64);
+            show::number(c as u64);
         }
         Patched::Refused(number, place) => {
             io::write_all(1, b"refused ");
-            show_number(number as u64);
-            show_number(place as u64);
+            show::number(number as u64);
+            show::number(place as u64);
         }
     }
     io::write_all(1, b"| ");
     show_row(&counts);
     show_row(&flags);
     show_row(&work);
-    io::write_all(1, b"\n");
+    show::end_line();
 }
 
 // A filter by the two whole numbers and the fraction; the others are absent.

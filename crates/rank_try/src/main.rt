@@ -3,22 +3,16 @@ ghost use lib.ListN.{length};
 ghost use Prim.Native.Nat.{_<_};
 ghost use Rattle.rank.specs.Ranks.{RankAsks};
 
-// Writes a number and a space.
-fn show(n: u64) {
-    io::print_decimal(1, n);
-    io::write_all(1, b" ");
-}
-
 // Ranks a run of entries of the edge from 0 to 1.
 fn ranked(points: &[f64], faces: &[u32], run: &[u32])
     requires { ⌜ RankAsks (now points) (now faces) (now run) ⌝ }
     requires { ⌜ 1 < length (now run) ⌝ }
 {
     let one = rank::best(points, faces, run);
-    show(one as u64);
-    show(rank::place(run, one) as u64);
-    show(rank::second(points, faces, run, 0, 1, one) as u64);
-    io::write_all(1, b"\n");
+    show::number(one as u64);
+    show::number(rank::place(run, one) as u64);
+    show::number(rank::second(points, faces, run, 0, 1, one) as u64);
+    show::end_line();
 }
 
 // Faces 0, 1 and 3 are equal in quality, 2 is better, and 4 has none. Face 1 steps from 1 to 0, face 4 both ways.

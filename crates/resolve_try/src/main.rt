@@ -1,27 +1,9 @@
 // Runs faces of document 01's examples, and some more, through pass 3 and through the second half of pass 4, in a work room that is not zero. A line has
 // the number of crowded edges, in pass 3 alone, the number of faces that stay, and their corners.
-ghost use Prim.Native.Nat.{_/_, _≤_};
+ghost use Prim.Native.Nat.{_/_};
 ghost use lib.ListN.{length};
 ghost use Rattle.leaving.specs.Pass.{PassAsks};
 ghost use Rattle.marking.specs.Marking.{taken};
-
-// Writes a number and a space.
-fn show(n: u64) {
-    io::print_decimal(1, n);
-    io::write_all(1, b" ");
-}
-
-// Writes the first n entries of a row.
-fn show_row(row: &[u32], n: usize)
-    requires { ⌜ n ≤ length (now row) ⌝ }
-{
-    let mut i = 0;
-    while i < n {
-        show(row[i] as u64);
-        i += 1;
-    }
-    io::write_all(1, b"\n");
-}
 
 // Pass 3.
 fn edges(points: &[f64], faces: &mut [u32], n: usize, work: &mut [u32])
@@ -29,9 +11,9 @@ fn edges(points: &[f64], faces: &mut [u32], n: usize, work: &mut [u32])
 {
     let marked = resolve_nonmanifold_edges::mark(points, faces, n, work);
     let r = leaving::leave(faces, work, marked.at, n);
-    show(marked.found as u64);
-    show(r as u64);
-    show_row(faces, 3 * r);
+    show::number(marked.found as u64);
+    show::number(r as u64);
+    show::row(faces, 3 * r);
 }
 
 // The second half of pass 4.
@@ -40,8 +22,8 @@ fn collisions(points: &[f64], faces: &mut [u32], n: usize, work: &mut [u32])
 {
     let marked = resolve_directed_collisions::mark(points, faces, n, work);
     let r = leaving::leave(faces, work, marked.at, n);
-    show(r as u64);
-    show_row(faces, 3 * r);
+    show::number(r as u64);
+    show::row(faces, 3 * r);
 }
 
 // A face that repeats its corners; three faces on one edge, which walk it alike or not; five points at the origin, walked by the first half already.

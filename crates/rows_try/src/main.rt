@@ -4,27 +4,6 @@ ghost use lib.ListN.{length};
 ghost use Rattle.sorting.specs.Sort.{SortAsks};
 ghost use Rattle.sorting.specs.Order.{OrderTriplesAsks};
 
-// A u32 as a u64.
-fn wide(x: u32) -> u64 {
-    x as u64
-}
-
-// Writes a number and a space.
-fn show_number(n: u64) {
-    io::print_decimal(1, n);
-    io::write_all(1, b" ");
-}
-
-// Writes the numbers of a row, and ends the line.
-fn show(row: &[u32]) {
-    let mut i = 0;
-    while i < row.len() {
-        show_number(wide(row[i]));
-        i += 1;
-    }
-    io::write_all(1, b"\n");
-}
-
 // The whole number below 100 that x equals, and 100 where there is none.
 fn whole(x: f64) -> u64 {
     let mut n = 0;
@@ -43,10 +22,10 @@ fn whole(x: f64) -> u64 {
 fn show_points(row: &[f64]) {
     let mut i = 0;
     while i < row.len() {
-        show_number(whole(row[i]));
+        show::number(whole(row[i]));
         i += 1;
     }
-    io::write_all(1, b"\n");
+    show::end_line();
 }
 
 // Six ids, three columns of keys below 3, three bins, and room for two rows of ids.
@@ -102,20 +81,20 @@ fn keyed() -> [u32; 39]
 fn by_one() {
     let mut work = keyed();
     sorting::sort(&mut work, 0, 6, 18, 24, 3, 33);
-    show(&work);
+    show::row(&work, 39);
 }
 
 // The numbers 0 .. 5 by one key, by two and by three.
 fn by_number() {
     let mut one = keyed();
     sorting::order(&mut one, 6, 18, 24, 3, 33);
-    show(&one);
+    show::row(&one, 39);
     let mut two = keyed();
     sorting::order_pairs(&mut two, 6, 12, 18, 24, 3, 33, 27);
-    show(&two);
+    show::row(&two, 39);
     let mut three = keyed();
     sorting::order_triples(&mut three, 6, 6, 12, 18, 24, 3, 27, 33);
-    show(&three);
+    show::row(&three, 39);
 }
 
 // A region filled, one cleared, and one copied.
@@ -123,11 +102,11 @@ fn regions(work: &mut [u32])
     requires { ⌜ length (now work) ≡ 12 ⌝ }
 {
     rows::fill(work, 2, 3, 7);
-    show(work);
+    show::row(work, work.len());
     rows::clear(work, 4, 2);
-    show(work);
+    show::row(work, work.len());
     rows::copy(work, 1, 4, 7);
-    show(work);
+    show::row(work, work.len());
 }
 
 // Faces by flags: those that stay, and the number that each has then.
@@ -136,11 +115,11 @@ fn faces(faces: &mut [u32], work: &mut [u32])
     requires { ⌜ length (now work) ≡ 10 ⌝ }
 {
     rows::number_kept(work, 1, 4, 6);
-    show(work);
-    show_number(rows::retain(faces, work, 1, 4) as u64);
-    show(faces);
+    show::row(work, work.len());
+    show::number(rows::retain(faces, work, 1, 4) as u64);
+    show::row(faces, faces.len());
     rows::copy_row(faces, work, 5);
-    show(work);
+    show::row(work, work.len());
 }
 
 // Points by flags: those that stay. Then a region cleared, and a row copied.
@@ -149,7 +128,7 @@ fn points(points: &mut [f64], work: &[u32], to: &mut [f64])
     requires { ⌜ length (now work) ≡ 5 ⌝ }
     requires { ⌜ length (now to) ≡ 6 ⌝ }
 {
-    show_number(rows::retain_points(points, work, 1, 4) as u64);
+    show::number(rows::retain_points(points, work, 1, 4) as u64);
     show_points(points);
     rows::clear_points(points, 6, 5);
     show_points(points);

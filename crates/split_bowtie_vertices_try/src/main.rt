@@ -1,35 +1,14 @@
 // Writes what pass 5 makes of small meshes: the vertices split, the points after it, and the faces. The file stdout says what it must be.
 ghost use Rattle.split_bowtie_vertices.specs.Splits.{SplitAsks};
 
-// A u32 as a u64.
-fn wide(x: u32) -> u64 {
-    x as u64
-}
-
-// Writes a number and a space.
-fn show_number(n: u64) {
-    io::print_decimal(1, n);
-    io::write_all(1, b" ");
-}
-
-// Writes the numbers of a row, and ends the line.
-fn show(row: &[u32]) {
-    let mut i = 0;
-    while i < row.len() {
-        show_number(wide(row[i]));
-        i += 1;
-    }
-    io::write_all(1, b"\n");
-}
-
 // Runs pass 5 and writes what it has done, and the faces.
 fn run(points: &mut [f64], count: usize, faces: &mut [u32], n: usize, work: &mut [u32])
     requires { ⌜ SplitAsks (now points) count (now faces) n (now work) ⌝ }
 {
     let s = split_bowtie_vertices::split_bowtie_vertices(points, count, faces, n, work);
-    show_number(s.splits as u64);
-    show_number(s.points as u64);
-    show(faces);
+    show::number(s.splits as u64);
+    show::number(s.points as u64);
+    show::row(faces, faces.len());
 }
 
 // One face with one point at all corners, as document 01 has it.

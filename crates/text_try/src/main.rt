@@ -7,12 +7,6 @@ fn wide(x: u32) -> u64 {
     x as u64
 }
 
-// Writes a number and a space.
-fn show_number(n: u64) {
-    io::print_decimal(1, n);
-    io::write_all(1, b" ");
-}
-
 // Writes the line of refusal 11.
 fn refuse() {
     let mut out = [0; 16];
@@ -31,17 +25,17 @@ fn show(text: &[u8]) {
             refuse();
         }
         Told::Job(options, threshold, p, f) => {
-            show_number(wide(options));
+            show::number(options as u64);
             if threshold < 1.0 {
                 io::write_all(1, b"small ");
             }
-            show_number(p as u64);
-            show_number(f as u64);
-            show_number(wide(faces[2]));
+            show::number(p as u64);
+            show::number(f as u64);
+            show::number(wide(faces[2]));
             if points[1] != points[1] {
                 io::write_all(1, b"no number");
             }
-            io::write_all(1, b"\n");
+            show::end_line();
         }
     }
 }

@@ -1,15 +1,8 @@
 // Runs real values through both ways to the verdict of the edge call. A line has the verdict from the faces, the verdict from the table, and the
 // third row as it then stands: where it is fine, the vertex to which the boundary goes on from each, and the number of points where it does not.
 use refuse::Verdict;
-ghost use Prim.Native.Nat.{_+_, _≤_};
 ghost use lib.ListN.{length};
 ghost use Rattle.edge_check_refusal.specs.Checks.{CheckAccepted};
-
-// Writes a number and a space.
-fn show_number(n: u64) {
-    io::print_decimal(1, n);
-    io::write_all(1, b" ");
-}
 
 // Writes a verdict.
 fn show(found: Verdict) {
@@ -18,21 +11,10 @@ fn show(found: Verdict) {
             io::write_all(1, b"fine ");
         }
         Verdict::Refused(number, place) => {
-            show_number(number as u64);
+            show::number(number as u64);
             io::write_all(1, b"at ");
-            show_number(place as u64);
+            show::number(place as u64);
         }
-    }
-}
-
-// Writes the n entries from `from` on.
-fn show_row(work: &[u32], from: usize, n: usize)
-    requires { ⌜ from + n ≤ length (now work) ⌝ }
-{
-    let mut i = 0;
-    while i < n {
-        show_number(work[from + i] as u64);
-        i += 1;
     }
 }
 
@@ -44,8 +26,8 @@ fn both(count: usize, faces: &[u32], work: &mut [u32])
     let m = table::table(work, faces, count, false, 0);
     let row = 5 * faces.len() + 1 + count;
     show(boundary::boundary(work, faces, count, 0, m, row));
-    show_row(work, row + 2 * count, count);
-    io::write_all(1, b"\n");
+    let third = row + 2 * count;
+    show::row(&work[third..], count);
 }
 
 // Both ways for faces over a number of points, in a room of 400 entries that all are 7.

@@ -6,10 +6,10 @@ use Rattle.drops_try.proofs.show_equal.Statement.{statement}
 use Rattle.drops_try.proofs.show_equal.Tie as tie
 
 abbrev Inv-loop : tie.InvT-loop
-Inv-loop row other i₀ t4 i = i ≤ length row
+Inv-loop row other i₀ i = i ≤ length row
 
 abbrev μ-loop : tie.MeasureT-loop
-μ-loop row other i₀ t4 i = length row - i
+μ-loop row other i₀ i = length row - i
 
 loop-holds : tie.Need-loop-holds Inv-loop μ-loop
 loop-holds c = search needs
@@ -35,14 +35,11 @@ loop-less c = search needs
 loop-again : tie.Need-loop-again Inv-loop μ-loop
 loop-again c = search needs
 
-show-number-requires : tie.Need-show-number-requires Inv-loop μ-loop
-show-number-requires c κs = search needs
+number-requires : tie.Need-number-requires Inv-loop μ-loop
+number-requires c κs = search needs
 
-slice-aggregate-write-all : tie.Need-slice-aggregate-write-all Inv-loop μ-loop
-slice-aggregate-write-all c = search needs
-
-write-all-requires : tie.Need-write-all-requires Inv-loop μ-loop
-write-all-requires c κs = search needs
+end-line-requires : tie.Need-end-line-requires Inv-loop μ-loop
+end-line-requires c κs = search needs
 
 returns : tie.Need-returns Inv-loop μ-loop
 returns c = search needs
@@ -61,7 +58,6 @@ show-equal-spec =
     add-i
     loop-less
     loop-again
-    show-number-requires
-    slice-aggregate-write-all
-    write-all-requires
+    number-requires
+    end-line-requires
     returns)

@@ -38,32 +38,29 @@ slice-aggregate-write-all-3 c = search needs
 write-all-requires-3 : tie.Need-write-all-requires-3
 write-all-requires-3 c κs = search needs
 
-cast-show-number : tie.Need-cast-show-number
-cast-show-number c = search needs
+cast-number : tie.Need-cast-number
+cast-number c = search needs
 
-show-number-requires : tie.Need-show-number-requires
-show-number-requires c κs = search needs
+number-requires : tie.Need-number-requires
+number-requires c κs = search needs
 
-show-number-requires-2 : tie.Need-show-number-requires-2
-show-number-requires-2 c κs = search needs
+number-requires-2 : tie.Need-number-requires-2
+number-requires-2 c κs = search needs
 
 zeros-requires : tie.Need-zeros-requires
 zeros-requires c κs = search needs
 
-show-number-requires-3 : tie.Need-show-number-requires-3
-show-number-requires-3 c κs = search needs
+number-requires-3 : tie.Need-number-requires-3
+number-requires-3 c κs = search needs
 
 sevens-requires : tie.Need-sevens-requires
 sevens-requires c κs = search needs
 
-show-number-requires-4 : tie.Need-show-number-requires-4
-show-number-requires-4 c κs = search needs
+number-requires-4 : tie.Need-number-requires-4
+number-requires-4 c κs = search needs
 
-slice-aggregate-write-all-4 : tie.Need-slice-aggregate-write-all-4
-slice-aggregate-write-all-4 c = search needs
-
-write-all-requires-4 : tie.Need-write-all-requires-4
-write-all-requires-4 c κs = search needs
+end-line-requires : tie.Need-end-line-requires
+end-line-requires c κs = search needs
 
 returns : tie.Need-returns
 returns c = search needs
@@ -83,13 +80,12 @@ run-spec =
     enum-known-number
     slice-aggregate-write-all-3
     write-all-requires-3
-    cast-show-number
-    show-number-requires
-    show-number-requires-2
+    cast-number
+    number-requires
+    number-requires-2
     zeros-requires
-    show-number-requires-3
+    number-requires-3
     sevens-requires
-    show-number-requires-4
-    slice-aggregate-write-all-4
-    write-all-requires-4
+    number-requires-4
+    end-line-requires
     returns)

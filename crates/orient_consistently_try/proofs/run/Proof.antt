@@ -11,14 +11,14 @@ slice-aggregate-orient-consistently c = search needs
 orient-consistently-requires : tie.Need-orient-consistently-requires
 orient-consistently-requires c κs = stand (c .before .before .before .pre) refl
 
-show-number-requires : tie.Need-show-number-requires
-show-number-requires c κs = search needs
+number-requires : tie.Need-number-requires
+number-requires c κs = search needs
 
-show-number-requires-2 : tie.Need-show-number-requires-2
-show-number-requires-2 c κs = search needs
+number-requires-2 : tie.Need-number-requires-2
+number-requires-2 c κs = search needs
 
-show-requires : tie.Need-show-requires
-show-requires c κs = search needs
+row-requires : tie.Need-row-requires
+row-requires c κs = search needs
 
 same-length : tie.Need-same-length
 same-length c = search needs
@@ -32,8 +32,8 @@ run-spec =
     (tie.spec
     slice-aggregate-orient-consistently
     orient-consistently-requires
-    show-number-requires
-    show-number-requires-2
-    show-requires
+    number-requires
+    number-requires-2
+    row-requires
     same-length
     returns)

@@ -11,19 +11,19 @@ mark-requires c κs = search needs
 leave-requires : tie.Need-leave-requires
 leave-requires c κs = search needs
 
-show-requires : tie.Need-show-requires
-show-requires c κs = search needs
+number-requires : tie.Need-number-requires
+number-requires c κs = search needs
 
-mul-show-row : tie.Need-mul-show-row
-mul-show-row c =
+mul-row : tie.Need-mul-row
+mul-row c =
     let at-leave = c .before .before .before .before in
     let at-mark = at-leave .before .before .before .before .before in
     let start = at-mark .before .before .before .before .before .before in
     let g = left-by (at-mark .mark .ensures .0) (at-leave .leave .ensures) in
     omega (arith, left-fewer g, start .pre .stand .few)
 
-show-row-requires : tie.Need-show-row-requires
-show-row-requires c κs =
+row-requires : tie.Need-row-requires
+row-requires c κs =
     let at-leave = c .before .before .before .before in
     let at-mark = at-leave .before .before .before .before .before in
     let start = at-mark .before .before .before .before .before .before in
@@ -45,9 +45,9 @@ collisions-spec =
     (tie.spec
     mark-requires
     leave-requires
-    show-requires
-    mul-show-row
-    show-row-requires
+    number-requires
+    mul-row
+    row-requires
     same-length
     same-length-2
     returns)

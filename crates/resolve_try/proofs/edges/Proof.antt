@@ -11,22 +11,22 @@ mark-requires c κs = search needs
 leave-requires : tie.Need-leave-requires
 leave-requires c κs = search needs
 
-show-requires : tie.Need-show-requires
-show-requires c κs = search needs
+number-requires : tie.Need-number-requires
+number-requires c κs = search needs
 
-show-requires-2 : tie.Need-show-requires-2
-show-requires-2 c κs = search needs
+number-requires-2 : tie.Need-number-requires-2
+number-requires-2 c κs = search needs
 
-mul-show-row : tie.Need-mul-show-row
-mul-show-row c =
+mul-row : tie.Need-mul-row
+mul-row c =
     let at-leave = c .before .before .before .before .before in
     let at-mark = at-leave .before .before .before .before .before in
     let start = at-mark .before .before .before .before .before .before in
     let g = left-by (at-mark .mark .ensures .0) (at-leave .leave .ensures) in
     omega (arith, left-fewer g, start .pre .stand .few)
 
-show-row-requires : tie.Need-show-row-requires
-show-row-requires c κs =
+row-requires : tie.Need-row-requires
+row-requires c κs =
     let at-leave = c .before .before .before .before .before in
     let at-mark = at-leave .before .before .before .before .before in
     let start = at-mark .before .before .before .before .before .before in
@@ -48,10 +48,10 @@ edges-spec =
     (tie.spec
     mark-requires
     leave-requires
-    show-requires
-    show-requires-2
-    mul-show-row
-    show-row-requires
+    number-requires
+    number-requires-2
+    mul-row
+    row-requires
     same-length
     same-length-2
     returns)

@@ -8,20 +8,20 @@ use Rattle.rows_try.proofs.regions.Tie as tie
 fill-requires : tie.Need-fill-requires
 fill-requires c κs = search needs
 
-show-requires : tie.Need-show-requires
-show-requires c κs = search needs
+row-requires : tie.Need-row-requires
+row-requires c κs = search needs
 
 clear-requires : tie.Need-clear-requires
 clear-requires c κs = search needs
 
-show-requires-2 : tie.Need-show-requires-2
-show-requires-2 c κs = search needs
+row-requires-2 : tie.Need-row-requires-2
+row-requires-2 c κs = search needs
 
 copy-requires : tie.Need-copy-requires
 copy-requires c κs = record { from-fit = search needs; to-fit = search needs; apart = before (omega arith) }
 
-show-requires-3 : tie.Need-show-requires-3
-show-requires-3 c κs = search needs
+row-requires-3 : tie.Need-row-requires-3
+row-requires-3 c κs = search needs
 
 same-length : tie.Need-same-length
 same-length c = search needs
@@ -34,10 +34,10 @@ regions-spec =
     tie.close
     (tie.spec
     fill-requires
-    show-requires
+    row-requires
     clear-requires
-    show-requires-2
+    row-requires-2
     copy-requires
-    show-requires-3
+    row-requires-3
     same-length
     returns)

@@ -6,10 +6,10 @@ use Rattle.rows_try.proofs.show_points.Statement.{statement}
 use Rattle.rows_try.proofs.show_points.Tie as tie
 
 abbrev Inv-loop : tie.InvT-loop
-Inv-loop row i₀ t3 i = i ≤ length row
+Inv-loop row i₀ i = i ≤ length row
 
 abbrev μ-loop : tie.MeasureT-loop
-μ-loop row i₀ t3 i = length row - i
+μ-loop row i₀ i = length row - i
 
 loop-holds : tie.Need-loop-holds Inv-loop μ-loop
 loop-holds c = search needs
@@ -23,8 +23,8 @@ shared-slice-read-whole c = search needs
 whole-requires : tie.Need-whole-requires Inv-loop μ-loop
 whole-requires c κs = search needs
 
-show-number-requires : tie.Need-show-number-requires Inv-loop μ-loop
-show-number-requires c κs = search needs
+number-requires : tie.Need-number-requires Inv-loop μ-loop
+number-requires c κs = search needs
 
 add-i : tie.Need-add-i Inv-loop μ-loop
 add-i c = search needs
@@ -35,11 +35,8 @@ loop-less c = search needs
 loop-again : tie.Need-loop-again Inv-loop μ-loop
 loop-again c = search needs
 
-slice-aggregate-write-all : tie.Need-slice-aggregate-write-all Inv-loop μ-loop
-slice-aggregate-write-all c = search needs
-
-write-all-requires : tie.Need-write-all-requires Inv-loop μ-loop
-write-all-requires c κs = search needs
+end-line-requires : tie.Need-end-line-requires Inv-loop μ-loop
+end-line-requires c κs = search needs
 
 returns : tie.Need-returns Inv-loop μ-loop
 returns c = search needs
@@ -54,10 +51,9 @@ show-points-spec =
     mul-whole
     shared-slice-read-whole
     whole-requires
-    show-number-requires
+    number-requires
     add-i
     loop-less
     loop-again
-    slice-aggregate-write-all
-    write-all-requires
+    end-line-requires
     returns)

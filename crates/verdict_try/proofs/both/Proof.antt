@@ -1,5 +1,6 @@
 -- `verdict_try::both` is safe and ends: the table and the rows are within the stated work room. Assumes nothing.
 use native.Mathlib.Omega.{arith}
+use lib.ListN.{length-take, length-drop}
 use Rattle.boundary.proofs.Calling.{table-asks, boundary-asks}
 use borrow.Author.Needs.{needs}
 use Rattle.verdict_try.proofs.both.Statement.{statement}
@@ -29,23 +30,32 @@ boundary-requires c κs = let p = c .before .before .before .before .before .bef
 show-requires-2 : tie.Need-show-requires-2
 show-requires-2 c κs = search needs
 
-mul-show-row : tie.Need-mul-show-row
-mul-show-row c = search needs
+mul-third : tie.Need-mul-third
+mul-third c = search needs
 
-add-show-row : tie.Need-add-show-row
-add-show-row c = search needs
+add-third : tie.Need-add-third
+add-third c = search needs
 
-show-row-requires : tie.Need-show-row-requires
-show-row-requires c κs =
-    let p = c .before .before .before .before .before .before .before .before .before .before .before .before .before .before .pre in
-    let asks = boundary-asks (p .input) (p .room-work) (c .before .before .before .before .before .before .before .before .table .ensures) in
-    omega (arith, asks .fit, c .before .before .before .before .boundary .ensures .only .long)
+mul-row-2 : tie.Need-mul-row-2
+mul-row-2 c = search needs
 
-slice-aggregate-write-all : tie.Need-slice-aggregate-write-all
-slice-aggregate-write-all c = search needs
+sub-row : tie.Need-sub-row
+sub-row c =
+    let p = c .before .before .before .before .before .before .before .before .before .before .before .before .before .pre in
+    let asks = boundary-asks (p .input) (p .room-work) (c .before .before .before .before .before .before .before .table .ensures) in
+    omega (arith, asks .fit, c .before .before .before .boundary .ensures .only .long)
 
-write-all-requires : tie.Need-write-all-requires
-write-all-requires c κs = search needs
+part-row-start : tie.Need-part-row-start
+part-row-start c = sub-row (c .before)
+
+part-row-end : tie.Need-part-row-end
+part-row-end c = search needs
+
+row-requires : tie.Need-row-requires
+row-requires c κs =
+    let p = c .before .before .before .before .before .before .before .before .before .before .before .before .before .before .before .pre in
+    let asks = boundary-asks (p .input) (p .room-work) (c .before .before .before .before .before .before .before .before .before .table .ensures) in
+    simp (length-take, length-drop) (omega (arith, asks .fit, c .before .before .before .before .before .boundary .ensures .only .long))
 
 same-length : tie.Need-same-length
 same-length c = search needs
@@ -65,10 +75,12 @@ both-spec =
     add-row-2
     boundary-requires
     show-requires-2
-    mul-show-row
-    add-show-row
-    show-row-requires
-    slice-aggregate-write-all
-    write-all-requires
+    mul-third
+    add-third
+    mul-row-2
+    sub-row
+    part-row-start
+    part-row-end
+    row-requires
     same-length
     returns)

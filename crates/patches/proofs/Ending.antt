@@ -1,19 +1,20 @@
 -- The outcome of the patch call: a refusal that leaves the rooms as they were, or the rooms filled. Assumes nothing.
-use mathlib.Core.Path.{_≡_, refl, sym, ap, _∙_}
+use mathlib.Core.Path.{_≡_, sym, ap, _∙_}
 use mathlib.Core.Bool.{cond}
 use mathlib.Core.List.{List, [], _∷_, map}
 use Prim.Native.Nat.{ℕ, _*_}
 use native.Mathlib.Omega.{arith}
 use lib.ListN.{length, length-map}
 use lib.Dec.{eqb}
-use lib.Ieee.{Float, nan}
+use lib.Ieee.{Float}
 use Rattle.rules.specs.Lists.{below, count, each}
 use Rattle.rules.specs.Mesh.{pointsOf, facesOf, zero64}
 use Rattle.rules.specs.Refusal.{Check, decided}
 use Rattle.rules.specs.Rooms.{filled, cleared, outcome}
 use Rattle.rules.specs.Patches as rule
 use Rattle.rules.specs.PatchesCall.{PatchesRooms, patches-check, find-patches}
-use Rattle.rules.proofs.Lists.{length-below, length-each}
+use Rattle.rules.proofs.Lists.{length-below}
+use Rattle.filling.proofs.Filling.{filled-whole, cleared-is}
 use Rattle.refuse.specs.Verdicts.{checkOf}
 use Rattle.refuse.specs.declared.Verdict.{Verdict}
 use Rattle.refuse.specs.declared.Verdict.the-variants.{Fine, Refused}
@@ -21,7 +22,7 @@ use Rattle.patches_refusal.specs.Checks.{patches-list, PatchesAccepted}
 use Rattle.patches_refusal.proofs.Accept.{patches-is, patches-accepted}
 use Rattle.patches.specs.declared.Patched.the-variants as patched
 use Rattle.patches.specs.Answers.{FillGives, outcomeOf}
-use Rattle.patches.proofs.Rooms.{filled-is, front-is, cleared-is, sevens-are}
+use Rattle.patches.proofs.Rooms.{front-is, sevens-are}
 
 module _ (points : List Float) (faces labels : List ℕ) (C : ℕ) (by : rule.Filter) (r : PatchesRooms) where
   -- the rooms of an accepted call
@@ -55,16 +56,13 @@ module _ (points : List Float) (faces labels : List ℕ) (C : ℕ) (by : rule.Fi
         counts-are : r′ .face-counts ≡ filled 0 C (rule.face-counts labels C) (r .face-counts)
         unfolding rule.face-counts
         counts-are =
-            filled-is 0 0 C (length-map (below C) (λ k. count (eqb k) labels) ∙ length-below C) (g .only-counts)
-            (front-is 0 0 (λ k. count (eqb k) labels) C (r′ .face-counts) (omega (arith, is-accepted .room-face-counts, g .only-counts .long)) (g .counted))
+            filled-whole 0 (is-accepted .room-face-counts) (g .only-counts)
+            (front-is 0 (λ k. count (eqb k) labels) C (r′ .face-counts) (omega (arith, is-accepted .room-face-counts, g .only-counts .long)) (g .counted))
 
         numbers-are : r′ .numbers ≡ filled zero64 (7 * C) (each rule.seven (rule.patches (pointsOf points) (facesOf faces) labels C)) (r .numbers)
         unfolding rule.patches rule.seven
         numbers-are =
-            filled-is nan zero64 (7 * C)
-            (length-each 7 rule.seven (λ q. refl) (map (rule.patch (pointsOf points) (facesOf faces) labels) (below C))
-            ∙ ap (λ m. 7 * m) (length-map (below C) (rule.patch (pointsOf points) (facesOf faces) labels) ∙ length-below C))
-            (g .only-numbers)
+            filled-whole zero64 (is-accepted .room-numbers) (g .only-numbers)
             (sevens-are (rule.patch (pointsOf points) (facesOf faces) labels) C (r′ .numbers) (omega (arith, is-accepted .room-numbers, g .only-numbers .long)) (g .summed))
 
         -- there are C records
@@ -77,14 +75,14 @@ module _ (points : List Float) (faces labels : List ℕ) (C : ℕ) (by : rule.Fi
         unfolding rule.flags
         flags-are =
             let flag : ℕ → ℕ = λ k. cond (rule.falls by (rule.face-counts labels C) (rule.patches (pointsOf points) (facesOf faces) labels C) k) 0 1 in
-            filled-is 0 0 C (length-map (below C) flag ∙ length-below C) (g .only-flags)
-            (front-is 0 0 flag C (r′ .flags) (omega (arith, is-accepted .room-flags, g .only-flags .long)) (g .flagged))
+            filled-whole 0 (is-accepted .room-flags) (g .only-flags)
+            (front-is 0 flag C (r′ .flags) (omega (arith, is-accepted .room-flags, g .only-flags .long)) (g .flagged))
             ∙ ap (λ n. filled 0 C (map flag (below n)) (r .flags)) (sym length-rs)
 
         -- so all of them
         rooms-are : r′ ≡ after
         rooms-are =
-            rw (counts-are, numbers-are, flags-are, cleared-is (4 * C) (is-accepted .room-work) (g .only-work) (g .cleared))
+            rw (counts-are, numbers-are, flags-are, cleared-is (is-accepted .room-work) (g .only-work) (g .cleared))
 
         -- the answer and the rooms
         pub is-done : outcomeOf (patched.Done C (7 * C) C) r′ ≡ find-patches points faces labels C by r

@@ -1,17 +1,16 @@
--- A room that holds its answer in its whole stated length. Assumes nothing.
+-- What the answer rooms hold, as lists: by their entries, and by the records of seven numbers. Assumes nothing.
 use mathlib.Core.Path.{_≡_, refl, sym, ap, ap₂, _∙_}
 use mathlib.Core.List.{List, [], _∷_, _++_, map, map-append}
-use Prim.Native.Nat.{ℕ, zero, suc, _+_, _-_, _*_, _≤_, _<_}
+use Prim.Native.Nat.{ℕ, zero, suc, _+_, _*_, _≤_, _<_}
 use native.Mathlib.Nat.{add-zero}
 use native.Mathlib.Omega.{arith}
-use lib.ListN.{length, getD, take, drop, replicate, take-append-drop, length-drop, length-map, length-replicate, getD-replicate}
-use lib.Seq.{getD-drop, getD-take, ext-getD}
+use lib.ListN.{length, getD, take, length-map}
+use lib.Seq.{getD-take, ext-getD}
 use lib.Ieee.{Float, nan}
-use Rattle.rows.specs.Region.{part, OnlyOf, Only, Filled, Out.above}
-use Rattle.rows.proofs.Regions.{length-part, part-add, getD-part, getD-part-of}
+use Rattle.rows.specs.Region.{part}
+use Rattle.rows.proofs.Regions.{length-part, part-add, getD-part-of}
 use Rattle.rules.specs.Lists.{below, each}
 use Rattle.rules.specs.Patches as rule
-use Rattle.rules.specs.Rooms.{filled, cleared}
 use Rattle.rules.proofs.Lists.{length-below, getD-map-in, each-append}
 use Rattle.rules.proofs.Rising.{getD-below}
 use Rattle.patch_sums.specs.Sums.{recordAt}
@@ -21,21 +20,7 @@ one : {A : Type 0} (l : List A) → l ++ [] ≡ l
 one [] = refl
 one (x ∷ l) = ap (λ t. x ∷ t) (one l)
 
-module _ {A : Type 0} (d nought : A) where
-  -- the entries beyond are as they were
-  beyond : (n : ℕ) {w w′ : List A} → OnlyOf d 0 n w w′ → drop n w′ ≡ drop n w
-  beyond n {w} {w′} o =
-      let l = o .long in
-      ext-getD d (drop n w′) (drop n w) (simp length-drop (omega arith))
-      (λ i k. getD-drop n w′ i d ∙ o .same (n + i) (above (omega arith)) ∙ sym (getD-drop n w i d))
-
-  -- the answer in front, and the others as they were
-  pub filled-is : (n : ℕ) {answer w w′ : List A} → length answer ≡ n → OnlyOf d 0 n w w′ → take n w′ ≡ answer → w′ ≡ filled nought n answer w
-  unfolding filled
-  filled-is n {answer} {w} {w′} l o e =
-      let none : 0 ≡ n - length answer = omega arith in
-      sym (take-append-drop n w′) ∙ ap₂ (λ u v. u ++ v) (e ∙ sym (one answer) ∙ ap (λ m. answer ++ replicate m nought) none) (beyond n o)
-
+module _ {A : Type 0} (d : A) where
   -- a row by its entries
   pub front-is : (g : ℕ → A) (n : ℕ) (w : List A) → n ≤ length w → ((k : ℕ) → k < n → getD w k d ≡ g k) → take n w ≡ map g (below n)
   front-is g n w h f =
@@ -46,21 +31,6 @@ module _ {A : Type 0} (d nought : A) where
     where
       long : length (take n w) ≡ n
       long = length-part w 0 n (omega arith)
-
--- the work room all zero
-pub cleared-is : (n : ℕ) {w w′ : List ℕ} → n ≤ length w → Only 0 n w w′ → Filled 0 n 0 w′ → w′ ≡ cleared n w
-unfolding cleared filled
-cleared-is n {w} {w′} h o z =
-    let l = o .long in
-    let m : n ≡ n - 0 = omega arith in
-    sym (take-append-drop n w′)
-    ∙ ap₂ (λ u v. u ++ v)
-    (ext-getD 0 (take n w′) (replicate n 0) (length-part w′ 0 n (omega arith) ∙ sym (length-replicate n 0))
-    (λ i k.
-    let q : i < n = omega (arith, length-part w′ 0 n (omega arith)) in
-    getD-part w′ 0 n i q ∙ z .each i q ∙ sym (getD-replicate n i 0 0 q)))
-    (beyond 0 0 n o)
-    ∙ ap (λ k. replicate k 0 ++ drop n w) m
 
 -- ---- the numbers room
 

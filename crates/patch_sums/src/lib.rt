@@ -22,9 +22,6 @@ pub struct Patch {
     pub max_z: f64,
 }
 
-// The label of a face that is in no patch.
-const NO_PATCH: u32 = 4294967295;
-
 // A lower box number takes in a coordinate: it changes only for a number below it.
 fn lower(held: f64, x: f64) -> f64
     ensures { λ r. ⌜ r ≡ rule.lower held x ⌝ }
@@ -136,7 +133,7 @@ pub fn count_faces(labels: &[u32], counts: &mut [u32], count: usize)
     let mut i = 0;
     while i < labels.len() {
         let patch = labels[i];
-        if patch != NO_PATCH {
+        if patch != rules::NO_PATCH {
             counts[patch as usize] += 1;
         }
         i += 1;
@@ -162,7 +159,7 @@ pub fn sum_faces(points: &[f64], faces: &[u32], labels: &[u32], numbers: &mut [f
     let mut i = 0;
     while i < labels.len() {
         let label = labels[i];
-        if label != NO_PATCH {
+        if label != rules::NO_PATCH {
             add_face(points, faces, i, numbers, label as usize);
         }
         i += 1;

@@ -16,9 +16,6 @@ pub struct Rooms {
     pub work: usize,
 }
 
-// Patches at most.
-const MOST_PATCHES: usize = 1048576;
-
 // 6: face counts C, numbers 7C, flags C, work 4C.
 fn short_room(count: usize, rooms: Rooms) -> Verdict
     requires { ⌜ count ≤ refusal.most-patches ⌝ }
@@ -57,7 +54,7 @@ pub fn patches_refusal(
     let Verdict::Fine = found else {
         return found;
     };
-    if MOST_PATCHES < count {
+    if rules::MOST_PATCHES < count {
         return Verdict::Refused(2, 2);
     }
     let found = refuse::contents(points, faces);

@@ -20,25 +20,16 @@ pub enum Verdict {
 // The largest coordinate, 2^100.
 const FAR: f64 = 1267650600228229401496703205376.0;
 
-// P at most.
-const MOST_POINTS: usize = 4194304;
-
-// F at most.
-const MOST_FACES: usize = 1048576;
-
-// The label of a face that is in no patch.
-const NO_PATCH: u32 = 4294967295;
-
 // ---- 1 and 2: lengths and counts
 
 // 2: P or F too large.
 pub fn counts(p: usize, f: usize) -> Verdict
     ensures { λ r. ⌜ by.checkOf r ≡ rule.decided (by.counts p f) ⌝ }
 {
-    if MOST_POINTS < p {
+    if rules::MOST_POINTS < p {
         return Verdict::Refused(2, 0);
     }
-    if MOST_FACES < f {
+    if rules::MOST_FACES < f {
         return Verdict::Refused(2, 1);
     }
     Verdict::Fine
@@ -171,7 +162,7 @@ pub fn contents(points: &[f64], faces: &[u32]) -> Verdict
 fn strange(count: usize, label: u32) -> bool
     ensures { λ r. ⌜ r ≡ by.strange count label ⌝ }
 {
-    if label == NO_PATCH {
+    if label == rules::NO_PATCH {
         return false;
     }
     count <= label as usize

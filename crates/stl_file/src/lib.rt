@@ -10,9 +10,6 @@ ghost use Rattle.rules.specs.Stl as rule;
 ghost use Rattle.refuse.specs.Verdicts as by;
 ghost use Rattle.stl_file.specs.Files.{Whole, CornerAsks, stl-list};
 
-// F at most.
-const MOST_FACES: usize = 1048576;
-
 // A byte as a u32.
 fn wide(x: u8) -> u32
     ensures { λ r. ⌜ r ≡ x ⌝ }
@@ -121,7 +118,7 @@ pub fn stl_check(file: &[u8], points: usize, faces: usize, work: usize) -> Verdi
     if file.len() != 84 + 50 * count {
         return Verdict::Refused(12, 0);
     }
-    if MOST_FACES < count {
+    if rules::MOST_FACES < count {
         return Verdict::Refused(2, 1);
     }
     match corners(file, count) {

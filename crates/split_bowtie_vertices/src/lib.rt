@@ -1,7 +1,5 @@
 // Pass 5 of document 01: a vertex whose faces form several fans is split, the first fan keeps it and each other one gets a copy of its point. All
 // fans are found at once on the unchanged list; the rows in the work room are those of crates/corner_numbers, 14n + 2 + P entries with n = 3F.
-ghost use lib.Ieee.{nan};
-ghost use Rattle.rows.specs.Retain.{MoveAsks, MoveGives};
 ghost use Rattle.split_bowtie_vertices.specs.Splits.{CopiesAsks, CopiesGives, VertexAsks, VertexGives, AllAsks, AllGives, RenameAsks, RenameGives, SplitAsks, SplitGives};
 
 // What pass 5 has done: how many vertices it has split, and how many points there are after it.
@@ -16,21 +14,6 @@ struct Run {
     next: usize,
 }
 
-// Copies the three coordinates of point `from` over those of point `to`.
-fn copy_point(points: &mut [f64], from: usize, to: usize)
-    requires { ⌜ MoveAsks (now points) from to ⌝ }
-    ensures { λ _. ⌜ MoveGives nan (now (points .entry)) from to (now (points .exit)) ⌝ }
-{
-    let a = 3 * from;
-    let b = 3 * to;
-    let x = points[a];
-    let y = points[a + 1];
-    let z = points[a + 2];
-    points[b] = x;
-    points[b + 1] = y;
-    points[b + 2] = z;
-}
-
 // Appends m copies of point v to the first `from` points.
 fn copies(points: &mut [f64], v: usize, from: usize, m: usize)
     requires { ⌜ CopiesAsks (now points) v from m ⌝ }
@@ -38,7 +21,7 @@ fn copies(points: &mut [f64], v: usize, from: usize, m: usize)
 {
     let mut j = 0;
     while j < m {
-        copy_point(points, v, from + j);
+        rows::move_point(points, v, from + j);
         j += 1;
     }
 }

@@ -63,11 +63,11 @@ abbrev μ-loop : tie.MeasureT-loop
 loop-holds : tie.Need-loop-holds Inv-loop μ-loop
 loop-holds c = begin (c .before .pre)
 
-add-copy-point : tie.Need-add-copy-point Inv-loop μ-loop
-add-copy-point c = omega (arith, move-ok (c .before .before .before .before .pre) (c .before .before .loop .inv) (c .before .loop-test .taken))
+add-move-point : tie.Need-add-move-point Inv-loop μ-loop
+add-move-point c = omega (arith, move-ok (c .before .before .before .before .pre) (c .before .before .loop .inv) (c .before .loop-test .taken))
 
-copy-point-requires : tie.Need-copy-point-requires Inv-loop μ-loop
-copy-point-requires c κs = move-ok (c .before .before .before .before .pre) (c .before .before .loop .inv) (c .before .loop-test .taken)
+move-point-requires : tie.Need-move-point-requires Inv-loop μ-loop
+move-point-requires c κs = move-ok (c .before .before .before .before .pre) (c .before .before .loop .inv) (c .before .loop-test .taken)
 
 add-j : tie.Need-add-j Inv-loop μ-loop
 add-j c = omega (arith, move-ok (c .before .before .before .before .before .before .before .pre) (c .before .before .before .before .before .loop .inv) (c .before .before .before .before .loop-test .taken))
@@ -76,7 +76,7 @@ loop-less : tie.Need-loop-less Inv-loop μ-loop
 loop-less c = omega arith
 
 loop-again : tie.Need-loop-again Inv-loop μ-loop
-loop-again c = again (c .before .before .before .before .before .before .before .pre) (c .before .before .before .before .before .loop .inv) (c .before .before .before .before .loop-test .taken) (c .before .before .copy-point .ensures)
+loop-again c = again (c .before .before .before .before .before .before .before .pre) (c .before .before .before .before .before .loop .inv) (c .before .before .before .before .loop-test .taken) (c .before .before .move-point .ensures)
 
 same-length : tie.Need-same-length Inv-loop μ-loop
 same-length c = c .before .loop .inv .only .long
@@ -91,8 +91,8 @@ copies-spec =
     Inv-loop
     μ-loop
     loop-holds
-    add-copy-point
-    copy-point-requires
+    add-move-point
+    move-point-requires
     add-j
     loop-less
     loop-again

@@ -1,24 +1,33 @@
 #!/usr/bin/env bash
 # The whole test: what is listed, the layout, every crate with its must-fail edits, and the host tests of tests/.
-# Exit status and last line, `N passed, M failed`, are the verdict; the line before it says how long proofs, edits and host tests took.
+# Exit status and last line, `N passed, M failed`, are the verdict; the lines before it say how long proofs, edits and host tests took, and how many tests
+# were skipped.
 set -u
 shopt -s lastpipe
 cd "$(dirname "${BASH_SOURCE[0]}")" || exit 1
 passed=0
 failed=0
+skipped=0
 proved=0
 edited=0
 
-# Runs a test under its name, and counts it.
+# Runs a test under its name, and counts it. Status 77 says that what it compares with is not here.
 try() {
-    local name=$1
+    local name=$1 status
     shift
-    if "$@" </dev/null; then
-        passed=$((passed + 1))
-    else
+    "$@" </dev/null
+    status=$?
+    case $status in
+    0) passed=$((passed + 1)) ;;
+    77)
+        skipped=$((skipped + 1))
+        echo "test: SKIPPED: $name"
+        ;;
+    *)
         failed=$((failed + 1))
         echo "test: FAILED: $name"
-    fi
+        ;;
+    esac
 }
 
 # Every crate by `rt ci`, whose last line is added to the count. It must agree with the exit status, and something must have passed. When the last proof
@@ -62,5 +71,6 @@ for t in tests/*.test.sh; do
 done
 
 echo "test: proofs $(minutes $((proved - began))), must-fail edits $(minutes $((edited - proved))), host tests $(minutes $((SECONDS - hosted))), $(minutes $SECONDS) in all"
+[ "$skipped" -eq 0 ] || echo "test: $skipped skipped"
 echo "$passed passed, $failed failed"
 [ "$failed" -eq 0 ] && [ "$passed" -gt 0 ]

@@ -79,7 +79,12 @@ echo 'exit 1' >tests/bad.test.sh
 expect 1 'FAILED: tests/bad.test.sh'
 
 fresh
+echo 'exit 77' >tests/away.test.sh
+expect 0 'SKIPPED: tests/away.test.sh'
+expect 0 '4 passed, 0 failed'
+
+fresh
 echo 'another kit' >kit.txt
 expect 0 "the proofs were written with 'another kit'"
 
-[ "$faults" -eq 0 ] && echo "gate: 12 repositories judged as they must be"
+[ "$faults" -eq 0 ] && echo "gate: 13 repositories judged as they must be"

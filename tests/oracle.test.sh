@@ -1,7 +1,7 @@
 #!/usr/bin/env bash
 # The library against the Rust's own files: faults that the harness must see, recorded answers that it must expect, one mesh of a million faces, and two fixed
 # seeds on two cores.
-# Where the Rust's files or rustc are absent it says so; the recorded answers of tests/cases are replayed by tests/host.test.sh in any case.
+# Where the Rust's files or rustc are absent it says so, and is counted as skipped; the recorded answers of tests/cases are replayed by tests/host.test.sh in any case.
 set -u
 here=$(cd "$(dirname "${BASH_SOURCE[0]}")/.." && pwd)
 room=$(mktemp -d) || exit 1
@@ -11,7 +11,7 @@ case $? in
     0) ;;
     3)
         echo "oracle: nothing is compared with the Rust here; tests/host.test.sh replays its recorded answers instead"
-        exit 0
+        exit 77
         ;;
     *) exit 1 ;;
 esac

@@ -3,7 +3,7 @@
 
     recorded.py CASES FOLDER EVERY
 
-CASES has the recorded cases (texts NAME.txt with NAME.out, and lib.cases.bin with lib.answers.bin), FOLDER is where the crate is written,
+CASES has the recorded cases (texts NAME.txt with NAME.out, there or in text/, and lib.cases.bin with lib.answers.bin), FOLDER is where the crate is written,
 and every EVERY-th case that is small enough for antt is taken."""
 import glob
 import os
@@ -88,7 +88,7 @@ def rows(xss):
 
 def texts(cases):
     """The program's cases: what the rule gives for a text, and what was recorded."""
-    for name in sorted(glob.glob(os.path.join(cases, "*.txt"))):
+    for name in sorted(glob.glob(os.path.join(cases, "*.txt")) + glob.glob(os.path.join(cases, "text", "*.txt"))):
         text = open(name, "rb").read()
         if len(text) <= MOST_TEXT and all(b < 128 for b in text):
             out = open(name[:-4] + ".out", "rb").read()

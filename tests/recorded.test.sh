@@ -1,13 +1,10 @@
 #!/usr/bin/env bash
 # The rules against recorded answers of the Rust: antt runs every definition on a sample of them, and each must come out as recorded.
-# Where ../shared/cases is absent it says so. EVERY=1 takes all that are small enough.
+# Where ../shared/cases is absent those of tests/cases are taken. EVERY=1 takes all that are small enough.
 set -u
 here=$(cd "$(dirname "${BASH_SOURCE[0]}")/.." && pwd)
 cases=${CASES:-$here/../shared/cases/open}
-if [ ! -d "$cases" ]; then
-    echo "recorded: no recorded cases at $cases, so none is run"
-    exit 0
-fi
+[ -d "$cases" ] || cases=$here/tests/cases
 room=$(mktemp -d) || exit 1
 trap 'rm -rf "$room"' EXIT
 for crate in root rules; do

@@ -10,10 +10,9 @@ use native.Mathlib.Decide.{decLt}
 use borrow.Author.Tests.{eq-eqb}
 use lib.Dec.{T, eqb, leb, eqb→eq, leb→le, le→leb}
 use lib.ListN.{length, getD, length-map, length-append}
-use Rattle.sorting.specs.Groups.{sortedBy}
 use Rattle.rows.specs.Retain.{upTo}
 use Rattle.rows.proofs.FilterLaws as rows-laws
-use Rattle.sorting.proofs.GroupLaws as sorting-laws
+use Rattle.sorting.proofs.ByKeys as sorting-laws
 use Rattle.rules.specs.Lists.{below, filter, count, all, each}
 use Rattle.rules.specs.Mesh.{Face}
 use Rattle.rules.specs.Float.{repeats}
@@ -106,32 +105,27 @@ module _ (P : ℕ) (fs : List Face) (inside : Inside P fs) where
   length-ids : length ids ≡ 3 * length fs
   length-ids = ap length (upTo-below (3 * length fs)) ∙ length-below (3 * length fs)
 
-  -- so the keys of every entry are points
-  keys-inside : rows-laws.All (λ id. (stepAt fs id .from < P) × (stepAt fs id .to < P)) ids
+  -- the keys of an entry: both ends of its step
+  abbrev keys : List (ℕ → ℕ)
+  keys = (λ id. stepAt fs id .from) ∷ (λ id. stepAt fs id .to) ∷ []
+
+  -- they are points
+  keys-inside : rows-laws.All (sorting-laws.Below keys P) ids
   unfolding stepAt
   keys-inside =
-      rows-laws.all-of (λ id. (stepAt fs id .from < P) × (stepAt fs id .to < P)) ids
+      rows-laws.all-of (sorting-laws.Below keys P) ids
       (λ i l.
       let k : i < 3 * length fs = omega (arith, length-ids) in
       let e : getD ids i 0 ≡ i = ap (λ l. getD l i 0) (upTo-below (3 * length fs)) ∙ getD-below (3 * length fs) i k in
-      rw e (all-at (λ s. (s .from < P) × (s .to < P)) (each steps fs) (step 0 0) i steps-inside (omega (arith, length-each 3 steps (λ f. refl) fs))))
+      let h = all-at (λ s. (s .from < P) × (s .to < P)) (each steps fs) (step 0 0) i steps-inside (omega (arith, length-each 3 steps (λ f. refl) fs)) in
+      rw e (h .0, (h .1, tt)))
 
   -- the sort of the entries by both keys has every entry
   order-long : length (each (idsOf true fs) (keysOf true P fs)) ≡ 3 * length fs
   order-long =
-      ap length (sym (order-is true P fs f g (λ id h. refl) (λ id h. refl)) ∙ sym (sorting-laws.sorted-twice f g P ids))
-      ∙ sorting-laws.length-sortedBy f P (sortedBy g P ids) (λ i l. rows-laws.all-at Q (sortedBy g P ids) (sorting-laws.all-sorted Q g P ids keys-inside) i l .0)
-      ∙ sorting-laws.length-sortedBy g P ids (λ i l. rows-laws.all-at Q ids keys-inside i l .1)
+      ap length (sym (order-is true P fs (λ id. stepAt fs id .from) (λ id. stepAt fs id .to) (λ id h. refl) (λ id h. refl)))
+      ∙ sorting-laws.sorted-long keys P ids keys-inside
       ∙ length-ids
-    where
-      f : ℕ → ℕ
-      f id = stepAt fs id .from
-
-      g : ℕ → ℕ
-      g id = stepAt fs id .to
-
-      Q : ℕ → Type 0
-      Q id = (stepAt fs id .from < P) × (stepAt fs id .to < P)
 
   -- so the walkers of all directed edges together are as many as the steps
   walkers-long : length (each (walkers fs) (directed P fs)) ≡ 3 * length fs

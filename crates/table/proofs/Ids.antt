@@ -11,9 +11,10 @@ use borrow.Author.Tests.{eq-eqb, ne-eqb}
 use lib.Dec.{eqb}
 use lib.ListN.{length, getD}
 use Rattle.rows.specs.Filter.{keep}
-use Rattle.sorting.specs.Groups.{having, sortedBy, groupsBy, sortedBy2}
+use Rattle.sorting.specs.Groups.{having, sortedBy, sortedByAll}
 use Rattle.rows.specs.Filter as rows-filter
 use Rattle.rows.specs.Retain.{upTo}
+use Rattle.sorting.proofs.GroupLaws.{filter-sorted}
 use Rattle.rules.specs.Lists.{below, filter, any, each}
 use Rattle.rules.specs.Mesh.{Face, facesOf}
 use Rattle.rules.specs.Steps.{Step, step, steps, edge, same, Entry, entries, users, walkers, pairs, edges, directed}
@@ -195,11 +196,6 @@ module _ (f : ℕ → ℕ) where
   sorted-each zero xs = unfold each below in refl
   sorted-each (suc K) xs = ap (λ l. l ++ having f K xs) (sorted-each K xs) ∙ sym (each-snoc (λ x. having f x xs) K)
 
-  -- and so does arranging each group
-  groups-each : (s : List ℕ → List ℕ) (K : ℕ) (xs : List ℕ) → groupsBy f K s xs ≡ each (λ x. s (having f x xs)) (below K)
-  groups-each s zero xs = unfold each below in refl
-  groups-each s (suc K) xs = ap (λ l. l ++ s (having f K xs)) (groups-each s K xs) ∙ sym (each-snoc (λ x. s (having f x xs)) K)
-
 -- the lists made of all pairs
 each-pairs : {B : Type 0} (h : Step → List B) (P : ℕ) → each h (pairs P) ≡ each (λ x. each (λ y. h (step x y)) (below P)) (below P)
 unfolding pairs
@@ -226,12 +222,12 @@ module _ (d : Bool) (P : ℕ) (fs : List Face) (f g : ℕ → ℕ)
   none-under e h = none-filter (λ id. same e (under d (stepAt fs id))) (below (3 * length fs)) (sym (any-ids (λ s. same e (under d s)) fs) ∙ h)
 
   -- the sort of all entries by both keys
-  pub order-is : sortedBy2 f g P (upTo (3 * length fs)) ≡ each (idsOf d fs) (keysOf d P fs)
+  pub order-is : sortedByAll (f ∷ g ∷ []) P (upTo (3 * length fs)) ≡ each (idsOf d fs) (keysOf d P fs)
   unfolding keysOf
   order-is =
-      groups-each f (sortedBy g P) P ids
-      ∙ each-same (λ x. sortedBy g P (having f x ids)) (λ x. each (λ y. idsOf d fs (step x y)) (below P))
-      (λ x. sorted-each g P (having f x ids) ∙ each-same (λ y. having g y (having f x ids)) (λ y. idsOf d fs (step x y)) (group-is x) (below P)) (below P)
+      sorted-each f P (sortedBy g P ids)
+      ∙ each-same (λ x. having f x (sortedBy g P ids)) (λ x. each (λ y. idsOf d fs (step x y)) (below P))
+      (λ x. filter-sorted (λ id. eqb (f id) x) g P ids ∙ sorted-each g P (having f x ids) ∙ each-same (λ y. having g y (having f x ids)) (λ y. idsOf d fs (step x y)) (group-is x) (below P)) (below P)
       ∙ sym (each-pairs (idsOf d fs) P)
       ∙ sym (each-filter (idsOf d fs) (λ e. any (λ n. same e (under d (n .along))) (entries fs)) none-under (pairs P))
     where

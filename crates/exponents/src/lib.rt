@@ -7,6 +7,7 @@ ghost use Rattle.rules.specs.Root.{root};
 ghost use Rattle.rules.specs.Float.{_⊗_};
 ghost use Rattle.exponents.specs.Exponent.{exponentOf};
 
+// 2^52: the bit of a number's first digit, which its pattern leaves out.
 const HID: u64 = 0x0010_0000_0000_0000;
 
 // The exponent's field of a number that is finite and not negative; 2047 or more of any other.

@@ -1,5 +1,5 @@
 // The square root of an f64, correctly rounded: to the nearest f64, a tie (there is none) to the even one.
-// Computed with integers, digit by digit.
+// It is guessed in floats and settled with whole numbers, by comparing squares; where the guess is not near enough it is computed digit by digit.
 
 ghost use mathlib.Core.Path.{_≡_};
 ghost use Prim.Native.Nat.{_+_, _*_, _^_, _≤_, _<_};
@@ -7,10 +7,13 @@ ghost use lib.Ieee.{binary64, ofBits, nanBits};
 ghost use mathlib.Core.Bool.{false};
 ghost use Rattle.root.specs.Root.{nearRoot, rootUnits, rootOf};
 
+// 2^52: the bit of a number's first digit, which its pattern leaves out.
 const HID: u64 = 0x0010_0000_0000_0000;
 
+// 2^26: a number below 2^53 is cut here to be squared.
 const HALF: u64 = 0x0400_0000;
 
+// 2^55: stands for 0 where a difference may be below it.
 const ZERO: u64 = 0x0080_0000_0000_0000;
 
 // The root of n * 2^52, to the nearest whole number.

@@ -1,0 +1,51 @@
+-- Edge calls and edge checks, each by the call in rooms that hold something, one entry too long: the answer and every room, as document 01 has them.
+use mathlib.Core.Path.{_≡_, refl}
+use mathlib.Core.List.{List, [], _∷_}
+use lib.ListN.{replicate}
+use Rattle.rules.specs.CallRows.{row, faults, edging, edged-to, checking, checked-to, askew, every-word}
+use Rattle.rules.specs.Open.{every-rule}
+use Rattle.rules.specs.Bench.{Row}
+
+-- edges, lengths, face edges, loops
+pub edges-rows : List Row
+edges-rows =
+    -- no faces: every room but work is as it was
+    row (edging [] [])
+    (edged-to 0 0 [] [] [] [] [])
+    -- two faces: edges sorted by (lower, higher), so (0,3) before (1,2); their lengths, whose steps decide here in the last place; one loop of four
+    ∷ row (edging askew (0 ∷ 1 ∷ 2 ∷ 0 ∷ 2 ∷ 3 ∷ []))
+    (edged-to 4 2 (0 ∷ 1 ∷ 0 ∷ 2 ∷ 0 ∷ 3 ∷ 1 ∷ 2 ∷ 2 ∷ 3 ∷ []) (0x3ff7_d6e7_0d6f_f66d ∷ 0x3fe8_9465_0449_4be2 ∷ 0x3ffa_a11a_4635_b928 ∷ 0x3feb_573f_7449_baa0 ∷ 0x3ff5_58be_dfaf_6cfa ∷ []) (3 ∷ 1 ∷ 0 ∷ 4 ∷ 2 ∷ 1 ∷ []) (3 ∷ 2 ∷ 1 ∷ 0 ∷ []) (4 ∷ []))
+    -- both sides of a face: three edges where six have room, and no loop
+    ∷ row (edging askew (0 ∷ 1 ∷ 2 ∷ 0 ∷ 2 ∷ 1 ∷ []))
+    (edged-to 4 2 (0 ∷ 1 ∷ 0 ∷ 2 ∷ 1 ∷ 2 ∷ []) (0x3ff7_d6e7_0d6f_f66d ∷ 0x3fe8_9465_0449_4be2 ∷ 0x3feb_573f_7449_baa0 ∷ []) (2 ∷ 1 ∷ 0 ∷ 2 ∷ 0 ∷ 1 ∷ []) [] [])
+    -- two loops, each from its lowest vertex and listed reversed; their ends are running totals
+    ∷ row (edging (replicate 18 0) (2 ∷ 0 ∷ 1 ∷ 3 ∷ 5 ∷ 4 ∷ []))
+    (edged-to 6 2 (0 ∷ 1 ∷ 0 ∷ 2 ∷ 1 ∷ 2 ∷ 3 ∷ 4 ∷ 3 ∷ 5 ∷ 4 ∷ 5 ∷ []) (replicate 6 0) (0 ∷ 2 ∷ 1 ∷ 5 ∷ 3 ∷ 4 ∷ []) (2 ∷ 1 ∷ 0 ∷ 4 ∷ 5 ∷ 3 ∷ []) (3 ∷ 6 ∷ []))
+    -- a repeated corner: the edge (0,0) occurs once and is a loop, the edge (0,1) occurs twice
+    ∷ row (edging (replicate 6 0) (0 ∷ 0 ∷ 1 ∷ []))
+    (edged-to 2 1 (0 ∷ 0 ∷ 0 ∷ 1 ∷ []) (replicate 2 0) (1 ∷ 1 ∷ 0 ∷ []) (0 ∷ []) (1 ∷ []))
+    ∷ []
+
+-- every row holds
+pub edges-so : faults edges-rows ≡ []
+unfolding edges-rows every-word every-rule
+edges-so = refl
+
+-- yes and no
+pub check-rows : List Row
+check-rows =
+    -- no faces; both sides of a face; each side walked once
+    row (checking 0 []) (checked-to 0 0 1)
+    ∷ row (checking 3 (0 ∷ 1 ∷ 2 ∷ 0 ∷ 2 ∷ 1 ∷ [])) (checked-to 3 2 1)
+    -- a directed edge twice
+    ∷ row (checking 4 (0 ∷ 1 ∷ 2 ∷ 0 ∷ 1 ∷ 3 ∷ [])) (checked-to 4 2 0)
+    -- a repeated corner, at each two places: no directed edge is used twice there
+    ∷ row (checking 2 (0 ∷ 0 ∷ 1 ∷ [])) (checked-to 2 1 0)
+    ∷ row (checking 2 (0 ∷ 1 ∷ 1 ∷ [])) (checked-to 2 1 0)
+    ∷ row (checking 2 (0 ∷ 1 ∷ 0 ∷ [])) (checked-to 2 1 0)
+    ∷ []
+
+-- every row holds
+pub checks-so : faults check-rows ≡ []
+unfolding check-rows every-word every-rule
+checks-so = refl

@@ -8,7 +8,7 @@ use lib.ListN.{length, replicate}
 use lib.Ieee.{Float, binary64, ofBits, toBits}
 use Rattle.rules.specs.Rooms.{Answer, accepted, refused, Outcome}
 use Rattle.rules.specs.Patches.{Limit, Filter}
-use Rattle.rules.specs.Calls.{RepairRooms, repair, EdgesRooms, find-edges, check, PatchesRooms, find-patches, StlRooms, read-stl}
+use Rattle.rules.specs.Calls.{RepairRooms, repair, EdgesRooms, find-edges, check, PatchesRooms, find-patches}
 use Rattle.rules.specs.Bench.{Row}
 
 -- one example: what a call gives, and what document 01 says
@@ -168,16 +168,6 @@ unfoldable pub flagging : List ℕ → List ℕ → List ℕ → ℕ → Filter 
 flagging points faces labels C by =
     find-patches (floats points) faces labels C by (patches-lent C (7 * C) C (4 * C)) .rooms .flags ∷ []
 
--- ---- binary STL
-
--- the rooms of an STL call, of the given lengths
-unfoldable pub stl-lent : ℕ → ℕ → ℕ → StlRooms
-stl-lent a b c = record { points = dirty a; faces = replicate b 7; work = replicate c 7 }
-
--- the answer and every room
-unfoldable pub stl-shown : Outcome StlRooms → List (List ℕ)
-stl-shown o = said (o .answer) ∷ bits-of (o .rooms .points) ∷ o .rooms .faces ∷ o .rooms .work ∷ []
-
 -- ---- meshes, by the bits of their points
 
 -- the unit legs (0,0,0) (1,0,0) (0,1,0) (0,-1,0) (0,0,1)
@@ -198,5 +188,5 @@ askew =
 -- every definition of this file under one name
 unfoldable pub every-word : Unit {0}
 unfolding row same-list same-lists faults-from faults said floats bits-of dirty left repair-lent repair-shown repairing repaired-to edges-lent edges-shown edging edged-to check-shown checking
-    checked-to limits patches-lent patches-shown patching patched-to flagging stl-lent stl-shown legs high askew
+    checked-to limits patches-lent patches-shown patching patched-to flagging legs high askew
 every-word = tt

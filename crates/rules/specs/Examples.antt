@@ -177,11 +177,14 @@ refusals =
     ∷ row (repairing (origins 1) (9 ∷ 9 ∷ []) nan 64) ((1 ∷ 1 ∷ []) ∷ [])
     ∷ row (checking 0 (9 ∷ [])) ((1 ∷ 1 ∷ []) ∷ [])
     -- 2: the largest sizes pass, and one more does not; P and the patch count are numbers of any size
-    ∷ row (shown (no2 0 most-points 4194304)) []
+    ∷ row (shown (no2 0 4194304 most-points)) []
+    ∷ row (shown (no2 0 4194305 most-points)) ((2 ∷ 0 ∷ []) ∷ [])
     ∷ row (answered (check 4194305 [] [] .answer) ∷ []) ((2 ∷ 0 ∷ []) ∷ [])
     ∷ row (answered (check (2 ^ 64 - 1) (9 ∷ 9 ∷ 9 ∷ []) [] .answer) ∷ []) ((2 ∷ 0 ∷ []) ∷ [])
-    ∷ row (shown (no2 1 (most-faces + 1) 1048576)) ((2 ∷ 1 ∷ []) ∷ [])
-    ∷ row (shown (no2 2 (most-patches + 1) 1048576)) ((2 ∷ 2 ∷ []) ∷ [])
+    ∷ row (shown (no2 1 1048576 most-faces)) []
+    ∷ row (shown (no2 1 1048577 most-faces)) ((2 ∷ 1 ∷ []) ∷ [])
+    ∷ row (shown (no2 2 1048576 most-patches)) []
+    ∷ row (shown (no2 2 1048577 most-patches)) ((2 ∷ 2 ∷ []) ∷ [])
     -- 3: NaN, below 0 and above 1 are refused, -0 is not; settings are checked whatever the options are
     ∷ row (repairing [] [] nan 64) ((3 ∷ 0 ∷ []) ∷ [])
     ∷ row (repairing [] [] (fin true 1 (negsuc 1073)) 0) ((3 ∷ 0 ∷ []) ∷ [])

@@ -6,7 +6,7 @@ use Prim.Native.Nat.{ℕ, _+_, _*_, _%_, _/_}
 use lib.ListN.{length, replicate}
 use lib.Dec.{eqb, leb}
 use lib.Ieee.{Float, binary64, ofBits}
-use Rattle.rules.specs.Refusal.{Check, no, decided, unless, no1, no2}
+use Rattle.rules.specs.Refusal.{no, decided, unless, no1, no2}
 use Rattle.rules.specs.Patches.{absent, limit}
 use Rattle.rules.specs.Line.{bytes}
 use Rattle.rules.specs.Stl.{facets, no12}

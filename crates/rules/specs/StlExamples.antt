@@ -137,7 +137,8 @@ stl-refusals =
     ∷ row (answering 0 (file-of 2 (zeros ++ with-last nan32))) ((4 ∷ 5 ∷ []) ∷ [])
     ∷ row (answering 0 (file-of 2 (with-last infinite32 ++ with-last nan32))) ((4 ∷ 2 ∷ []) ∷ [])
     ∷ row (answering 0 (file-of 1 (with-last too-far32))) ((4 ∷ 2 ∷ []) ∷ [])
-    -- 6: points, faces, work
+    -- 6: points, faces, work, each one short; `answering` brings rooms exactly as long as stated
+    ∷ row (answered (read-stl (file-of 1 zeros) (record { points = replicate 8 zero64; faces = replicate 3 0; work = replicate 128 0 }) .answer) ∷ []) ((6 ∷ 0 ∷ []) ∷ [])
     ∷ row (answering 0 (file-of 1 zeros)) ((6 ∷ 0 ∷ []) ∷ [])
     ∷ row (answered (read-stl (file-of 1 zeros) (record { points = replicate 9 zero64; faces = replicate 2 0; work = [] }) .answer) ∷ []) ((6 ∷ 1 ∷ []) ∷ [])
     ∷ row (answered (read-stl (file-of 1 zeros) (record { points = replicate 9 zero64; faces = replicate 3 0; work = replicate 127 0 }) .answer) ∷ []) ((6 ∷ 2 ∷ []) ∷ [])

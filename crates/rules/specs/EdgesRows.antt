@@ -12,9 +12,9 @@ edges-rows =
     -- no faces: every room but work is as it was
     row (edging [] [])
     (edged-to 0 0 [] [] [] [] [])
-    -- two faces: edges sorted by (lower, higher), so (0,3) before (1,2); their lengths, whose steps decide here in the last place; one loop of four
-    ∷ row (edging askew (0 ∷ 1 ∷ 2 ∷ 0 ∷ 2 ∷ 3 ∷ []))
-    (edged-to 4 2 (0 ∷ 1 ∷ 0 ∷ 2 ∷ 0 ∷ 3 ∷ 1 ∷ 2 ∷ 2 ∷ 3 ∷ []) (0x3ff7_d6e7_0d6f_f66d ∷ 0x3fe8_9465_0449_4be2 ∷ 0x3ffa_a11a_4635_b928 ∷ 0x3feb_573f_7449_baa0 ∷ 0x3ff5_58be_dfaf_6cfa ∷ []) (3 ∷ 1 ∷ 0 ∷ 4 ∷ 2 ∷ 1 ∷ []) (3 ∷ 2 ∷ 1 ∷ 0 ∷ []) (4 ∷ []))
+    -- two faces: edges sorted by (lower, higher), so (0,3) before (1,2); their lengths, of which that of (1,3) is another if the squares are summed otherwise; one loop of four
+    ∷ row (edging askew (0 ∷ 3 ∷ 1 ∷ 1 ∷ 3 ∷ 2 ∷ []))
+    (edged-to 4 2 (0 ∷ 1 ∷ 0 ∷ 3 ∷ 1 ∷ 2 ∷ 1 ∷ 3 ∷ 2 ∷ 3 ∷ []) (0x3ff7_d6e7_0d6f_f66d ∷ 0x3ffa_a11a_4635_b928 ∷ 0x3feb_573f_7449_baa0 ∷ 0x3ff9_5948_cf1f_ed8e ∷ 0x3ff5_58be_dfaf_6cfa ∷ []) (3 ∷ 0 ∷ 1 ∷ 4 ∷ 2 ∷ 3 ∷ []) (1 ∷ 2 ∷ 3 ∷ 0 ∷ []) (4 ∷ []))
     -- both sides of a face: three edges where six have room, and no loop
     ∷ row (edging askew (0 ∷ 1 ∷ 2 ∷ 0 ∷ 2 ∷ 1 ∷ []))
     (edged-to 4 2 (0 ∷ 1 ∷ 0 ∷ 2 ∷ 1 ∷ 2 ∷ []) (0x3ff7_d6e7_0d6f_f66d ∷ 0x3fe8_9465_0449_4be2 ∷ 0x3feb_573f_7449_baa0 ∷ []) (2 ∷ 1 ∷ 0 ∷ 2 ∷ 0 ∷ 1 ∷ []) [] [])

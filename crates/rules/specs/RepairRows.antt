@@ -1,6 +1,7 @@
 -- Repairs, each by the call in rooms that hold something, one entry too long: the answer and every room, as document 01 has them.
 use mathlib.Core.Path.{_≡_, refl}
-use mathlib.Core.List.{List, [], _∷_}
+use mathlib.Core.List.{List, [], _∷_, _++_}
+use Prim.Native.Nat.{ℕ}
 use lib.ListN.{replicate}
 use Rattle.rules.specs.CallRows.{row, faults, repairing, repaired-to, legs, high, every-word}
 use Rattle.rules.specs.Open.{every-rule}
@@ -21,9 +22,9 @@ face-rows =
     -- and this one would stay; it stays too if `<` is asked for `<=`
     ∷ row (repairing (0x3fe3_3333_3333_3333 ∷ 0xbfec_cccc_cccc_cccd ∷ 0x3fe3_3333_3333_3333 ∷ 0x3fc9_9999_9999_999a ∷ 0xbfe6_6666_6666_6666 ∷ 0xbfe3_3333_3333_3333 ∷ 0x3fd3_3333_3333_3333 ∷ 0xbfd3_3333_3333_3333 ∷ 0x3fe3_3333_3333_3333 ∷ []) (0 ∷ 1 ∷ 2 ∷ []) 0x3fee_b9d1_8242_3bc9 1)
     (repaired-to 3 1 (0x3fe3_3333_3333_3333 ∷ 0xbfec_cccc_cccc_cccd ∷ 0x3fe3_3333_3333_3333 ∷ 0x3fc9_9999_9999_999a ∷ 0xbfe6_6666_6666_6666 ∷ 0xbfe3_3333_3333_3333 ∷ 0x3fd3_3333_3333_3333 ∷ 0xbfd3_3333_3333_3333 ∷ 0x3fe3_3333_3333_3333 ∷ []) [] (1 ∷ 0 ∷ 0 ∷ 0 ∷ 0 ∷ 0 ∷ 0 ∷ 0 ∷ 0 ∷ 0 ∷ []))
-    -- the sine is asked at corner 0 alone: of the unit legs it is 1 at corner 0 of the first face only
-    ∷ row (repairing legs (0 ∷ 1 ∷ 2 ∷ 1 ∷ 2 ∷ 0 ∷ 2 ∷ 0 ∷ 1 ∷ []) 0x3ff0_0000_0000_0000 1)
-    (repaired-to 5 3 legs [] (3 ∷ 0 ∷ 0 ∷ 0 ∷ 0 ∷ 0 ∷ 0 ∷ 0 ∷ 0 ∷ 0 ∷ []))
+    -- the sine is asked at corner 0 alone: of the unit legs it is 1 at corner 0 of the first face, and root(1/2), which is below s = 3/4, at that of the others
+    ∷ row (repairing legs (0 ∷ 1 ∷ 2 ∷ 1 ∷ 2 ∷ 0 ∷ 2 ∷ 0 ∷ 1 ∷ []) 0x3fe8_0000_0000_0000 1)
+    (repaired-to 5 3 legs (0 ∷ 1 ∷ 2 ∷ []) (2 ∷ 0 ∷ 0 ∷ 0 ∷ 0 ∷ 0 ∷ 0 ∷ 0 ∷ 0 ∷ 0 ∷ []))
     -- pass 1 before pass 2: both faces are degenerate, and neither is counted as a duplicate
     ∷ row (repairing (replicate 6 0) (0 ∷ 0 ∷ 1 ∷ 0 ∷ 1 ∷ 0 ∷ []) 0 3)
     (repaired-to 2 2 (replicate 6 0) [] (2 ∷ 0 ∷ 0 ∷ 0 ∷ 0 ∷ 0 ∷ 0 ∷ 0 ∷ 0 ∷ 0 ∷ []))
@@ -37,13 +38,17 @@ pub faces-so : faults face-rows ≡ []
 unfolding face-rows every-word every-rule
 faces-so = refl
 
+-- (0,0,0) (2^-548,0,0) (0,2^-548,0) (0,2^100,0) (0,0,2^100)
+tiny : List ℕ
+tiny = 0 ∷ 0 ∷ 0 ∷ 0x1db0_0000_0000_0000 ∷ 0 ∷ 0 ∷ 0 ∷ 0x1db0_0000_0000_0000 ∷ 0 ∷ 0 ∷ 0x4630_0000_0000_0000 ∷ 0 ∷ 0 ∷ 0 ∷ 0x4630_0000_0000_0000 ∷ []
+
 -- pass 3
 pub crowd-rows : List Row
 crowd-rows =
     -- pass 3 ranks by quality, whose steps decide here in the last place: a triangle from each of its corners, all walking alike
     row (repairing (0xbfd9_9999_9999_999a ∷ 0xbfc9_9999_9999_999a ∷ 0x3fe9_9999_9999_999a ∷ 0x3fb9_9999_9999_999a ∷ 0x3fc9_9999_9999_999a ∷ 0xbfb9_9999_9999_999a ∷ 0x3fd9_9999_9999_999a ∷ 0x3fd9_9999_9999_999a ∷ 0x3fe3_3333_3333_3333 ∷ []) (0 ∷ 1 ∷ 2 ∷ 1 ∷ 2 ∷ 0 ∷ 2 ∷ 0 ∷ 1 ∷ []) 0 4)
     (repaired-to 3 3 (0xbfd9_9999_9999_999a ∷ 0xbfc9_9999_9999_999a ∷ 0x3fe9_9999_9999_999a ∷ 0x3fb9_9999_9999_999a ∷ 0x3fc9_9999_9999_999a ∷ 0xbfb9_9999_9999_999a ∷ 0x3fd9_9999_9999_999a ∷ 0x3fd9_9999_9999_999a ∷ 0x3fe3_3333_3333_3333 ∷ []) (1 ∷ 2 ∷ 0 ∷ 2 ∷ 0 ∷ 1 ∷ []) (0 ∷ 0 ∷ 3 ∷ 1 ∷ 0 ∷ 0 ∷ 0 ∷ 0 ∷ 0 ∷ 0 ∷ []))
-    -- the next whose walk differs is taken by rank, not by face order: face 0 is lower than face 2
+    -- the next whose walk differs is taken by rank, not by face order: face 0 ranks below face 2
     ∷ row (repairing high (1 ∷ 0 ∷ 3 ∷ 0 ∷ 1 ∷ 2 ∷ 1 ∷ 0 ∷ 4 ∷ []) 0 4)
     (repaired-to 5 3 high (0 ∷ 1 ∷ 2 ∷ 1 ∷ 0 ∷ 4 ∷ []) (0 ∷ 0 ∷ 1 ∷ 1 ∷ 0 ∷ 0 ∷ 0 ∷ 0 ∷ 0 ∷ 0 ∷ []))
     -- so is the second entry where none differs
@@ -52,6 +57,9 @@ crowd-rows =
     -- a walk is from the lower to the higher end: 0 1 0 walks like 0 1 2, though it goes back too, and 1 0 3 is kept
     ∷ row (repairing (0 ∷ 0 ∷ 0 ∷ 0x3ff0_0000_0000_0000 ∷ 0 ∷ 0 ∷ 0 ∷ 0x3ff0_0000_0000_0000 ∷ 0 ∷ 0 ∷ 0 ∷ 0 ∷ []) (0 ∷ 1 ∷ 2 ∷ 0 ∷ 1 ∷ 0 ∷ 1 ∷ 0 ∷ 3 ∷ []) 0 4)
     (repaired-to 4 3 (0 ∷ 0 ∷ 0 ∷ 0x3ff0_0000_0000_0000 ∷ 0 ∷ 0 ∷ 0 ∷ 0x3ff0_0000_0000_0000 ∷ 0 ∷ 0 ∷ 0 ∷ 0 ∷ []) (0 ∷ 1 ∷ 2 ∷ 1 ∷ 0 ∷ 3 ∷ []) (0 ∷ 0 ∷ 1 ∷ 1 ∷ 0 ∷ 0 ∷ 0 ∷ 0 ∷ 0 ∷ 0 ∷ []))
+    -- where the sum is 0 the quality is 0, below any other: face 0 has sides of 2^-548, whose squares vanish, and the others reach to 2^100
+    ∷ row (repairing tiny (0 ∷ 1 ∷ 2 ∷ 0 ∷ 1 ∷ 3 ∷ 0 ∷ 1 ∷ 4 ∷ []) 0 4)
+    (repaired-to 5 3 tiny (0 ∷ 1 ∷ 3 ∷ 0 ∷ 1 ∷ 4 ∷ []) (0 ∷ 0 ∷ 1 ∷ 1 ∷ 0 ∷ 0 ∷ 0 ∷ 0 ∷ 0 ∷ 0 ∷ []))
     -- a face kept by one entry is not marked by another
     ∷ row (repairing (replicate 3 0) (0 ∷ 0 ∷ 0 ∷ []) 0 4)
     (repaired-to 1 1 (replicate 3 0) (0 ∷ 0 ∷ 0 ∷ []) (0 ∷ 0 ∷ 1 ∷ 0 ∷ 0 ∷ 0 ∷ 0 ∷ 0 ∷ 0 ∷ 0 ∷ []))
@@ -59,7 +67,7 @@ crowd-rows =
 
 -- every row holds
 pub crowds-so : faults crowd-rows ≡ []
-unfolding crowd-rows every-word every-rule
+unfolding crowd-rows tiny every-word every-rule
 crowds-so = refl
 
 -- pass 4
@@ -74,7 +82,7 @@ turn-rows =
     -- a marked component before a sound one: the mark is not carried over
     ∷ row (repairing (replicate 15 0) (0 ∷ 1 ∷ 2 ∷ 0 ∷ 1 ∷ 3 ∷ 0 ∷ 1 ∷ 4 ∷ 2 ∷ 3 ∷ 4 ∷ []) 0 16)
     (repaired-to 5 4 (replicate 15 0) (0 ∷ 1 ∷ 2 ∷ 0 ∷ 3 ∷ 1 ∷ 2 ∷ 3 ∷ 4 ∷ []) (0 ∷ 0 ∷ 0 ∷ 0 ∷ 1 ∷ 0 ∷ 0 ∷ 2 ∷ 1 ∷ 0 ∷ []))
-    -- a directed edge keeps the best by quality, not by face order: face 1 is lower than face 2
+    -- a directed edge keeps the best by quality, not by face order: face 1 ranks below face 2
     ∷ row (repairing high (0 ∷ 1 ∷ 2 ∷ 0 ∷ 1 ∷ 3 ∷ 0 ∷ 1 ∷ 4 ∷ []) 0 16)
     (repaired-to 5 3 high (0 ∷ 1 ∷ 2 ∷ 0 ∷ 4 ∷ 1 ∷ []) (0 ∷ 0 ∷ 0 ∷ 0 ∷ 1 ∷ 0 ∷ 0 ∷ 2 ∷ 1 ∷ 0 ∷ []))
     -- the second half marks the first entry's own face if it repeats
@@ -106,33 +114,41 @@ pub fans-so : faults fan-rows ≡ []
 unfolding fan-rows every-word every-rule
 fans-so = refl
 
+-- the unit legs, and a point (0,0,2) that no face uses
+spare : List ℕ
+spare = legs ++ (0 ∷ 0 ∷ 0x4000_0000_0000_0000 ∷ [])
+
+-- five faces over them that give each pass something to do
+five : List ℕ
+five = 0 ∷ 0 ∷ 1 ∷ 0 ∷ 1 ∷ 2 ∷ 1 ∷ 2 ∷ 0 ∷ 0 ∷ 1 ∷ 3 ∷ 2 ∷ 4 ∷ 3 ∷ []
+
 -- each pass under its own bit
 pub bit-rows : List Row
 bit-rows =
-    -- each pass under its own bit, on one mesh that gives each of them something to do: pass 1
-    row (repairing legs (0 ∷ 0 ∷ 1 ∷ 0 ∷ 1 ∷ 2 ∷ 1 ∷ 2 ∷ 0 ∷ 0 ∷ 1 ∷ 3 ∷ 2 ∷ 4 ∷ 3 ∷ []) 0x3f50_0000_0000_0000 1)
-    (repaired-to 5 5 legs (0 ∷ 1 ∷ 2 ∷ 1 ∷ 2 ∷ 0 ∷ 0 ∷ 1 ∷ 3 ∷ 2 ∷ 4 ∷ 3 ∷ []) (1 ∷ 0 ∷ 0 ∷ 0 ∷ 0 ∷ 0 ∷ 0 ∷ 0 ∷ 0 ∷ 0 ∷ []))
+    -- pass 1
+    row (repairing spare five 0x3f50_0000_0000_0000 1)
+    (repaired-to 6 5 spare (0 ∷ 1 ∷ 2 ∷ 1 ∷ 2 ∷ 0 ∷ 0 ∷ 1 ∷ 3 ∷ 2 ∷ 4 ∷ 3 ∷ []) (1 ∷ 0 ∷ 0 ∷ 0 ∷ 0 ∷ 0 ∷ 0 ∷ 0 ∷ 0 ∷ 0 ∷ []))
     -- pass 2
-    ∷ row (repairing legs (0 ∷ 0 ∷ 1 ∷ 0 ∷ 1 ∷ 2 ∷ 1 ∷ 2 ∷ 0 ∷ 0 ∷ 1 ∷ 3 ∷ 2 ∷ 4 ∷ 3 ∷ []) 0x3f50_0000_0000_0000 2)
-    (repaired-to 5 5 legs (0 ∷ 0 ∷ 1 ∷ 0 ∷ 1 ∷ 2 ∷ 0 ∷ 1 ∷ 3 ∷ 2 ∷ 4 ∷ 3 ∷ []) (0 ∷ 1 ∷ 0 ∷ 0 ∷ 0 ∷ 0 ∷ 0 ∷ 0 ∷ 0 ∷ 0 ∷ []))
+    ∷ row (repairing spare five 0x3f50_0000_0000_0000 2)
+    (repaired-to 6 5 spare (0 ∷ 0 ∷ 1 ∷ 0 ∷ 1 ∷ 2 ∷ 0 ∷ 1 ∷ 3 ∷ 2 ∷ 4 ∷ 3 ∷ []) (0 ∷ 1 ∷ 0 ∷ 0 ∷ 0 ∷ 0 ∷ 0 ∷ 0 ∷ 0 ∷ 0 ∷ []))
     -- pass 3
-    ∷ row (repairing legs (0 ∷ 0 ∷ 1 ∷ 0 ∷ 1 ∷ 2 ∷ 1 ∷ 2 ∷ 0 ∷ 0 ∷ 1 ∷ 3 ∷ 2 ∷ 4 ∷ 3 ∷ []) 0x3f50_0000_0000_0000 4)
-    (repaired-to 5 5 legs (0 ∷ 1 ∷ 2 ∷ 1 ∷ 2 ∷ 0 ∷ 2 ∷ 4 ∷ 3 ∷ []) (0 ∷ 0 ∷ 1 ∷ 2 ∷ 0 ∷ 0 ∷ 0 ∷ 0 ∷ 0 ∷ 0 ∷ []))
+    ∷ row (repairing spare five 0x3f50_0000_0000_0000 4)
+    (repaired-to 6 5 spare (0 ∷ 1 ∷ 2 ∷ 1 ∷ 2 ∷ 0 ∷ 2 ∷ 4 ∷ 3 ∷ []) (0 ∷ 0 ∷ 1 ∷ 2 ∷ 0 ∷ 0 ∷ 0 ∷ 0 ∷ 0 ∷ 0 ∷ []))
     -- pass 5
-    ∷ row (repairing legs (0 ∷ 0 ∷ 1 ∷ 0 ∷ 1 ∷ 2 ∷ 1 ∷ 2 ∷ 0 ∷ 0 ∷ 1 ∷ 3 ∷ 2 ∷ 4 ∷ 3 ∷ []) 0x3f50_0000_0000_0000 8)
-    (repaired-to 5 5 (0 ∷ 0 ∷ 0 ∷ 0x3ff0_0000_0000_0000 ∷ 0 ∷ 0 ∷ 0 ∷ 0x3ff0_0000_0000_0000 ∷ 0 ∷ 0 ∷ 0xbff0_0000_0000_0000 ∷ 0 ∷ 0 ∷ 0 ∷ 0x3ff0_0000_0000_0000 ∷ 0 ∷ 0x3ff0_0000_0000_0000 ∷ 0 ∷ 0 ∷ 0xbff0_0000_0000_0000 ∷ 0 ∷ []) (0 ∷ 0 ∷ 1 ∷ 0 ∷ 1 ∷ 2 ∷ 1 ∷ 2 ∷ 0 ∷ 0 ∷ 1 ∷ 3 ∷ 5 ∷ 4 ∷ 6 ∷ []) (0 ∷ 0 ∷ 0 ∷ 0 ∷ 0 ∷ 2 ∷ 2 ∷ 0 ∷ 0 ∷ 0 ∷ []))
+    ∷ row (repairing spare five 0x3f50_0000_0000_0000 8)
+    (repaired-to 6 5 (0 ∷ 0 ∷ 0 ∷ 0x3ff0_0000_0000_0000 ∷ 0 ∷ 0 ∷ 0 ∷ 0x3ff0_0000_0000_0000 ∷ 0 ∷ 0 ∷ 0xbff0_0000_0000_0000 ∷ 0 ∷ 0 ∷ 0 ∷ 0x3ff0_0000_0000_0000 ∷ 0 ∷ 0 ∷ 0x4000_0000_0000_0000 ∷ 0 ∷ 0x3ff0_0000_0000_0000 ∷ 0 ∷ 0 ∷ 0xbff0_0000_0000_0000 ∷ 0 ∷ []) (0 ∷ 0 ∷ 1 ∷ 0 ∷ 1 ∷ 2 ∷ 1 ∷ 2 ∷ 0 ∷ 0 ∷ 1 ∷ 3 ∷ 6 ∷ 4 ∷ 7 ∷ []) (0 ∷ 0 ∷ 0 ∷ 0 ∷ 0 ∷ 2 ∷ 2 ∷ 0 ∷ 0 ∷ 0 ∷ []))
     -- pass 4
-    ∷ row (repairing legs (0 ∷ 0 ∷ 1 ∷ 0 ∷ 1 ∷ 2 ∷ 1 ∷ 2 ∷ 0 ∷ 0 ∷ 1 ∷ 3 ∷ 2 ∷ 4 ∷ 3 ∷ []) 0x3f50_0000_0000_0000 16)
-    (repaired-to 5 5 legs (0 ∷ 2 ∷ 1 ∷ 2 ∷ 4 ∷ 3 ∷ []) (0 ∷ 0 ∷ 0 ∷ 0 ∷ 3 ∷ 0 ∷ 0 ∷ 3 ∷ 1 ∷ 0 ∷ []))
+    ∷ row (repairing spare five 0x3f50_0000_0000_0000 16)
+    (repaired-to 6 5 spare (0 ∷ 2 ∷ 1 ∷ 2 ∷ 4 ∷ 3 ∷ []) (0 ∷ 0 ∷ 0 ∷ 0 ∷ 3 ∷ 0 ∷ 0 ∷ 3 ∷ 1 ∷ 0 ∷ []))
     -- pass 6
-    ∷ row (repairing legs (0 ∷ 0 ∷ 1 ∷ 0 ∷ 1 ∷ 2 ∷ 1 ∷ 2 ∷ 0 ∷ 0 ∷ 1 ∷ 3 ∷ 2 ∷ 4 ∷ 3 ∷ []) 0x3f50_0000_0000_0000 32)
-    (repaired-to 5 5 legs (0 ∷ 0 ∷ 1 ∷ 0 ∷ 1 ∷ 2 ∷ 1 ∷ 2 ∷ 0 ∷ 0 ∷ 1 ∷ 3 ∷ 2 ∷ 4 ∷ 3 ∷ []) (0 ∷ 0 ∷ 0 ∷ 0 ∷ 0 ∷ 0 ∷ 0 ∷ 0 ∷ 0 ∷ 0 ∷ []))
+    ∷ row (repairing spare five 0x3f50_0000_0000_0000 32)
+    (repaired-to 6 5 (0 ∷ 0 ∷ 0 ∷ 0x3ff0_0000_0000_0000 ∷ 0 ∷ 0 ∷ 0 ∷ 0x3ff0_0000_0000_0000 ∷ 0 ∷ 0 ∷ 0xbff0_0000_0000_0000 ∷ 0 ∷ 0 ∷ 0 ∷ 0x3ff0_0000_0000_0000 ∷ []) five (0 ∷ 0 ∷ 0 ∷ 0 ∷ 0 ∷ 0 ∷ 0 ∷ 0 ∷ 0 ∷ 1 ∷ []))
     -- all of them
-    ∷ row (repairing legs (0 ∷ 0 ∷ 1 ∷ 0 ∷ 1 ∷ 2 ∷ 1 ∷ 2 ∷ 0 ∷ 0 ∷ 1 ∷ 3 ∷ 2 ∷ 4 ∷ 3 ∷ []) 0x3f50_0000_0000_0000 63)
-    (repaired-to 5 5 (0 ∷ 0 ∷ 0 ∷ 0x3ff0_0000_0000_0000 ∷ 0 ∷ 0 ∷ 0 ∷ 0x3ff0_0000_0000_0000 ∷ 0 ∷ 0 ∷ 0xbff0_0000_0000_0000 ∷ 0 ∷ 0 ∷ 0 ∷ 0x3ff0_0000_0000_0000 ∷ 0 ∷ 0x3ff0_0000_0000_0000 ∷ 0 ∷ 0 ∷ 0xbff0_0000_0000_0000 ∷ 0 ∷ []) (0 ∷ 1 ∷ 2 ∷ 0 ∷ 3 ∷ 1 ∷ 5 ∷ 4 ∷ 6 ∷ []) (1 ∷ 1 ∷ 0 ∷ 0 ∷ 0 ∷ 2 ∷ 2 ∷ 1 ∷ 0 ∷ 0 ∷ []))
+    ∷ row (repairing spare five 0x3f50_0000_0000_0000 63)
+    (repaired-to 6 5 (0 ∷ 0 ∷ 0 ∷ 0x3ff0_0000_0000_0000 ∷ 0 ∷ 0 ∷ 0 ∷ 0x3ff0_0000_0000_0000 ∷ 0 ∷ 0 ∷ 0xbff0_0000_0000_0000 ∷ 0 ∷ 0 ∷ 0 ∷ 0x3ff0_0000_0000_0000 ∷ 0 ∷ 0x3ff0_0000_0000_0000 ∷ 0 ∷ 0 ∷ 0xbff0_0000_0000_0000 ∷ 0 ∷ []) (0 ∷ 1 ∷ 2 ∷ 0 ∷ 3 ∷ 1 ∷ 5 ∷ 4 ∷ 6 ∷ []) (1 ∷ 1 ∷ 0 ∷ 0 ∷ 0 ∷ 2 ∷ 2 ∷ 1 ∷ 0 ∷ 1 ∷ []))
     ∷ []
 
 -- every row holds
 pub bits-so : faults bit-rows ≡ []
-unfolding bit-rows every-word every-rule
+unfolding bit-rows spare five every-word every-rule
 bits-so = refl

@@ -114,6 +114,28 @@ pub fans-so : faults fan-rows ≡ []
 unfolding fan-rows every-word every-rule
 fans-so = refl
 
+-- two passes that follow each other, on faces 0 0 0, where the other order gives another answer
+pub order-rows : List Row
+order-rows =
+    -- 2 before 3: the second face leaves as a duplicate, not at the edge (0,0)
+    row (repairing (replicate 3 0) (replicate 6 0) 0 6)
+    (repaired-to 1 2 (replicate 3 0) (replicate 3 0) (0 ∷ 1 ∷ 1 ∷ 0 ∷ 0 ∷ 0 ∷ 0 ∷ 0 ∷ 0 ∷ 0 ∷ []))
+    -- 3 before 4: the edge is counted before the face leaves
+    ∷ row (repairing (replicate 3 0) (replicate 3 0) 0 20)
+    (repaired-to 1 1 (replicate 3 0) [] (0 ∷ 0 ∷ 1 ∷ 0 ∷ 1 ∷ 0 ∷ 0 ∷ 0 ∷ 0 ∷ 0 ∷ []))
+    -- 4 before 5: the face leaves and nothing is split
+    ∷ row (repairing (replicate 3 0) (replicate 3 0) 0 24)
+    (repaired-to 1 1 (replicate 3 0) [] (0 ∷ 0 ∷ 0 ∷ 0 ∷ 1 ∷ 0 ∷ 0 ∷ 0 ∷ 0 ∷ 0 ∷ []))
+    -- 5 before 6: of three points two are left unused and leave
+    ∷ row (repairing (replicate 3 0) (replicate 3 0) 0 40)
+    (repaired-to 1 1 (replicate 3 0) (replicate 3 0) (0 ∷ 0 ∷ 0 ∷ 0 ∷ 0 ∷ 1 ∷ 2 ∷ 0 ∷ 0 ∷ 2 ∷ []))
+    ∷ []
+
+-- every row holds
+pub orders-so : faults order-rows ≡ []
+unfolding order-rows every-word every-rule
+orders-so = refl
+
 -- the unit legs, and a point (0,0,2) that no face uses
 spare : List ℕ
 spare = legs ++ (0 ∷ 0 ∷ 0x4000_0000_0000_0000 ∷ [])

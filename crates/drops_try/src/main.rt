@@ -4,22 +4,6 @@ ghost use Rattle.leaving.specs.Pass.{FacesStand, PassAsks};
 ghost use Rattle.drop_duplicate_faces.specs.Keys.{taken};
 ghost use Rattle.drop_isolated_vertices.specs.Unused.{UnusedAsks};
 
-// Writes how many entries of two rows of floats are equal, from the front on.
-fn show_equal(row: &[f64], other: &[f64]) {
-    let mut i = 0;
-    while i < row.len() {
-        if i >= other.len() {
-            break;
-        }
-        if row[i] != other[i] {
-            break;
-        }
-        i += 1;
-    }
-    show::number(i as u64);
-    show::end_line();
-}
-
 // Pass 1.
 fn degenerate(points: &[f64], s: f64, faces: &mut [u32], n: usize, work: &mut [u32])
     requires { ⌜ PassAsks n (now points) (now faces) n (now work) ⌝ }
@@ -140,8 +124,8 @@ fn unused_ones() {
     ];
     let mut faces = [4, 1, 2, 4, 2, 1, 9];
     isolated(&mut points, 5, &mut faces, 2, &mut work);
-    show_equal(&points, &[1.0, 0.0, 0.0, 0.0, 1.0, 0.0, 2.0, 0.0, 0.0]);
-    show_equal(&points[15..], &[5.0, 6.0, 7.0]);
+    show::equal(&points, &[1.0, 0.0, 0.0, 0.0, 1.0, 0.0, 2.0, 0.0, 0.0]);
+    show::equal(&points[15..], &[5.0, 6.0, 7.0]);
     isolated(&mut points, 1, &mut faces, 0, &mut work);
 }
 

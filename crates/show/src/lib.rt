@@ -1,4 +1,4 @@
-// What the programs that run real values write by: numbers, rows of them, and the end of a line, on standard output.
+// What the programs that run real values write by: numbers, rows of them, how far two rows of floats are equal, and the end of a line, on standard output.
 ghost use Prim.Native.Nat.{_≤_};
 ghost use lib.ListN.{length};
 
@@ -29,5 +29,21 @@ pub fn row(row: &[u32], n: usize)
     requires { ⌜ n ≤ length (now row) ⌝ }
 {
     numbers(row, n);
+    end_line();
+}
+
+// Writes how many entries of two rows of floats are equal, from the front on, and ends the line.
+pub fn equal(row: &[f64], other: &[f64]) {
+    let mut i = 0;
+    while i < row.len() {
+        if i >= other.len() {
+            break;
+        }
+        if row[i] != other[i] {
+            break;
+        }
+        i += 1;
+    }
+    number(i as u64);
     end_line();
 }

@@ -17,29 +17,29 @@ slice-aggregate-isolated-3 c = search needs
 isolated-requires : tie.Need-isolated-requires
 isolated-requires c κs = unused _ _ _ _ _ refl refl refl refl refl
 
-slice-aggregate-show-equal : tie.Need-slice-aggregate-show-equal
-slice-aggregate-show-equal c = search needs
+slice-aggregate-equal : tie.Need-slice-aggregate-equal
+slice-aggregate-equal c = search needs
 
-slice-aggregate-show-equal-2 : tie.Need-slice-aggregate-show-equal-2
-slice-aggregate-show-equal-2 c = search needs
+slice-aggregate-equal-2 : tie.Need-slice-aggregate-equal-2
+slice-aggregate-equal-2 c = search needs
 
-show-equal-requires : tie.Need-show-equal-requires
-show-equal-requires c κs = search needs
+equal-requires : tie.Need-equal-requires
+equal-requires c κs = search needs
 
-sub-show-equal : tie.Need-sub-show-equal
-sub-show-equal c = search needs
+sub-equal : tie.Need-sub-equal
+sub-equal c = search needs
 
-part-show-equal-start : tie.Need-part-show-equal-start
-part-show-equal-start c = search needs
+part-equal-start : tie.Need-part-equal-start
+part-equal-start c = search needs
 
-part-show-equal-end : tie.Need-part-show-equal-end
-part-show-equal-end c = search needs
+part-equal-end : tie.Need-part-equal-end
+part-equal-end c = search needs
 
-slice-aggregate-show-equal-3 : tie.Need-slice-aggregate-show-equal-3
-slice-aggregate-show-equal-3 c = search needs
+slice-aggregate-equal-3 : tie.Need-slice-aggregate-equal-3
+slice-aggregate-equal-3 c = search needs
 
-show-equal-requires-2 : tie.Need-show-equal-requires-2
-show-equal-requires-2 c κs = search needs
+equal-requires-2 : tie.Need-equal-requires-2
+equal-requires-2 c κs = search needs
 
 slice-aggregate-isolated-4 : tie.Need-slice-aggregate-isolated-4
 slice-aggregate-isolated-4 c = search needs
@@ -64,14 +64,14 @@ unused-ones-spec =
     slice-aggregate-isolated-2
     slice-aggregate-isolated-3
     isolated-requires
-    slice-aggregate-show-equal
-    slice-aggregate-show-equal-2
-    show-equal-requires
-    sub-show-equal
-    part-show-equal-start
-    part-show-equal-end
-    slice-aggregate-show-equal-3
-    show-equal-requires-2
+    slice-aggregate-equal
+    slice-aggregate-equal-2
+    equal-requires
+    sub-equal
+    part-equal-start
+    part-equal-end
+    slice-aggregate-equal-3
+    equal-requires-2
     slice-aggregate-isolated-4
     slice-aggregate-isolated-5
     slice-aggregate-isolated-6

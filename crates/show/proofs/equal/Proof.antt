@@ -1,9 +1,9 @@
--- `drops_try::show_equal` is safe and ends: both rows are read within them. Assumes nothing.
+-- `show::equal` is safe and ends: both rows are read within them. Assumes nothing.
 use Prim.Native.Nat.{_≤_, _-_}
 use borrow.Author.Needs.{needs}
 use lib.ListN.{length}
-use Rattle.drops_try.proofs.show_equal.Statement.{statement}
-use Rattle.drops_try.proofs.show_equal.Tie as tie
+use Rattle.show.proofs.equal.Statement.{statement}
+use Rattle.show.proofs.equal.Tie as tie
 
 abbrev Inv-loop : tie.InvT-loop
 Inv-loop row other i₀ i = i ≤ length row
@@ -44,8 +44,8 @@ end-line-requires c κs = search needs
 returns : tie.Need-returns Inv-loop μ-loop
 returns c = search needs
 
-pub show-equal-spec : {M : Type 1} → statement M
-show-equal-spec =
+pub equal-spec : {M : Type 1} → statement M
+equal-spec =
     tie.close
     (tie.spec
     Inv-loop

@@ -66,6 +66,18 @@ same-requires-15 : tie.Need-same-requires-15
 unfolding rootOf ofBits toBits nanBits isNan
 same-requires-15 c κs = (refl, refl, refl)
 
+none-requires : tie.Need-none-requires
+unfolding rootOf ofBits nanBits
+none-requires c κs = (refl, refl)
+
+none-requires-2 : tie.Need-none-requires-2
+unfolding rootOf ofBits nanBits
+none-requires-2 c κs = (refl, refl)
+
+none-requires-3 : tie.Need-none-requires-3
+unfolding rootOf ofBits nanBits
+none-requires-3 c κs = (refl, refl)
+
 returns : tie.Need-returns
 returns c = search needs
 
@@ -88,4 +100,7 @@ main-spec =
     same-requires-13
     same-requires-14
     same-requires-15
+    none-requires
+    none-requires-2
+    none-requires-3
     returns)

@@ -40,6 +40,16 @@ fn show(text: &[u8]) {
     }
 }
 
+// The text on standard input, whose last line is a 65th point, and the same without that line.
+fn show_input() {
+    let mut text = [0; 8193];
+    let n = io::read_full(0, &mut text);
+    show(&text[..n]);
+    if n >= 53 {
+        show(&text[..n - 53]);
+    }
+}
+
 fn main() {
     show(b"");
     show(b"o\t63\t3f50000000000000\n");
@@ -54,4 +64,7 @@ fn main() {
     show(b"o\t63\t3f50000000000000\nf\t0\t1\t2");
     show(b"o\t63\t3f50000000000000\n\n");
     show(b"f\t0\t1\t2\no\t63\t3f50000000000000\n");
+    show(b"o\t63\t3f50000000000000\nf\t00\t1\t2\n");
+    show(b"o\t0\t3f50000000000000\n");
+    show_input();
 }

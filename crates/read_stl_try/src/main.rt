@@ -1,5 +1,6 @@
 // Reads the binary STL file on standard input into points and triples, and writes their entries, a line each. The files stdin and stdout are an example: four
-// facets with a common corner, some of whose zeros are -0, and a file that is a byte too long.
+// facets with a common corner, some of whose zeros are -0, a file that is a byte too long, and one whose corner 4 is
+// infinite.
 use read_stl::Read;
 
 // Writes the bits of a number.
@@ -64,5 +65,9 @@ fn main() {
     show(&file[..n], &mut points, &mut faces, &mut work);
     if n < 20084 {
         show(&file[..n + 1], &mut points, &mut faces, &mut work);
+        // corner 4 begins at byte 158
+        file[160] = 128;
+        file[161] = 127;
+        show(&file[..n], &mut points, &mut faces, &mut work);
     }
 }

@@ -1,6 +1,6 @@
 -- `read_stl_try::main` meets its contract: the files that it lends are fronts of the buffer. Assumes nothing.
 use native.Mathlib.Omega.{arith}
-use lib.ListN.{length-take}
+use lib.ListN.{length-take, length-set}
 use borrow.Author.Needs.{needs}
 use Rattle.read_stl_try.proofs.main.Statement.{statement}
 use Rattle.read_stl_try.proofs.main.Tie as tie
@@ -50,6 +50,30 @@ slice-aggregate-show-8 c = search needs
 show-requires-2 : tie.Need-show-requires-2
 show-requires-2 c κs = search needs
 
+array-write-file : tie.Need-array-write-file
+array-write-file c = search needs
+
+array-write-file-2 : tie.Need-array-write-file-2
+array-write-file-2 c = search needs
+
+array-share-prefix-file-3 : tie.Need-array-share-prefix-file-3
+array-share-prefix-file-3 c = search needs
+
+slice-aggregate-show-9 : tie.Need-slice-aggregate-show-9
+slice-aggregate-show-9 c = simp (length-take, length-set) (omega arith)
+
+slice-aggregate-show-10 : tie.Need-slice-aggregate-show-10
+slice-aggregate-show-10 c = search needs
+
+slice-aggregate-show-11 : tie.Need-slice-aggregate-show-11
+slice-aggregate-show-11 c = search needs
+
+slice-aggregate-show-12 : tie.Need-slice-aggregate-show-12
+slice-aggregate-show-12 c = search needs
+
+show-requires-3 : tie.Need-show-requires-3
+show-requires-3 c κs = search needs
+
 returns : tie.Need-returns
 returns c = search needs
 
@@ -75,5 +99,13 @@ main-spec =
     slice-aggregate-show-7
     slice-aggregate-show-8
     show-requires-2
+    array-write-file
+    array-write-file-2
+    array-share-prefix-file-3
+    slice-aggregate-show-9
+    slice-aggregate-show-10
+    slice-aggregate-show-11
+    slice-aggregate-show-12
+    show-requires-3
     returns
     returns-2)

@@ -1,5 +1,5 @@
 // Orients a few small meshes in a dirty work room. A line has how many faces were exchanged, how many components are at odds, and then the room of the
-// faces. The file stdout says what they must be.
+// faces. The next has 1 where each directed edge is found to be used at most once then, else 0. The file stdout says what they must be.
 ghost use Rattle.orient_consistently_try.specs.Asks.{RunAsks};
 
 // Orients n faces over a number of points, and writes what comes of it.
@@ -11,9 +11,13 @@ fn run(faces: &mut [u32], n: usize, count: usize)
     show::number(turned.reoriented as u64);
     show::number(turned.components as u64);
     show::row(faces, faces.len());
+    let settled = orient_consistently::settle(faces, n, count, &mut work);
+    show::number(settled.single as u64);
+    show::end_line();
 }
 
-// Two faces that agree; two that do not, and two entries behind them; three on one edge; a strip with a twist; faces that repeat corners.
+// Two faces that agree; two that do not, and two entries behind them; three on one edge; a strip with a twist; faces that repeat corners;
+// three on one edge, that first walk it from its higher to its lower end; three in a row, of which the second is reached through the third.
 fn main() {
     let mut agree = [0, 1, 2, 2, 1, 3];
     run(&mut agree, 2, 4);
@@ -25,4 +29,8 @@ fn main() {
     run(&mut twist, 5, 5);
     let mut repeats = [0, 0, 1, 2, 3, 3, 1, 0, 2];
     run(&mut repeats, 3, 4);
+    let mut down = [1, 0, 2, 1, 0, 3, 1, 0, 4];
+    run(&mut down, 3, 5);
+    let mut later = [0, 1, 2, 3, 2, 4, 1, 2, 3];
+    run(&mut later, 3, 5);
 }

@@ -36,6 +36,18 @@ slice-aggregate-run-5 c = search needs
 run-requires-5 : tie.Need-run-requires-5
 run-requires-5 c κs = ready _ 3 4 (lit≤ tt) (lit≤ tt) (lit≤ tt) refl
 
+slice-aggregate-run-6 : tie.Need-slice-aggregate-run-6
+slice-aggregate-run-6 c = search needs
+
+run-requires-6 : tie.Need-run-requires-6
+run-requires-6 c κs = ready _ 3 5 (lit≤ tt) (lit≤ tt) (lit≤ tt) refl
+
+slice-aggregate-run-7 : tie.Need-slice-aggregate-run-7
+slice-aggregate-run-7 c = search needs
+
+run-requires-7 : tie.Need-run-requires-7
+run-requires-7 c κs = ready _ 3 5 (lit≤ tt) (lit≤ tt) (lit≤ tt) refl
+
 returns : tie.Need-returns
 returns c = search needs
 
@@ -53,4 +65,8 @@ main-spec =
     run-requires-4
     slice-aggregate-run-5
     run-requires-5
+    slice-aggregate-run-6
+    run-requires-6
+    slice-aggregate-run-7
+    run-requires-7
     returns)

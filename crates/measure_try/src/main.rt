@@ -1,7 +1,10 @@
 // Values of the float rules, checked against recorded bits: proved, by antt's own run of the rules, and run.
+use measure::Form;
 ghost use mathlib.Core.Path.{_≡_};
 ghost use mathlib.Core.Bool.{false};
 ghost use lib.Ieee.{binary64, toBits, isNan};
+ghost use Rattle.measure.specs.Measure.{shapeOf};
+ghost use Rattle.measure_try.specs.Forms.{repeats};
 
 // 2^100, the largest coordinate.
 const FAR: f64 = 1267650600228229401496703205376.0;
@@ -13,6 +16,17 @@ fn same(x: f64, bits: u64)
     check::expect(f64::to_bits(x) == bits);
 }
 
+// Whether the degeneracy test found two corners equal.
+fn repeated(form: Form) -> bool
+    ensures { λ r. ⌜ r ≡ repeats (shapeOf form) ⌝ }
+{
+    match form {
+        Form::Good => false,
+        Form::Repeated => true,
+        Form::Thin => false,
+    }
+}
+
 // The unit legs: with s = 1 the face is degenerate, with the f64 just below 1 it isn't.
 fn unit_legs() {
     let points = [0.0, 0.0, 0.0, 1.0, 0.0, 0.0, 0.0, 1.0, 0.0];
@@ -22,6 +36,15 @@ fn unit_legs() {
     check::expect(measure::degenerate(&points, 1.0, 0, 1, 2));
     check::expect(!measure::degenerate(&points, 0.9999999999999999, 0, 1, 2));
     check::expect(measure::degenerate(&points, 0.0, 0, 1, 0));
+}
+
+// Of the unit legs: any two corners are compared, a repeated corner wins, and a thin face repeats none.
+fn forms() {
+    let points = [0.0, 0.0, 0.0, 1.0, 0.0, 0.0, 0.0, 1.0, 0.0];
+    check::expect(repeated(measure::shape(&points, 1.0, 0, 0, 1)));
+    check::expect(repeated(measure::shape(&points, 1.0, 1, 0, 0)));
+    check::expect(repeated(measure::shape(&points, 1.0, 0, 1, 0)));
+    check::expect(!repeated(measure::shape(&points, 1.0, 0, 1, 2)));
 }
 
 // Three sides of different length, no coordinate exact.
@@ -53,6 +76,7 @@ fn close_by() {
 
 fn main() {
     unit_legs();
+    forms();
     scalene();
     far_apart();
     close_by();

@@ -1,11 +1,14 @@
-// Writes what each function of `rows` and of `sorting` makes of small rows. The file stdout says what it must be.
+// Writes what each function of `rows`, of `wiping` and of `sorting` makes of small rows. The file stdout says what it must be.
 ghost use mathlib.Core.Path.{_≡_};
 ghost use lib.ListN.{length};
 ghost use Rattle.sorting.specs.Sort.{SortAsks};
 ghost use Rattle.sorting.specs.Order.{OrderTriplesAsks};
 
-// The whole number below 100 that x equals, and 100 where there is none.
+// The whole number below 100 that x equals, and 100 where there is none, or where x is -0.
 fn whole(x: f64) -> u64 {
+    if 1.0 / x < 0.0 {
+        return 100;
+    }
     let mut n = 0;
     let mut y = 0.0;
     while n < 100 {
@@ -109,6 +112,26 @@ fn regions(work: &mut [u32])
     show::row(work, work.len());
 }
 
+// Whether the first entries are all 0, of one, two and three; then a region made zero.
+fn wiped(work: &mut [u32])
+    requires { ⌜ length (now work) ≡ 6 ⌝ }
+{
+    show::number(wiping::is_zero(work, 1) as u64);
+    show::number(wiping::is_zero(work, 2) as u64);
+    show::number(wiping::is_zero(work, 3) as u64);
+    wiping::wipe(work, 1, 4);
+    show::row(work, work.len());
+}
+
+// A region of floats, all -0, made +0.
+fn wiped_points(points: &mut [f64])
+    requires { ⌜ length (now points) ≡ 7 ⌝ }
+{
+    show_points(points);
+    wiping::wipe_points(points, 1, 5);
+    show_points(points);
+}
+
 // Faces by flags: those that stay, and the number that each has then.
 fn faces(faces: &mut [u32], work: &mut [u32])
     requires { ⌜ length (now faces) ≡ 13 ⌝ }
@@ -141,6 +164,10 @@ fn main() {
     by_number();
     let mut row = [1, 2, 3, 4, 5, 6, 7, 8, 9, 10, 11, 12];
     regions(&mut row);
+    let mut room = [0, 0, 5, 0, 3, 2];
+    wiped(&mut room);
+    let mut negative = [-0.0, -0.0, -0.0, -0.0, -0.0, -0.0, -0.0];
+    wiped_points(&mut negative);
     let mut corners = [1, 2, 3, 4, 5, 6, 7, 8, 9, 10, 11, 12, 13];
     let mut work = [1, 0, 1, 0, 0, 1, 77, 77, 77, 77];
     faces(&mut corners, &mut work);

@@ -10,11 +10,14 @@ Inv-loop x n₀ y₀ n y = n ≤ 100
 abbrev μ-loop : tie.MeasureT-loop
 μ-loop x n₀ y₀ n y = 100 - n
 
+returns : tie.Need-returns Inv-loop μ-loop
+returns c = search needs
+
 loop-holds : tie.Need-loop-holds Inv-loop μ-loop
 loop-holds c = search needs
 
-returns : tie.Need-returns Inv-loop μ-loop
-returns c = search needs
+returns-2 : tie.Need-returns-2 Inv-loop μ-loop
+returns-2 c = search needs
 
 add-n : tie.Need-add-n Inv-loop μ-loop
 add-n c = search needs
@@ -25,9 +28,9 @@ loop-less c = search needs
 loop-again : tie.Need-loop-again Inv-loop μ-loop
 loop-again c = search needs
 
-returns-2 : tie.Need-returns-2 Inv-loop μ-loop
-returns-2 c = search needs
+returns-3 : tie.Need-returns-3 Inv-loop μ-loop
+returns-3 c = search needs
 
 pub whole-spec : {M : Type 1} → statement M
 whole-spec =
-    tie.close (tie.spec Inv-loop μ-loop loop-holds returns add-n loop-less loop-again returns-2)
+    tie.close (tie.spec Inv-loop μ-loop returns loop-holds returns-2 add-n loop-less loop-again returns-3)

@@ -1,6 +1,8 @@
 // Runs real values through both ways to the verdict of the edge call. A line has the verdict from the faces, the verdict from the table, and the
-// third row as it then stands: where it is fine, the vertex to which the boundary goes on from each, and the number of points where it does not.
+// third row as it then stands: where it is fine, the vertex to which the boundary goes on from each, and the number of points where it does not. Of
+// more than 4096 faces, which are taken a window of vertices at a time, it has the verdict from the faces alone.
 use refuse::Verdict;
+ghost use mathlib.Core.Path.{_≡_};
 ghost use lib.ListN.{length};
 ghost use Rattle.edge_check_refusal.specs.Checks.{CheckAccepted};
 
@@ -70,8 +72,56 @@ fn split_ones() {
     run(2, &[0, 1, 2]);
 }
 
+// The verdict from the faces alone.
+fn from_faces(count: usize, faces: &[u32]) {
+    match edge_check_refusal::edge_check_refusal(count, faces, 4294967295) {
+        Verdict::Fine => {
+            show(verdict::edge_verdict(count, faces));
+            show::end_line();
+        }
+        Verdict::Refused(_, _) => {
+            io::write_all(1, b"refused before\n");
+        }
+    }
+}
+
+// A fan of 2049 faces around point 0, where that stands already, and then 2052 times a face of point 2.
+fn fan(faces: &mut [u32])
+    requires { ⌜ length (now faces) ≡ 12303 ⌝ }
+{
+    let mut i = 0;
+    while i < 2049 {
+        faces[3 * i + 1] = (i + 3) as u32;
+        faces[3 * i + 2] = (i + 4) as u32;
+        i += 1;
+    }
+    while i < 4101 {
+        faces[3 * i] = 2;
+        faces[3 * i + 1] = 3;
+        faces[3 * i + 2] = 4;
+        i += 1;
+    }
+}
+
+// 7: points 0 and 2 have more corners than a window takes in, and an edge of point 1 occurs three times, after one that begins and one that ends there.
+fn many_ones() {
+    let mut faces = [0; 12303];
+    fan(&mut faces);
+    faces[12294] = 1;
+    faces[12295] = 3;
+    faces[12296] = 5;
+    faces[12297] = 1;
+    faces[12298] = 5;
+    faces[12299] = 4;
+    faces[12300] = 1;
+    faces[12301] = 5;
+    faces[12302] = 6;
+    from_faces(2053, &faces);
+}
+
 fn main() {
     fine_ones();
     crowded_ones();
     split_ones();
+    many_ones();
 }

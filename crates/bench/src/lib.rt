@@ -3,7 +3,7 @@ ghost use mathlib.Core.Path.{_≡_};
 ghost use Rattle.root.specs.Root.{rootOf};
 ghost use Rattle.rules.specs.Mesh.{pointsOf};
 ghost use Rattle.rules.specs.Float as rule;
-ghost use Rattle.measure.specs.Measure.{faceOf, Corners};
+ghost use Rattle.measure.specs.Measure.{numberOf, faceOf, Corners};
 ghost use Rattle.flood.specs.Plan.{plan, FloodAsks};
 ghost use Rattle.flood.specs.Answers.{LabelGives};
 ghost use Rattle.table.specs.Table.{TableAsks, TableGives};
@@ -16,13 +16,13 @@ pub extern "C" fn bench_root(x: f64) -> f64
     root::root(x)
 }
 
-// The degeneracy test of a face.
+// The degeneracy test of a face: 0 good, 1 repeated, 2 thin.
 #[no_mangle]
-pub extern "C" fn bench_degenerate(points: &[f64], s: f64, a: u32, b: u32, c: u32) -> bool
+pub extern "C" fn bench_shape(points: &[f64], s: f64, a: u32, b: u32, c: u32) -> u32
     requires { ⌜ Corners (now points) a b c ⌝ }
-    ensures { λ r. ⌜ r ≡ rule.degenerate s (pointsOf (now (points .entry))) (faceOf a b c) ⌝ }
+    ensures { λ r. ⌜ r ≡ numberOf (rule.shape s (pointsOf (now (points .entry))) (faceOf a b c)) ⌝ }
 {
-    measure::degenerate(points, s, a, b, c)
+    measure::number(measure::shape(points, s, a, b, c))
 }
 
 // The table of a face list.

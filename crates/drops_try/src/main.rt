@@ -4,11 +4,12 @@ ghost use Rattle.leaving.specs.Pass.{FacesStand, PassAsks};
 ghost use Rattle.drop_duplicate_faces.specs.Keys.{taken};
 ghost use Rattle.drop_isolated_vertices.specs.Unused.{UnusedAsks};
 
-// Pass 1.
+// Pass 1: also how many of those that leave repeat a corner, before all else.
 fn degenerate(points: &[f64], s: f64, faces: &mut [u32], n: usize, work: &mut [u32])
     requires { ⌜ PassAsks n (now points) (now faces) n (now work) ⌝ }
 {
     let marked = drop_degenerate::mark(points, s, faces, n, work);
+    show::number(marked.found as u64);
     show::number(leaving::leave(faces, work, marked.at, n) as u64);
     show::row(faces, faces.len());
 }

@@ -24,17 +24,9 @@ standing-face xs n fit i h =
 pub standing-left : {marked : ℕ → Bool} {xs : List ℕ} {n : ℕ} {xs′ : List ℕ} {r : ℕ} → LeaveGives marked xs n xs′ r → standing xs′ r ≡ leave marked (standing xs n)
 standing-left {marked} {xs} {n} g = ap facesOf (g .faces) ∙ faces-flat (leave marked (standing xs n))
 
--- the state of the rules: the faces that stay, and n - r more at the pass's count
-pub dropped-state :
-    {marked : ℕ → Bool} {xs : List ℕ} {n : ℕ} {xs′ : List ℕ} {r : ℕ} (c : Count) (ps : List Point) (report : List ℕ)
-    → 3 * n ≤ length xs → LeaveGives marked xs n xs′ r
-    → record { points = ps; faces = standing xs′ r; report = more c (n - r) report } ≡ dropped c marked (record { points = ps; faces = standing xs n; report = report })
-unfolding dropped counted with-faces
-dropped-state {marked} {xs} {n} {xs′} {r} c ps report fit g =
-    let l = length-faces-take xs n fit in
-    let k : n - r ≡ count marked (below (length (standing xs n))) = rw l (omega (arith, g .number)) in
-    let b = standing-left g in
-    λ i. record { points = ps; faces = b i; report = more c (k i) report }
+-- as many have left as were marked
+pub left-number : {marked : ℕ → Bool} {xs : List ℕ} {n : ℕ} {xs′ : List ℕ} {r : ℕ} → 3 * n ≤ length xs → LeaveGives marked xs n xs′ r → n - r ≡ count marked (below (length (standing xs n)))
+left-number {marked} {xs} {n} fit g = rw (length-faces-take xs n fit) (omega (arith, g .number))
 
 -- the corners of the faces that stand are of the P points
 standing-inside : {taken P : ℕ} {xs : List ℕ} {n : ℕ} {w : List ℕ} → FacesStand taken P xs n w → All (λ f. All (λ v. v < P) (corners f)) (standing xs n)

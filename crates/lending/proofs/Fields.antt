@@ -13,7 +13,7 @@ use prog.Memory.{fieldOf}
 use denote.Laws.{Is}
 use denote.Builtin.{usize}
 use denote.Struct.Laws as LL
-use Rattle.rules.specs.State.{Count, place, more, degenerates, duplicates, crowded-edges, dropped-at-edges, dropped-for-direction, vertices-split, points-added, reoriented, components, isolated}
+use Rattle.rules.specs.State.{Count, place, more, repeateds, thins, duplicates, crowded-edges, dropped-at-edges, dropped-for-direction, vertices-split, points-added, reoriented, components, isolated}
 use Rattle.rules.proofs.Counts.{place-below}
 use Rattle.lending.specs.declared.Report.{Report}
 use Rattle.lending.specs.Reports.{countsOf, added}
@@ -25,7 +25,8 @@ use Rattle.lending.proofs.Thin.{words, fieldsOf, mach, Field, Part, Add
 -- the field of a count lies at its place, each of eight bytes
 pub lies-at : (c : Count) → fieldOf T′.mir (place c) ≡ just (tyInt w64, 8 * place c)
 unfolding place
-lies-at degenerates = refl
+lies-at repeateds = refl
+lies-at thins = refl
 lies-at duplicates = refl
 lies-at crowded-edges = refl
 lies-at dropped-at-edges = refl
@@ -92,7 +93,7 @@ fieldAt c =
       made = made-more c;
     }
 
--- the faces or points that left, the edges, components or vertices at fault, the faces or points that were turned or added
+-- the faces or points that left, the repeated faces or the edges, components or vertices at fault, the faces or points that were turned or added
 abbrev pub dropped : Part
 dropped = record { k = 2; d = 16; get = λ r. r .dropped; lies = refl; got = λ r. refl }
 

@@ -9,7 +9,7 @@ use Rattle.rows.specs.Region.{OnlyOf, Only}
 use Rattle.rows.proofs.Regions.{only-none, only-both, only-more}
 use Rattle.rules.specs.Repair.{optional, bit, passes}
 use Rattle.rules.specs.Rooms.{work-room}
-use Rattle.rules.specs.State.{State, report-counts, place, more, degenerates, duplicates, crowded-edges, dropped-at-edges, dropped-for-direction, vertices-split, points-added, reoriented, components, isolated}
+use Rattle.rules.specs.State.{State, report-counts, place, more, repeateds, thins, duplicates, crowded-edges, dropped-at-edges, dropped-for-direction, vertices-split, points-added, reoriented, components, isolated}
 use Rattle.rules.specs.Pass1 as one
 use Rattle.rules.specs.Pass2 as two
 use Rattle.rules.specs.Pass3 as three
@@ -146,22 +146,22 @@ module _ {m₀ : Lists} (a : Stands (stated m₀) m₀) where
 
     -- before each later one what the last one left stands, and until pass 5 as many points as were given
     abbrev pub At2 : Passed → Report → List Float → List ℕ → List ℕ → Type 0
-    At2 x h ps xs w = (x .points ≡ m₀ .p) × Going after1 (1 + K) m₀ h (leftBy x ps xs w)
+    At2 x h ps xs w = (x .points ≡ m₀ .p) × Going after1 (1 + K + K) m₀ h (leftBy x ps xs w)
 
     abbrev pub At3 : Passed → Report → List Float → List ℕ → List ℕ → Type 0
-    At3 x h ps xs w = (x .points ≡ m₀ .p) × Going after2 (1 + K + K) m₀ h (leftBy x ps xs w)
+    At3 x h ps xs w = (x .points ≡ m₀ .p) × Going after2 (1 + K + K + K) m₀ h (leftBy x ps xs w)
 
     abbrev pub At4 : Passed → Report → List Float → List ℕ → List ℕ → Type 0
-    At4 x h ps xs w = (x .points ≡ m₀ .p) × Going after3 (1 + K + K + K + K) m₀ h (leftBy x ps xs w)
+    At4 x h ps xs w = (x .points ≡ m₀ .p) × Going after3 (1 + K + K + K + K + K) m₀ h (leftBy x ps xs w)
 
     abbrev pub At5 : Passed → Report → List Float → List ℕ → List ℕ → Type 0
-    At5 x h ps xs w = (x .points ≡ m₀ .p) × Going after4 (1 + K + K + K + K + K + K + K) m₀ h (leftBy x ps xs w)
+    At5 x h ps xs w = (x .points ≡ m₀ .p) × Going after4 (1 + K + K + K + K + K + K + K + K) m₀ h (leftBy x ps xs w)
 
     abbrev pub At6 : Passed → Report → List Float → List ℕ → List ℕ → Type 0
-    At6 x h ps xs w = Going after5 (1 + K + K + K + K + K + K + K + K + K) m₀ h (leftBy x ps xs w)
+    At6 x h ps xs w = Going after5 (1 + K + K + K + K + K + K + K + K + K + K) m₀ h (leftBy x ps xs w)
 
     abbrev pub At7 : Passed → Report → List Float → List ℕ → List ℕ → Type 0
-    At7 x h ps xs w = Going after6 (1 + K + K + K + K + K + K + K + K + K + K) m₀ h (leftBy x ps xs w)
+    At7 x h ps xs w = Going after6 (1 + K + K + K + K + K + K + K + K + K + K + K) m₀ h (leftBy x ps xs w)
 
     module _ {h : Report} {ps : List Float} {xs w : List ℕ} where
       -- each pass may start
@@ -186,47 +186,47 @@ module _ {m₀ : Lists} (a : Stands (stated m₀) m₀) where
       module _ {h′ : Report} {ps′ : List Float} {xs′ w′ : List ℕ} {r : Passed} where
         -- and leaves what the next one starts from
 
-        pub next1 : At1 h ps xs w → Pass1 o s (lists ps (m₀ .p) xs (m₀ .n) w) (leftBy r ps′ xs′ w′) r × (h′ ≡ added degenerates (r .dropped) h) → At2 r h′ ps′ xs′ w′
+        pub next1 : At1 h ps xs w → Pass1 o s (lists ps (m₀ .p) xs (m₀ .n) w) (leftBy r ps′ xs′ w′) r × (h′ ≡ added thins (r .dropped) (added repeateds (r .found) h)) → At2 r h′ ps′ xs′ w′
         unfolding more place work-room
         next1 v e =
             let g = e .0 in
             let k = most-added v in
-            (omega (arith, g .not-below, g .not-above), turn v g (ap countsOf (e .1)) (subst (CountsBelow (1 + K)) (sym (e .1)) (grows degenerates (omega (arith, g .few-dropped)) (v .few))) (omega (arith)) (omega (arith)))
+            (omega (arith, g .not-below, g .not-above), turn v g (ap countsOf (e .1)) (subst (CountsBelow (1 + K + K)) (sym (e .1)) (grows thins (omega (arith, g .few-dropped)) (grows repeateds (omega (arith, g .few-found)) (v .few)))) (omega (arith)) (omega (arith)))
 
         pub next2 : (x : Passed) → At2 x h ps xs w → Pass2 o s (leftBy x ps xs w) (leftBy r ps′ xs′ w′) r × (h′ ≡ added duplicates (r .dropped) h) → At3 r h′ ps′ xs′ w′
         unfolding more place work-room
         next2 x v e =
             let g = e .0 in
             let k = most-added (v .1) in
-            (omega (arith, g .not-below, g .not-above, v .0), turn (v .1) g (ap countsOf (e .1)) (subst (CountsBelow (1 + K + K)) (sym (e .1)) (grows duplicates (omega (arith, g .few-dropped)) (v .1 .few))) (omega (arith, v .0, v .1 .faces-fit)) (omega (arith, v .0, v .1 .faces-fit)))
+            (omega (arith, g .not-below, g .not-above, v .0), turn (v .1) g (ap countsOf (e .1)) (subst (CountsBelow (1 + K + K + K)) (sym (e .1)) (grows duplicates (omega (arith, g .few-dropped)) (v .1 .few))) (omega (arith, v .0, v .1 .faces-fit)) (omega (arith, v .0, v .1 .faces-fit)))
 
         pub next3 : (x : Passed) → At3 x h ps xs w → Pass3 o s (leftBy x ps xs w) (leftBy r ps′ xs′ w′) r × (h′ ≡ added dropped-at-edges (r .dropped) (added crowded-edges (r .found) h)) → At4 r h′ ps′ xs′ w′
         unfolding more place work-room
         next3 x v e =
             let g = e .0 in
             let k = most-added (v .1) in
-            (omega (arith, g .not-below, g .not-above, v .0), turn (v .1) g (ap countsOf (e .1)) (subst (CountsBelow (1 + K + K + K + K)) (sym (e .1)) (grows dropped-at-edges (omega (arith, g .few-dropped)) (grows crowded-edges (omega (arith, g .few-found)) (v .1 .few)))) (omega (arith, v .0, v .1 .faces-fit)) (omega (arith, v .0, v .1 .faces-fit)))
+            (omega (arith, g .not-below, g .not-above, v .0), turn (v .1) g (ap countsOf (e .1)) (subst (CountsBelow (1 + K + K + K + K + K)) (sym (e .1)) (grows dropped-at-edges (omega (arith, g .few-dropped)) (grows crowded-edges (omega (arith, g .few-found)) (v .1 .few)))) (omega (arith, v .0, v .1 .faces-fit)) (omega (arith, v .0, v .1 .faces-fit)))
 
         pub next4 : (x : Passed) → At4 x h ps xs w → Pass4 o s (leftBy x ps xs w) (leftBy r ps′ xs′ w′) r × (h′ ≡ added dropped-for-direction (r .dropped) (added components (r .found) (added reoriented (r .changed) h))) → At5 r h′ ps′ xs′ w′
         unfolding more place work-room
         next4 x v e =
             let g = e .0 in
             let k = most-added (v .1) in
-            (omega (arith, g .not-below, g .not-above, v .0), turn (v .1) g (ap countsOf (e .1)) (subst (CountsBelow (1 + K + K + K + K + K + K + K)) (sym (e .1)) (grows dropped-for-direction (omega (arith, g .few-dropped)) (grows components (omega (arith, g .few-found)) (grows reoriented (omega (arith, g .few-changed)) (v .1 .few))))) (omega (arith, v .0, v .1 .faces-fit)) (omega (arith, v .0, v .1 .faces-fit)))
+            (omega (arith, g .not-below, g .not-above, v .0), turn (v .1) g (ap countsOf (e .1)) (subst (CountsBelow (1 + K + K + K + K + K + K + K + K)) (sym (e .1)) (grows dropped-for-direction (omega (arith, g .few-dropped)) (grows components (omega (arith, g .few-found)) (grows reoriented (omega (arith, g .few-changed)) (v .1 .few))))) (omega (arith, v .0, v .1 .faces-fit)) (omega (arith, v .0, v .1 .faces-fit)))
 
         pub next5 : (x : Passed) → At5 x h ps xs w → Pass5 o s (leftBy x ps xs w) (leftBy r ps′ xs′ w′) r × (h′ ≡ added points-added (r .changed) (added vertices-split (r .found) h)) → At6 r h′ ps′ xs′ w′
         unfolding more place work-room
         next5 x v e =
             let g = e .0 in
             let k = most-added (v .1) in
-            turn (v .1) g (ap countsOf (e .1)) (subst (CountsBelow (1 + K + K + K + K + K + K + K + K + K)) (sym (e .1)) (grows points-added (omega (arith, g .few-changed)) (grows vertices-split (omega (arith, g .few-found)) (v .1 .few)))) (omega (arith, v .0, v .1 .faces-fit)) (omega (arith, v .0, v .1 .faces-fit))
+            turn (v .1) g (ap countsOf (e .1)) (subst (CountsBelow (1 + K + K + K + K + K + K + K + K + K + K)) (sym (e .1)) (grows points-added (omega (arith, g .few-changed)) (grows vertices-split (omega (arith, g .few-found)) (v .1 .few)))) (omega (arith, v .0, v .1 .faces-fit)) (omega (arith, v .0, v .1 .faces-fit))
 
         pub next6 : (x : Passed) → At6 x h ps xs w → Pass6 o s (leftBy x ps xs w) (leftBy r ps′ xs′ w′) r × (h′ ≡ added isolated (r .dropped) h) → At7 r h′ ps′ xs′ w′
         unfolding more place work-room
         next6 x v e =
             let g = e .0 in
             let k = most-added v in
-            turn v g (ap countsOf (e .1)) (subst (CountsBelow (1 + K + K + K + K + K + K + K + K + K + K)) (sym (e .1)) (grows isolated (omega (arith, g .few-dropped)) (v .few))) (omega (arith, v .points-fit)) (omega (arith, v .points-fit))
+            turn v g (ap countsOf (e .1)) (subst (CountsBelow (1 + K + K + K + K + K + K + K + K + K + K + K)) (sym (e .1)) (grows isolated (omega (arith, g .few-dropped)) (v .few))) (omega (arith, v .points-fit)) (omega (arith, v .points-fit))
 
       -- after the last one the rules' passes are done
       pub ends : (x : Passed) → At7 x h ps xs w → TurnsGive s o m₀ (leftBy x ps xs w) (record { points = x .points; faces = x .faces; report = h })

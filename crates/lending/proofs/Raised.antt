@@ -6,7 +6,7 @@ use native.Mathlib.Decide.{ℕ-discrete}
 use native.Mathlib.Omega.{arith}
 use lib.ListN.{getD, set, getD-replicate}
 use lib.Seq.{getD-set-same, getD-set-other}
-use Rattle.rules.specs.State.{Count, report-counts, place, more, degenerates, duplicates, crowded-edges, dropped-at-edges, dropped-for-direction, vertices-split, points-added, reoriented, components, isolated}
+use Rattle.rules.specs.State.{Count, report-counts, place, more, repeateds, thins, duplicates, crowded-edges, dropped-at-edges, dropped-for-direction, vertices-split, points-added, reoriented, components, isolated}
 use Rattle.rules.proofs.Counts.{place-below}
 use Rattle.lending.specs.declared.Report.{Report}
 use Rattle.lending.specs.Reports.{empty, added, countsOf, CountsBelow}
@@ -14,7 +14,8 @@ use Rattle.lending.specs.Reports.{empty, added, countsOf, CountsBelow}
 -- more at a count is more in the list, whichever it is
 pub counts-added : (c : Count) (k : ℕ) (h : Report) → countsOf (added c k h) ≡ more c k (countsOf h)
 unfolding more place
-counts-added degenerates k h = refl
+counts-added repeateds k h = refl
+counts-added thins k h = refl
 counts-added duplicates k h = refl
 counts-added crowded-edges k h = refl
 counts-added dropped-at-edges k h = refl

@@ -2,7 +2,7 @@
 -- Assumes nothing.
 use mathlib.Core.List.{List, [], _∷_}
 use Prim.Native.Nat.{ℕ, _+_, _-_, _*_, _^_, _≤_}
-use Rattle.rules.specs.State.{place, more, degenerates, duplicates, crowded-edges, dropped-at-edges, dropped-for-direction, vertices-split, points-added, reoriented, components, isolated}
+use Rattle.rules.specs.State.{place, more, repeateds, thins, duplicates, crowded-edges, dropped-at-edges, dropped-for-direction, vertices-split, points-added, reoriented, components, isolated}
 use Rattle.passes.specs.Passing.{Lists, stated, Stands, StandsLast, Pass1, Pass2, Pass3, Pass4, Pass5, Pass6}
 use Rattle.passes.specs.declared.Passed.{Passed}
 use Rattle.lending.specs.declared.Report.{Report}
@@ -15,16 +15,25 @@ use Rattle.lending.proofs.Raised.{fits}
 abbrev pub Ready : Report → Lists → Type 0
 Ready h m = Stands (stated m) m × CountsBelow (2 ^ 64 - (m .p + 3 * m .n)) h
 
+-- what pass 1 adds
+abbrev pub adds1 : List Add
+adds1 = adding repeateds found ∷ adding thins dropped ∷ []
+
+-- each sum fits, since no count is added to twice
+pub fit1 : (h : Report) (r : Passed) {m : ℕ} → CountsBelow (2 ^ 64 - m) h → r .found ≤ m → r .dropped ≤ m → fitAll adds1 h r
+unfolding more place
+fit1 h r b f d = (fits repeateds b f, (fits thins b d, tt))
+
 -- pass 1
 abbrev pub pass1 : Pass
 pass1 =
     record {
-      adds = adding degenerates dropped ∷ [];
+      adds = adds1;
       Req = Ready;
       ReqG = λ m. Stands (stated m) m;
       Ens = Pass1;
       ready = λ h m req. req .0;
-      sums = λ h options s m m′ r req e. (fits degenerates (req .1) (e .few-dropped), tt);
+      sums = λ h options s m m′ r req e. fit1 h r (req .1) (e .few-found) (e .few-dropped);
     }
 
 -- pass 2

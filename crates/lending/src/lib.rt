@@ -2,14 +2,15 @@
 use passes::Passed;
 ghost use mathlib.Core.Path.{_≡_};
 ghost use Prim.Native.Nat.{_+_, _-_, _*_, _^_};
-ghost use Rattle.rules.specs.State.{degenerates, duplicates, crowded-edges, dropped-at-edges, dropped-for-direction, vertices-split, points-added, reoriented, components, isolated};
+ghost use Rattle.rules.specs.State.{repeateds, thins, duplicates, crowded-edges, dropped-at-edges, dropped-for-direction, vertices-split, points-added, reoriented, components, isolated};
 ghost use Rattle.passes.specs.Passing.{lists, stated, Stands, StandsLast, Pass1, Pass2, Pass3, Pass4, Pass5, Pass6};
 ghost use Rattle.lending.specs.Reports.{empty, added, CountsBelow};
 ghost use Rattle.lending.specs.Mended.{TurnsGive, MendAsks, MendGives};
 
 // An account of everything that a repair changed.
 pub struct Report {
-    pub degenerate_removed: usize,
+    pub repeated_removed: usize,
+    pub thin_removed: usize,
     pub duplicate_faces_removed: usize,
     pub nonmanifold_edges: usize,
     pub faces_dropped_at_nonmanifold: usize,
@@ -33,7 +34,8 @@ fn new() -> Report
     ensures { λ r. ⌜ r ≡ empty ⌝ }
 {
     Report {
-        degenerate_removed: 0,
+        repeated_removed: 0,
+        thin_removed: 0,
         duplicate_faces_removed: 0,
         nonmanifold_edges: 0,
         faces_dropped_at_nonmanifold: 0,
@@ -46,7 +48,7 @@ fn new() -> Report
     }
 }
 
-// Pass 1: degenerate faces leave, and are added to the lent report.
+// Pass 1: degenerate faces leave; those that repeat a corner, and those that are thin, are added to the lent report.
 pub fn drop_degenerate(
     report: &mut Report,
     options: u32,
@@ -65,11 +67,12 @@ pub fn drop_degenerate(
         (let before = lists (now (points .entry)) p (now (faces .entry)) n (now (work .entry)) in
         let after = lists (now (points .exit)) (r .points) (now (faces .exit)) (r .faces) (now (work .exit)) in
         Pass1 options s before after r
-        × (now (report .exit) ≡ added degenerates (r .dropped) (now (report .entry))))
+        × (now (report .exit) ≡ added thins (r .dropped) (added repeateds (r .found) (now (report .entry)))))
         ⌝ }
 {
     let r = passes::pass1(options, s, points, p, faces, n, work);
-    report.degenerate_removed = report.degenerate_removed + r.dropped;
+    report.repeated_removed = report.repeated_removed + r.found;
+    report.thin_removed = report.thin_removed + r.dropped;
     r
 }
 

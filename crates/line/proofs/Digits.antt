@@ -27,8 +27,8 @@ last : (k n : ℕ) → 10 ≤ n → digits (suc k) n ≡ digits k (n / 10) ++ ((
 unfolding digits
 last k n h = rw (le-ltb n 10 h)
 
--- it is its tenth in decimal, and a digit
-pub decimal-more : (n : ℕ) → 10 ≤ n → n < 2 ^ 32 → decimal n ≡ decimal (n / 10) ++ ((48 + n % 10) ∷ [])
+-- one of at most ten digits is its tenth in decimal, and a digit
+pub decimal-more : (n : ℕ) → 10 ≤ n → n < 10 ^ 10 → decimal n ≡ decimal (n / 10) ++ ((48 + n % 10) ∷ [])
 unfolding decimal
 decimal-more n h b = last 9 n h ∙ ap (λ (z : List ℕ). z ++ ((48 + n % 10) ∷ [])) (sym (enough 8 (n / 10) (omega arith)))
 
@@ -54,17 +54,21 @@ module _ {w : List ℕ} {at n : ℕ} (p : NumberAsks w at n) where
   pub one-asks : n < 10 → DigitAsks w at n
   one-asks h = record { digit = h; room = omega (arith, ap length (decimal-one n h)) }
 
-  module _ (h : 10 ≤ n) (b : n < 2 ^ 32) where
+  module _ (h : 10 ≤ n) where
+    -- a number of two digits or more is its tenth and its last digit
+    parted : decimal n ≡ decimal (n / 10) ++ ((48 + n % 10) ∷ [])
+    parted = decimal-more n h (p .short)
+
     -- the tenth is a byte shorter
     pub tenth-asks : NumberAsks w at (n / 10)
-    tenth-asks = omega (arith, simp length-append at (ap length (decimal-more n h b)))
+    tenth-asks = record { short = omega (arith, p .short); room = omega (arith, p .room, simp length-append at (ap length parted)) }
 
     -- the last digit has room behind it
     pub last-asks : {w′ : List ℕ} {mid : ℕ} → Puts w at (decimal (n / 10)) w′ mid → DigitAsks w′ mid (n % 10)
     last-asks q =
         let l = q .only .long in
-        record { digit = omega arith; room = omega (arith, q .ends, simp length-append at (ap length (decimal-more n h b))) }
+        record { digit = omega arith; room = omega (arith, p .room, q .ends, simp length-append at (ap length parted)) }
 
     -- the tenth and the last digit are the number
     pub number-done : {w′ w″ : List ℕ} {mid end : ℕ} → Puts w at (decimal (n / 10)) w′ mid → Puts w′ mid ((48 + n % 10) ∷ []) w″ end → Puts w at (decimal n) w″ end
-    number-done q r = rw (decimal-more n h b) (puts-both q r)
+    number-done q r = rw parted (puts-both q r)

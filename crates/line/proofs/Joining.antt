@@ -13,7 +13,7 @@ use lib.Dec.{eqb, ltb}
 use lib.ListN.{length, getD, take, length-append}
 use lib.Seq.{take-suc, take-all}
 use Rattle.rules.specs.Lists.{filter, all}
-use Rattle.rules.specs.Line.{bytes, labels, joined, part, line}
+use Rattle.rules.specs.Line.{bytes, labels, joined, part, ten-line}
 use Rattle.rules.proofs.Lists.{filter-append}
 use Rattle.line.specs.Put.{label-count, label, comma, more, shown, parts}
 
@@ -132,14 +132,14 @@ some-bytes [] h = absurd (h refl)
 some-bytes (e ∷ es) h = refl
 
 module _ (counts : List ℕ) (whole : length counts ≡ label-count) where
-  -- the line is the message where the counts give no bytes
-  pub line-clean : length (parts counts) ≡ 0 → line counts ≡ parts counts ++ clean
-  unfolding line parts labels
+  -- the line of ten is the message where they give no bytes
+  pub line-clean : length (parts counts) ≡ 0 → ten-line counts ≡ parts counts ++ clean
+  unfolding ten-line parts labels
   line-clean h =
       let r = no-bytes (shown (zip counts labels)) h in
       rw (all-nothing counts labels whole, r .0, r .1)
 
   -- and else it is their bytes
-  pub line-parts : (length (parts counts) ≡ 0 → ⊥) → line counts ≡ parts counts
-  unfolding line parts labels shown
+  pub line-parts : (length (parts counts) ≡ 0 → ⊥) → ten-line counts ≡ parts counts
+  unfolding ten-line parts labels shown
   line-parts h = rw (all-nothing counts labels whole, some-bytes (shown (zip counts labels)) h)

@@ -1,4 +1,4 @@
--- The whole line: the loop over the counts, the message where all are zero, and the room after an accepted call. Assumes nothing.
+-- The whole line: the loop over the labels, the message where all are zero, and the room after an accepted call. Assumes nothing.
 use mathlib.Core.Path.{_≡_, sym, ap, _∙_}
 use mathlib.Core.List.{List, _++_}
 use Prim.Native.Nat.{ℕ, _+_, _-_, _*_, _≤_, _<_}
@@ -11,7 +11,7 @@ use Rattle.refuse.proofs.Groups.{found-none}
 use Rattle.line_refusal.specs.Checks.{line-list, LineAccepted}
 use Rattle.line_refusal.proofs.Accept.{line-is, line-accepted}
 use Rattle.rules.specs.Lists.{filter}
-use Rattle.rules.specs.Line.{bytes, joined, line}
+use Rattle.rules.specs.Line.{bytes, joined, summed, line}
 use Rattle.rules.specs.Refusal.{ok, no, decided}
 use Rattle.rules.specs.Rooms.{filled, outcome}
 use Rattle.rules.specs.LineCall.{line-check, write-line}
@@ -20,18 +20,23 @@ use Rattle.line.specs.Put.{label-count, Puts, PartAsks, LineGives, more,
 use Rattle.line.proofs.Putting.{puts-none, puts-both, puts-front}
 use Rattle.line.proofs.Words.{more-short}
 use Rattle.line.proofs.Joining.{so-far, so-far-next, so-far-all, clean, line-clean, line-parts}
+use Rattle.line.proofs.Summed.{summed-long}
 
--- ---- the loop over the counts
+-- as many numbers are printed as there are labels
+printed : {counts : List ℕ} {room : ℕ} → LineAccepted counts room → length (summed counts) ≡ label-count
+printed {counts} p = omega (arith, p .whole, summed-long counts (omega (arith, p .whole)))
 
--- after k counts: their line stands in front, at most 42 bytes for each
+-- ---- the loop over the labels
+
+-- after k labels: the line of their numbers stands in front, at most 42 bytes for each
 pub record Kept (counts w₀ w : List ℕ) (at k : ℕ) : Type 0 where
   pub at-most : k ≤ label-count
-  pub puts : Puts w₀ 0 (so-far counts k) w at
+  pub puts : Puts w₀ 0 (so-far (summed counts) k) w at
   pub short : at ≤ 42 * k
 
--- what a turn needs: a count to read, and room for its part
+-- what a turn needs: a count behind to read, and room for its part
 pub record Turn (counts w : List ℕ) (at k : ℕ) : Type 0 where
-  pub count : k < length counts
+  pub count : k + 1 < length counts
   pub asks : PartAsks w at 42 k
 
 -- before the first turn the line is empty
@@ -40,42 +45,43 @@ unfolding shown filter joined
 begin p = record { at-most = omega arith; puts = puts-none (omega arith); short = omega arith }
 
 module _ {counts w₀ w : List ℕ} {at k : ℕ} (p : LineAccepted counts (length w₀)) (v : Kept counts w₀ w at k) where
-  -- 42 bytes for each count are below 512
+  -- 42 bytes for each label are below 512
   pub turn : k < label-count → Turn counts w at k
   turn h =
       let l = v .puts .only .long in
       record { count = omega (arith, p .whole); asks = record { label = h; room = omega (arith, v .short, p .room-line) } }
 
-  -- one count more goes on where the line ends
-  pub again : {w′ : List ℕ} {end : ℕ} → k < label-count → Puts w at (more at (getD counts k 0) k) w′ end → Kept counts w₀ w′ end (k + 1)
-  again {w′} {end} h q =
-      let e : at ≡ length (so-far counts k) = omega (arith, v .puts .ends) in
+  -- one number more goes on where the line ends
+  pub again : {w′ : List ℕ} {end n : ℕ} → k < label-count → n ≡ getD (summed counts) k 0 → Puts w at (more at n k) w′ end → Kept counts w₀ w′ end (k + 1)
+  again {w′} {end} {n} h s q =
+      let e : at ≡ length (so-far (summed counts) k) = omega (arith, v .puts .ends) in
       record {
         at-most = omega arith;
-        puts = rw (so-far-next counts (p .whole) k h, ← e) (puts-both (v .puts) q);
-        short = omega (arith, v .short, q .ends, more-short at (getD counts k 0) k h);
+        puts = rw (so-far-next (summed counts) (printed p) k h, ← e, ← s) (puts-both (v .puts) q);
+        short = omega (arith, v .short, q .ends, more-short at n k h);
       }
 
   -- after all labels it is the line of all
-  pub done : label-count ≤ k → LineGives w₀ (parts counts) w at
+  pub done : label-count ≤ k → LineGives w₀ (parts (summed counts)) w at
   done h =
       let e : k ≡ label-count = omega (arith, v .at-most) in
-      record { puts = rw (so-far-all counts (p .whole)) at (rw e at (v .puts)); short = omega (arith, v .short) }
+      record { puts = rw (so-far-all (summed counts) (printed p)) at (rw e at (v .puts)); short = omega (arith, v .short) }
 
 -- ---- the message where all are zero
 
-module _ {counts w w′ : List ℕ} {end : ℕ} (p : LineAccepted counts (length w)) (q : LineGives w (parts counts) w′ end) where
+module _ {counts w w′ : List ℕ} {end : ℕ} (p : LineAccepted counts (length w)) (q : LineGives w (parts (summed counts)) w′ end) where
   -- the line is the message, put in front
   pub clean-done : {w″ : List ℕ} {last : ℕ} → end ≡ 0 → Puts w′ 0 clean w″ last → LineGives w (line counts) w″ last
-  unfolding bytes
+  unfolding bytes line
   clean-done e r =
-      record { puts = rw (line-clean counts (p .whole) (omega (arith, q .puts .ends))) (puts-both (rw e at (q .puts)) r); short = omega (arith, r .ends) }
+      record { puts = rw (line-clean (summed counts) (printed p) (omega (arith, q .puts .ends))) (puts-both (rw e at (q .puts)) r); short = omega (arith, r .ends) }
 
   -- the line is the parts
   pub parts-done : (end ≡ 0 → ⊥) → LineGives w (line counts) w′ end
+  unfolding line
   parts-done h =
-      let n : length (parts counts) ≡ 0 → ⊥ = omega (arith, q .puts .ends) in
-      record { puts = rw (line-parts counts (p .whole) n) (q .puts); short = q .short }
+      let n : length (parts (summed counts)) ≡ 0 → ⊥ = omega (arith, q .puts .ends) in
+      record { puts = rw (line-parts (summed counts) (printed p) n) (q .puts); short = q .short }
 
 -- ---- the room
 

@@ -2,7 +2,7 @@
 use mathlib.Core.Path.{_≡_}
 use mathlib.Core.Bool.{Bool, true, false, cond}
 use mathlib.Core.List.{List, [], _∷_, _++_}
-use Prim.Native.Nat.{ℕ, _+_, _≤_, _<_}
+use Prim.Native.Nat.{ℕ, _+_, _^_, _≤_, _<_}
 use Prim.Native.String.{String}
 use native.Mathlib.Omega.{arith}
 use borrow.Author.Tests.{eq-eqb, ne-eqb}
@@ -45,8 +45,8 @@ label-short k h = all-at (λ (s : String). length (bytes s) ≤ 29) labels "" k 
 
 module _ {w : List ℕ} {at : ℕ} (n : ℕ) {k : ℕ} (p : PartAsks w at 40 k) where
   -- a number has at most ten bytes
-  pub number-asks : NumberAsks w at n
-  number-asks = record { room = omega (arith, p .room, decimal-short n) }
+  pub number-asks : n < 10 ^ 10 → NumberAsks w at n
+  number-asks h = record { short = h; room = omega (arith, p .room, decimal-short n) }
 
   module _ {w′ : List ℕ} {mid : ℕ} (q : Puts w at (decimal n) w′ mid) where
     -- the blank has room behind it

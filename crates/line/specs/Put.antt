@@ -2,7 +2,7 @@
 use mathlib.Core.Path.{_≡_}
 use mathlib.Core.Bool.{cond}
 use mathlib.Core.List.{List, [], _∷_, _++_, map, zip}
-use Prim.Native.Nat.{ℕ, _+_, _≤_, _<_}
+use Prim.Native.Nat.{ℕ, _+_, _^_, _≤_, _<_}
 use Prim.Native.String.{String}
 use lib.Dec.{eqb, ltb}
 use lib.ListN.{length, getD}
@@ -25,8 +25,9 @@ pub record DigitAsks (w : List ℕ) (at n : ℕ) : Type 0 where
   pub digit : n < 10
   pub room : at < length w
 
--- room for a number in decimal
+-- a number of at most ten digits, and room for it in decimal
 pub record NumberAsks (w : List ℕ) (at n : ℕ) : Type 0 where
+  pub short : n < 10 ^ 10
   pub room : at + length (rule.decimal n) ≤ length w
 
 -- how many labels there are

@@ -2,8 +2,8 @@
 use refuse::Verdict;
 ghost use mathlib.Core.Path.{_≡_};
 ghost use mathlib.Core.List.{[], _∷_};
-ghost use Prim.Native.Nat.{_+_, _≤_};
-ghost use lib.ListN.{length, replicate};
+ghost use Prim.Native.Nat.{_+_, _^_, _≤_, _<_};
+ghost use lib.ListN.{length, getD, replicate};
 ghost use Rattle.line_refusal.specs.Checks.{LineAccepted};
 ghost use Rattle.rules.specs.Line as rule;
 ghost use Rattle.rules.specs.LineCall.{write-line};
@@ -44,7 +44,7 @@ fn put_zeros(line: &mut [u8], at: usize, n: usize)
 }
 
 // Puts the digit of a number below ten into the line, at `at`. Returns where the line goes on.
-fn put_digit(line: &mut [u8], at: usize, n: u32) -> usize
+fn put_digit(line: &mut [u8], at: usize, n: u64) -> usize
     requires { ⌜ by.DigitAsks (now line) at n ⌝ }
     ensures { λ r. ⌜ by.Puts (now (line .entry)) at ((48 + n) ∷ []) (now (line .exit)) r ⌝ }
 {
@@ -52,8 +52,8 @@ fn put_digit(line: &mut [u8], at: usize, n: u32) -> usize
     at + 1
 }
 
-// Puts a number in decimal, with no leading zeros. Returns where the line goes on.
-pub fn put_number(line: &mut [u8], at: usize, n: u32) -> usize
+// Puts a number of at most ten digits in decimal, with no leading zeros. Returns where the line goes on.
+pub fn put_number(line: &mut [u8], at: usize, n: u64) -> usize
     requires { ⌜ by.NumberAsks (now line) at n ⌝ }
     ensures { λ r. ⌜ by.Puts (now (line .entry)) at (rule.decimal n) (now (line .exit)) r ⌝ }
 {
@@ -84,8 +84,9 @@ fn put_label(line: &mut [u8], at: usize, k: usize) -> usize
 }
 
 // Puts part k: number, blank, label. Returns where the line goes on.
-fn put_part(line: &mut [u8], at: usize, n: u32, k: usize) -> usize
+fn put_part(line: &mut [u8], at: usize, n: u64, k: usize) -> usize
     requires { ⌜ by.PartAsks (now line) at 40 k ⌝ }
+    requires { ⌜ n < 10 ^ 10 ⌝ }
     ensures { λ r. ⌜ by.Puts (now (line .entry)) at (rule.part (n, by.label k)) (now (line .exit)) r ⌝ }
 {
     let next = put_number(line, at, n);
@@ -107,8 +108,9 @@ fn put_comma(line: &mut [u8], at: usize) -> usize
 }
 
 // Puts part k behind those that stand in the line, unless its number is zero. Returns where the line goes on.
-fn put_next(line: &mut [u8], at: usize, n: u32, k: usize) -> usize
+fn put_next(line: &mut [u8], at: usize, n: u64, k: usize) -> usize
     requires { ⌜ by.PartAsks (now line) at 42 k ⌝ }
+    requires { ⌜ n < 10 ^ 10 ⌝ }
     ensures { λ r. ⌜ by.Puts (now (line .entry)) at (by.more at n k) (now (line .exit)) r ⌝ }
 {
     if n == 0 {
@@ -118,15 +120,34 @@ fn put_next(line: &mut [u8], at: usize, n: u32, k: usize) -> usize
     put_part(line, next, n, k)
 }
 
-// Puts the parts of the counts, joined. Returns where the line ends.
+// The sum of two counts, exact: it may have 33 bits.
+fn sum(a: u32, b: u32) -> u64
+    ensures { λ r. ⌜ r ≡ a + b ⌝ }
+{
+    a as u64 + b as u64
+}
+
+// The number printed with label k: at label 0 the sum of the first two counts, repeated and thin, and at another count k + 1.
+fn value(counts: &[u32], k: usize) -> u64
+    requires { ⌜ k + 1 < length (now counts) ⌝ }
+    ensures { λ r. ⌜ r ≡ getD (rule.summed (now (counts .entry))) k 0 ⌝ }
+    ensures { λ r. ⌜ r < 10 ^ 10 ⌝ }
+{
+    if k == 0 {
+        return sum(counts[0], counts[1]);
+    }
+    counts[k + 1] as u64
+}
+
+// Puts the parts of the counts, joined, the first two as their sum. Returns where the line ends.
 fn put_parts(counts: &[u32], line: &mut [u8]) -> usize
     requires { ⌜ LineAccepted (now counts) (length (now line)) ⌝ }
-    ensures { λ r. ⌜ by.LineGives (now (line .entry)) (by.parts (now (counts .entry))) (now (line .exit)) r ⌝ }
+    ensures { λ r. ⌜ by.LineGives (now (line .entry)) (by.parts (rule.summed (now (counts .entry)))) (now (line .exit)) r ⌝ }
 {
     let mut at = 0;
     let mut k = 0;
     while k < LABELS {
-        at = put_next(line, at, counts[k], k);
+        at = put_next(line, at, value(counts, k), k);
         k += 1;
     }
     at

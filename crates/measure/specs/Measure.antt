@@ -19,6 +19,12 @@ shapeOf Good = good
 shapeOf Repeated = repeated
 shapeOf Thin = thin
 
+-- a shape as a number: 0 good, 1 repeated, 2 thin
+abbrev pub numberOf : Shape → ℕ
+numberOf good = 0
+numberOf repeated = 1
+numberOf thin = 2
+
 -- three point numbers as the rules' face
 abbrev pub faceOf : ℕ → ℕ → ℕ → Face
 faceOf a b c = record { a = a; b = b; c = c }

@@ -6,7 +6,7 @@ ghost use Prim.Native.Nat.{_/_, _<_};
 ghost use lib.ListN.{length};
 ghost use Rattle.rules.specs.Mesh.{pointsOf, point};
 ghost use Rattle.rules.specs.Float as rule;
-ghost use Rattle.measure.specs.Measure.{pointOf, shapeOf, faceOf, Corners};
+ghost use Rattle.measure.specs.Measure.{pointOf, shapeOf, numberOf, faceOf, Corners};
 
 // A point, and also a difference of two points.
 pub struct Vector {
@@ -113,15 +113,14 @@ pub fn shape(points: &[f64], s: f64, a: u32, b: u32, c: u32) -> Form
     Form::Good
 }
 
-// Whether the face with corners a, b, c is degenerate at the threshold s.
-pub fn degenerate(points: &[f64], s: f64, a: u32, b: u32, c: u32) -> bool
-    requires { ⌜ Corners (now points) a b c ⌝ }
-    ensures { λ r. ⌜ r ≡ rule.degenerate s (pointsOf (now (points .entry))) (faceOf a b c) ⌝ }
+// A form as a number: 0 good, 1 repeated, 2 thin.
+pub fn number(form: Form) -> u32
+    ensures { λ r. ⌜ r ≡ numberOf (shapeOf form) ⌝ }
 {
-    match shape(points, s, a, b, c) {
-        Form::Good => false,
-        Form::Repeated => true,
-        Form::Thin => true,
+    match form {
+        Form::Good => 0,
+        Form::Repeated => 1,
+        Form::Thin => 2,
     }
 }
 

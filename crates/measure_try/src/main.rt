@@ -3,8 +3,7 @@ use measure::Form;
 ghost use mathlib.Core.Path.{_≡_};
 ghost use mathlib.Core.Bool.{false};
 ghost use lib.Ieee.{binary64, toBits, isNan};
-ghost use Rattle.measure.specs.Measure.{shapeOf};
-ghost use Rattle.measure_try.specs.Forms.{repeats};
+ghost use Rattle.measure.specs.Measure.{shapeOf, numberOf};
 
 // 2^100, the largest coordinate.
 const FAR: f64 = 1267650600228229401496703205376.0;
@@ -16,35 +15,31 @@ fn same(x: f64, bits: u64)
     check::expect(f64::to_bits(x) == bits);
 }
 
-// Whether the degeneracy test found two corners equal.
-fn repeated(form: Form) -> bool
-    ensures { λ r. ⌜ r ≡ repeats (shapeOf form) ⌝ }
+// The degeneracy test found this: 0 good, 1 repeated, 2 thin.
+fn found(form: Form, what: u32)
+    requires { ⌜ numberOf (shapeOf form) ≡ what ⌝ }
 {
-    match form {
-        Form::Good => false,
-        Form::Repeated => true,
-        Form::Thin => false,
-    }
+    check::expect(measure::number(form) == what);
 }
 
-// The unit legs: with s = 1 the face is degenerate, with the f64 just below 1 it isn't.
+// The unit legs: with s = 1 the face is thin, with the f64 just below 1 it isn't.
 fn unit_legs() {
     let points = [0.0, 0.0, 0.0, 1.0, 0.0, 0.0, 0.0, 1.0, 0.0];
     same(measure::quality(&points, 0, 1, 2), 0x3febb67ae8584caa);
     same(measure::area(&points, 0, 1, 2), 0x3fe0000000000000);
     same(measure::distance(&points, 2, 1), 0x3ff6a09e667f3bcd);
-    check::expect(measure::degenerate(&points, 1.0, 0, 1, 2));
-    check::expect(!measure::degenerate(&points, 0.9999999999999999, 0, 1, 2));
-    check::expect(measure::degenerate(&points, 0.0, 0, 1, 0));
+    found(measure::shape(&points, 1.0, 0, 1, 2), 2);
+    found(measure::shape(&points, 0.9999999999999999, 0, 1, 2), 0);
+    found(measure::shape(&points, 0.0, 0, 1, 0), 1);
 }
 
 // Of the unit legs: any two corners are compared, a repeated corner wins, and a thin face repeats none.
 fn forms() {
     let points = [0.0, 0.0, 0.0, 1.0, 0.0, 0.0, 0.0, 1.0, 0.0];
-    check::expect(repeated(measure::shape(&points, 1.0, 0, 0, 1)));
-    check::expect(repeated(measure::shape(&points, 1.0, 1, 0, 0)));
-    check::expect(repeated(measure::shape(&points, 1.0, 0, 1, 0)));
-    check::expect(!repeated(measure::shape(&points, 1.0, 0, 1, 2)));
+    found(measure::shape(&points, 1.0, 0, 0, 1), 1);
+    found(measure::shape(&points, 1.0, 1, 0, 0), 1);
+    found(measure::shape(&points, 1.0, 0, 1, 0), 1);
+    found(measure::shape(&points, 1.0, 0, 1, 2), 2);
 }
 
 // Three sides of different length, no coordinate exact.
@@ -53,7 +48,7 @@ fn scalene() {
     same(measure::quality(&points, 0, 1, 2), 0x3fca0448387fe946);
     same(measure::area(&points, 0, 1, 2), 0x3ff5109ac75f4943);
     same(measure::distance(&points, 2, 1), 0x40154c8f4332c3c2);
-    check::expect(!measure::degenerate(&points, 0.0009765625, 0, 1, 2));
+    found(measure::shape(&points, 0.0009765625, 0, 1, 2), 0);
 }
 
 // The largest coordinates: equal sides, and a quality that rounds to just below 1.
@@ -62,7 +57,7 @@ fn far_apart() {
     same(measure::quality(&points, 0, 1, 2), 0x3fefffffffffffff);
     same(measure::area(&points, 0, 1, 2), 0x4c8bb67ae8584caa);
     same(measure::distance(&points, 2, 1), 0x4646a09e667f3bcd);
-    check::expect(!measure::degenerate(&points, 0.0009765625, 0, 1, 2));
+    found(measure::shape(&points, 0.0009765625, 0, 1, 2), 0);
 }
 
 // Coordinates of 2^-540, whose squares round to 0: the sum is 0, and so is the quality.
@@ -71,7 +66,7 @@ fn close_by() {
     let points = [0.0, 0.0, 0.0, t, 0.0, 0.0, 0.0, t, 0.0];
     same(measure::quality(&points, 0, 1, 2), 0x0000000000000000);
     same(measure::area(&points, 0, 1, 2), 0x0000000000000000);
-    check::expect(measure::degenerate(&points, 0.0, 0, 1, 2));
+    found(measure::shape(&points, 0.0, 0, 1, 2), 2);
 }
 
 fn main() {

@@ -13,15 +13,17 @@ use Rattle.rows.proofs.Regions.{only-more}
 use Rattle.leaving.specs.Pass.{standing, FacesStand, PassAsks, MarkGives, LeaveGives}
 use Rattle.leaving.proofs.Standing.{fewer-taken}
 use Rattle.rules.specs.Mesh.{Face, pointsOf, facesOf}
+use Rattle.rules.specs.Lists.{below, count}
 use Rattle.rules.specs.Repair.{optional}
 use Rattle.rules.specs.Rooms.{work-room}
-use Rattle.rules.specs.State.{more, counted, with-faces, dropped, degenerates, duplicates, crowded-edges, dropped-at-edges, dropped-for-direction, reoriented, components}
-use Rattle.rules.specs.Pass1.{pass1, marked1}
+use Rattle.rules.specs.State.{more, counted, with-faces, dropped, repeateds, thins, duplicates, crowded-edges, dropped-at-edges, dropped-for-direction, reoriented, components}
+use Rattle.rules.specs.Pass1.{pass1, repeated1, thin1, marked1}
 use Rattle.rules.specs.Pass2.{pass2, marked2}
 use Rattle.rules.specs.Pass3.{pass3, marked3, crowded}
 use Rattle.rules.specs.Pass4.{pass4, marked4, oriented}
 use Rattle.rules.specs.Steps.{users, edges}
 use Rattle.rules.proofs.Counting.{filter-le}
+use Rattle.rules.proofs.Why.{both-counts}
 use Rattle.rules.proofs.Fits.{few-edges}
 use Rattle.rules.proofs.Flat.{faces-flat, length-points, length-faces-take}
 use Rattle.rules.proofs.Manifold.{turned-inside}
@@ -33,7 +35,7 @@ use Rattle.drop_duplicate_faces.specs.Keys as keys
 use Rattle.marking.specs.Marking as marking
 use Rattle.passes.specs.Passing.{Lists, lists, stateIn, stated, Stands, PassGives, keeps}
 use Rattle.passes.proofs.Standing.{corners-inside, inside-corners}
-use Rattle.passes.proofs.Steps.{unchanged, off, pointsIn, as-many, reads, may, left, step-left, step-after}
+use Rattle.passes.proofs.Steps.{unchanged, off, pointsIn, as-many, reads, may, left, stays, step-stays, step-left, step-after}
 
 module _ {m : Lists} (a : Stands (stated m) m) where
   -- the points that a pass reads, and the faces
@@ -89,15 +91,35 @@ module _ {m : Lists} (a : Stands (stated m) m) where
     leaves3 = may a three-fits
 
   -- pass 1 that is off
-  pub off1 : (s : Float) → PassGives (optional false (pass1 s)) (more degenerates 0) (keeps m) m m (unchanged m)
-  off1 s = off (pass1 s) (more degenerates 0) (keeps m) (more-none degenerates) (omega arith) (omega arith) (a .stand .inside)
+  pub off1 : (s : Float) → PassGives (optional false (pass1 s)) (λ report. more thins 0 (more repeateds 0 report)) (keeps m) m m (unchanged m)
+  off1 s =
+      off (pass1 s) (λ report. more thins 0 (more repeateds 0 report)) (keeps m)
+      (λ report. more-none thins (more repeateds 0 report) ∙ more-none repeateds report) (omega arith) (omega arith) (a .stand .inside)
 
-  -- pass 1 that is on: degenerate faces leave
+  -- those that left in pass 1 are the repeated and the thin ones
+  pub parted :
+      (s : Float) {xs′ : List ℕ} {r k : ℕ} → LeaveGives (marked1 s (pointsOf qs) fs) (m .faces) (m .n) xs′ r → k ≡ count (repeated1 s (pointsOf qs) fs) (below (m .n))
+      → k + count (thin1 s (pointsOf qs) fs) (below (m .n)) ≡ m .n - r
+  parted s g e = omega (arith, e, g .number, both-counts s (pointsOf qs) fs (below (m .n)))
+
+  -- so no more are repeated than left
+  pub fewer-repeated :
+      (s : Float) {xs′ : List ℕ} {r k : ℕ} → LeaveGives (marked1 s (pointsOf qs) fs) (m .faces) (m .n) xs′ r → k ≡ count (repeated1 s (pointsOf qs) fs) (below (m .n)) → k ≤ m .n - r
+  fewer-repeated s g e = omega (arith, parted s g e)
+
+  -- pass 1 that is on: degenerate faces leave, counted apart
   pub on1 :
-      (s : Float) {xs′ w′ : List ℕ} {r at : ℕ} → MarkGives (marked1 s (pointsOf qs) fs) (m .n) (m .n) (m .work) w′ at → LeaveGives (marked1 s (pointsOf qs) fs) (m .faces) (m .n) xs′ r
-      → PassGives (optional true (pass1 s)) (more degenerates (m .n - r)) (keeps m) m (left m xs′ r w′) (record { points = m .p; faces = r; dropped = m .n - r; found = 0; changed = 0 })
-  unfolding pass1
-  on1 s k g = step-left (pass1 s) degenerates (λ report. report) (marked1 s (pointsOf qs) fs) 0 0 (omega arith) (omega arith) (λ report. refl) a (in-room (m .n) one-fits k) g
+      (s : Float) {xs′ w′ : List ℕ} {r at k : ℕ} → MarkGives (marked1 s (pointsOf qs) fs) (m .n) (m .n) (m .work) w′ at → LeaveGives (marked1 s (pointsOf qs) fs) (m .faces) (m .n) xs′ r
+      → k ≡ count (repeated1 s (pointsOf qs) fs) (below (m .n))
+      → PassGives (optional true (pass1 s)) (λ report. more thins (m .n - r - k) (more repeateds k report)) (keeps m) m (left m xs′ r w′) (record { points = m .p; faces = r; dropped = m .n - r - k; found = k; changed = 0 })
+  unfolding pass1 counted with-faces
+  on1 s {r = r} {k = k} h g e =
+      let l : length fs ≡ m .n = length-faces-take (m .faces) (m .n) (a .stand .fit) in
+      let q : k ≡ count (repeated1 s (pointsOf qs) fs) (below (length fs)) = rw l e in
+      let t : m .n - r - k ≡ count (thin1 s (pointsOf qs) fs) (below (length fs)) = rw l (omega (arith, parted s g e)) in
+      step-stays (pass1 s) (λ report. more thins (m .n - r - k) (more repeateds k report)) (marked1 s (pointsOf qs) fs) (m .n - r - k) k 0
+      (omega (arith, g .number)) (omega (arith, fewer-repeated s g e, g .number)) (omega arith)
+      (λ report. ap₂ (λ i j. stays m (marked1 s (pointsOf qs) fs) (more thins i (more repeateds j report))) t q) a (in-room (m .n) one-fits h) g
 
   -- pass 2 that is off
   pub off2 : PassGives (optional false pass2) (more duplicates 0) (keeps m) m m (unchanged m)

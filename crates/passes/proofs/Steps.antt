@@ -11,12 +11,13 @@ use lib.Ieee.{Float}
 use Rattle.rows.specs.Region.{Only}
 use Rattle.rows.specs.Retain.{RetainAsks}
 use Rattle.rows.proofs.Regions.{only-none, only-both}
-use Rattle.leaving.specs.Pass.{PassAsks, MarkGives, LeaveGives}
+use Rattle.leaving.specs.Pass.{standing, PassAsks, MarkGives, LeaveGives}
 use Rattle.leaving.proofs.ByFlags.{may-leave}
-use Rattle.leaving.proofs.Standing.{dropped-state, left-inside, fewer-taken}
+use Rattle.leaving.proofs.Standing.{standing-left, left-number, left-inside, fewer-taken}
 use Rattle.rules.specs.Mesh.{pointsOf}
 use Rattle.rules.specs.Repair.{optional, bit}
-use Rattle.rules.specs.State.{State, Count, more, dropped}
+use Rattle.rules.specs.Lists.{leave}
+use Rattle.rules.specs.State.{State, Count, more, counted, with-faces, dropped}
 use Rattle.marking.specs.Marking.{taken}
 use Rattle.passes.specs.declared.Passed.{Passed}
 use Rattle.passes.specs.Passing.{Lists, lists, stateIn, stated, Stands, Reach, PassGives, keeps}
@@ -86,32 +87,49 @@ pub collided-leave :
     {marked : ℕ → Bool} {qs : List Float} {xs : List ℕ} {n : ℕ} {w w′ : List ℕ} {at : ℕ} → PassAsks (taken (length qs / 3) n) qs xs n w → MarkGives marked (taken (length qs / 3) n) n w w′ at → RetainAsks xs w′ at n
 collided-leave p g = may-leave (p .stand .fit) (p .stand .room) g
 
+-- the state of the rules once marked faces have left, with a report
+abbrev pub stays : Lists → (ℕ → Bool) → List ℕ → State
+stays m marked report = record { points = pointsOf (pointsIn m); faces = leave marked (standing (m .faces) (m .n)); report = report }
+
 -- the lists once faces have left
 abbrev pub left : Lists → List ℕ → ℕ → List ℕ → Lists
 left m faces n work = lists (m .points) (m .p) faces n work
 
--- a pass in which marked faces leave, after `first` was added to the report
-pub step-left :
-    {k : ℕ} {m : Lists} {xs′ w′ : List ℕ} {r : ℕ} (pass : State → State) (c : Count) (first : List ℕ → List ℕ) (marked : ℕ → Bool) (found changed : ℕ)
-    → found ≤ m .p + 3 * m .n → changed ≤ m .p + 3 * m .n
-    → ((report : List ℕ) → pass (stateIn m report) ≡ dropped c marked (stateIn m (first report)))
+-- a pass in which marked faces leave, with the report as `after` leaves it
+pub step-stays :
+    {k : ℕ} {m : Lists} {xs′ w′ : List ℕ} {r : ℕ} (pass : State → State) (after : List ℕ → List ℕ) (marked : ℕ → Bool) (dropped found changed : ℕ)
+    → dropped ≤ m .p + 3 * m .n → found ≤ m .p + 3 * m .n → changed ≤ m .p + 3 * m .n
+    → ((report : List ℕ) → stays m marked (after report) ≡ pass (stateIn m report))
     → Stands k m → Only 0 (stated m) (m .work) w′ → LeaveGives marked (m .faces) (m .n) xs′ r
-    → PassGives (optional true pass) (λ report. more c (m .n - r) (first report)) (keeps m) m (left m xs′ r w′) (record { points = m .p; faces = r; dropped = m .n - r; found = found; changed = changed })
+    → PassGives (optional true pass) after (keeps m) m (left m xs′ r w′) (record { points = m .p; faces = r; dropped = dropped; found = found; changed = changed })
 unfolding optional
-step-left {k} {m} {xs′} {w′} {r} pass c first marked found changed few-found few-changed e a o g =
+step-stays {k} {m} {xs′} {w′} {r} pass after marked dropped found changed few-dropped few-found few-changed e a o g =
     record {
-      state = λ report. dropped-state c (pointsOf (pointsIn m)) (first report) (a .stand .fit) g ∙ sym (e report);
+      state = λ report. ap (λ fs. record { points = pointsOf (pointsIn m); faces = fs; report = after report }) (standing-left g) ∙ e report;
       inside = left-inside (a .stand) g;
       not-below = omega arith;
       not-above = omega arith;
       fewer = omega (arith, g .number);
-      few-dropped = omega (arith, g .number);
+      few-dropped = few-dropped;
       few-found = few-found;
       few-changed = few-changed;
       only-points = only-none 0 (3 * m .p) (m .points);
       only-faces = g .only-faces;
       only-work = o;
     }
+
+-- one in which each face that leaves is counted at c, after `first` was added to the report
+pub step-left :
+    {k : ℕ} {m : Lists} {xs′ w′ : List ℕ} {r : ℕ} (pass : State → State) (c : Count) (first : List ℕ → List ℕ) (marked : ℕ → Bool) (found changed : ℕ)
+    → found ≤ m .p + 3 * m .n → changed ≤ m .p + 3 * m .n
+    → ((report : List ℕ) → pass (stateIn m report) ≡ dropped c marked (stateIn m (first report)))
+    → Stands k m → Only 0 (stated m) (m .work) w′ → LeaveGives marked (m .faces) (m .n) xs′ r
+    → PassGives (optional true pass) (λ report. more c (m .n - r) (first report)) (keeps m) m (left m xs′ r w′) (record { points = m .p; faces = r; dropped = m .n - r; found = found; changed = changed })
+unfolding dropped counted with-faces
+step-left {k} {m} {xs′} {w′} {r} pass c first marked found changed few-found few-changed e a o g =
+    let l = left-number (a .stand .fit) g in
+    step-stays pass (λ report. more c (m .n - r) (first report)) marked (m .n - r) found changed (omega (arith, g .number)) few-found few-changed
+    (λ report. ap (λ j. stays m marked (more c j (first report))) l ∙ sym (e report)) a o g
 
 -- a pass whose faces were changed in their room before: what is said of the changed ones is said of those before
 pub step-after :

@@ -8,7 +8,7 @@ use Rattle.rows.specs.Region.{OnlyOf, Only}
 use Rattle.leaving.specs.Pass.{FacesStand, stateOf}
 use Rattle.rules.specs.Repair.{optional, bit}
 use Rattle.rules.specs.Rooms.{work-room}
-use Rattle.rules.specs.State.{State, more, degenerates, duplicates, crowded-edges, dropped-at-edges, dropped-for-direction, vertices-split, points-added, reoriented, components, isolated}
+use Rattle.rules.specs.State.{State, more, repeateds, thins, duplicates, crowded-edges, dropped-at-edges, dropped-for-direction, vertices-split, points-added, reoriented, components, isolated}
 use Rattle.rules.specs.Pass1 as one
 use Rattle.rules.specs.Pass2 as two
 use Rattle.rules.specs.Pass3 as three
@@ -79,9 +79,10 @@ drops m = record { least = 0; most = m .p; scratch = 2 * m .p }
 
 -- ---- the six passes, each by its option: its rule, and where its counts are added
 
--- degenerate faces leave
+-- degenerate faces leave: those found repeat a corner, and those dropped besides are thin
 abbrev pub Pass1 : ℕ → Float → Lists → Lists → Passed → Type 0
-Pass1 options s m m′ r = PassGives (optional (bit 0 options) (one.pass1 s)) (more degenerates (r .dropped)) (keeps m) m m′ r
+Pass1 options s m m′ r =
+    PassGives (optional (bit 0 options) (one.pass1 s)) (λ report. more thins (r .dropped) (more repeateds (r .found) report)) (keeps m) m m′ r
 
 -- of faces with the same three sorted corners the first stays
 abbrev pub Pass2 : ℕ → Float → Lists → Lists → Passed → Type 0

@@ -12,6 +12,7 @@ ghost use Rattle.marking.specs.Marking.{taken};
 ghost use Rattle.passes.specs.Passing.{lists, stated, Stands, StandsLast, Pass1, Pass2, Pass3, Pass4, Pass5, Pass6};
 
 // What a pass leaves: how many points and faces stand; how many of them left; how many edges, components or vertices it found at fault; how many faces or points it turned or added.
+// Of pass 1, those found repeat a corner and those dropped are thin, and both left.
 pub struct Passed {
     pub points: usize,
     pub faces: usize,
@@ -43,8 +44,8 @@ pub fn pass1(
         return Passed {
             points: p,
             faces: left,
-            dropped: n - left,
-            found: 0,
+            dropped: n - left - marked.found,
+            found: marked.found,
             changed: 0,
         };
     }

@@ -107,17 +107,17 @@ fn settings() {
     let points = [0.0, 0.0, 0.0, 0.0, 0.0, 0.0, 0.0, 0.0, 0.0];
     let faces = [0, 1, 2];
     let nan = 0.0 / 0.0;
-    accepted(repair(&points, &faces, 1.0, 63, 18, 3, 10, 176));
-    accepted(repair(&points, &faces, -0.0, 0, 18, 3, 10, 176));
+    accepted(repair(&points, &faces, 1.0, 63, 18, 3, 11, 176));
+    accepted(repair(&points, &faces, -0.0, 0, 18, 3, 11, 176));
     refused(
-        repair(&points, &faces, 1.0000000000000002, 0, 18, 3, 10, 176),
+        repair(&points, &faces, 1.0000000000000002, 0, 18, 3, 11, 176),
         3,
         0,
     );
-    refused(repair(&points, &faces, nan, 64, 18, 3, 10, 176), 3, 0);
-    refused(repair(&points, &faces, 0.0, 64, 18, 3, 10, 176), 3, 1);
+    refused(repair(&points, &faces, nan, 64, 18, 3, 11, 176), 3, 0);
+    refused(repair(&points, &faces, 0.0, 64, 18, 3, 11, 176), 3, 1);
     refused(
-        repair(&points, &faces, 0.0, 4294967295, 18, 3, 10, 176),
+        repair(&points, &faces, 0.0, 4294967295, 18, 3, 11, 176),
         3,
         1,
     );
@@ -127,9 +127,9 @@ fn settings() {
 fn lengths() {
     let points = [0.0, 0.0, 0.0, 0.0, 0.0, 0.0, 0.0, 0.0, 0.0];
     let faces = [0, 1, 2, 9];
-    refused(repair(&points[..8], &faces, 2.0, 64, 18, 3, 10, 176), 1, 0);
-    refused(repair(&points, &faces, 2.0, 64, 18, 3, 10, 176), 1, 1);
-    accepted(repair(&points[..0], &faces[..0], 0.0, 0, 0, 0, 10, 64));
+    refused(repair(&points[..8], &faces, 2.0, 64, 18, 3, 11, 176), 1, 0);
+    refused(repair(&points, &faces, 2.0, 64, 18, 3, 11, 176), 1, 1);
+    accepted(repair(&points[..0], &faces[..0], 0.0, 0, 0, 0, 11, 64));
 }
 
 // 4: 2^100 passes, the next f64 does not; infinity and NaN neither.
@@ -139,10 +139,10 @@ fn domain() {
     let beyond = [FAR, 0.0, 0.0, 0.0, -BEYOND, 0.0, BEYOND, 0.0, 0.0];
     let infinite = [0.0, 0.0, 1.0 / 0.0, 0.0, 0.0, 0.0, 0.0, 0.0, 0.0];
     let nan = [0.0, 0.0, 0.0, 0.0, 0.0, 0.0, 0.0, 0.0, 0.0 / 0.0];
-    accepted(repair(&far, &faces, 0.0, 0, 18, 3, 10, 176));
-    refused(repair(&beyond, &faces, 0.0, 0, 18, 3, 10, 176), 4, 1);
-    refused(repair(&infinite, &faces, 0.0, 0, 18, 3, 10, 176), 4, 0);
-    refused(repair(&nan, &faces, 0.0, 0, 18, 3, 10, 176), 4, 2);
+    accepted(repair(&far, &faces, 0.0, 0, 18, 3, 11, 176));
+    refused(repair(&beyond, &faces, 0.0, 0, 18, 3, 11, 176), 4, 1);
+    refused(repair(&infinite, &faces, 0.0, 0, 18, 3, 11, 176), 4, 0);
+    refused(repair(&nan, &faces, 0.0, 0, 18, 3, 11, 176), 4, 2);
 }
 
 // 5: corner P-1 passes, corner P is refused.
@@ -150,7 +150,7 @@ fn corners() {
     let points = [0.0, 0.0, 0.0, 0.0, 0.0, 0.0, 0.0, 0.0, 0.0];
     let faces = [0, 1, 2];
     let stray = [0, 1, 2, 0, 3, 0, 4294967295, 0, 0];
-    accepted(repair(&points, &faces, 0.0, 0, 18, 3, 10, 176));
+    accepted(repair(&points, &faces, 0.0, 0, 18, 3, 11, 176));
     refused(repair(&points, &stray, 0.0, 0, 0, 0, 0, 0), 5, 1);
 }
 
@@ -158,9 +158,9 @@ fn corners() {
 fn rooms() {
     let points = [0.0, 0.0, 0.0, 0.0, 0.0, 0.0, 0.0, 0.0, 0.0];
     let faces = [0, 1, 2];
-    refused(repair(&points, &faces, 0.0, 0, 17, 2, 9, 175), 6, 0);
-    refused(repair(&points, &faces, 0.0, 0, 18, 2, 9, 175), 6, 1);
-    refused(repair(&points, &faces, 0.0, 0, 18, 3, 9, 175), 6, 2);
+    refused(repair(&points, &faces, 0.0, 0, 17, 2, 10, 175), 6, 0);
+    refused(repair(&points, &faces, 0.0, 0, 18, 2, 10, 175), 6, 1);
+    refused(repair(&points, &faces, 0.0, 0, 18, 3, 10, 175), 6, 2);
     refused(repair(&points, &faces, 0.0, 0, HUGE, HUGE, HUGE, 175), 6, 3);
     accepted(edges(&points, &faces, 6, 3, 176));
     refused(edges(&points, &faces, 5, 2, 175), 6, 0);
@@ -248,10 +248,11 @@ fn label_rows() {
 
 // 1 and 6 of the report line.
 fn report_line() {
-    let counts = [0, 0, 0, 0, 0, 0, 0, 0, 0, 4294967295];
-    accepted(line_refusal::line_refusal(&counts, 512));
-    refused(line_refusal::line_refusal(&counts, 511), 6, 0);
-    refused(line_refusal::line_refusal(&counts[..9], 0), 1, 2);
+    let counts = [0, 0, 0, 0, 0, 0, 0, 0, 0, 0, 4294967295, 0];
+    accepted(line_refusal::line_refusal(&counts[..11], 512));
+    refused(line_refusal::line_refusal(&counts[..11], 511), 6, 0);
+    refused(line_refusal::line_refusal(&counts[..10], 0), 1, 2);
+    refused(line_refusal::line_refusal(&counts, 0), 1, 2);
 }
 
 fn main() {

@@ -18,7 +18,8 @@ fn write_report(report: &mut [u32], counts: Report)
     ensures { λ _. ⌜ ReportGives (now (report .entry)) counts (now (report .exit)) ⌝ }
 {
     let all = [
-        counts.degenerate_removed,
+        counts.repeated_removed,
+        counts.thin_removed,
         counts.duplicate_faces_removed,
         counts.nonmanifold_edges,
         counts.faces_dropped_at_nonmanifold,

@@ -9,9 +9,9 @@ use lib.Ieee.{Float}
 use lib.ListN.{length, getD, set, drop, replicate, length-append}
 use Rattle.rules.specs.Lists.{below, count, through}
 use Rattle.rules.specs.Mesh.{Point, Face, point}
-use Rattle.rules.specs.State.{State, Count, report-counts, place, more, start, counted, with-faces, dropped, crowded-edges, dropped-at-edges, dropped-for-direction, degenerates, duplicates, vertices-split, points-added, reoriented, components, isolated}
+use Rattle.rules.specs.State.{State, Count, report-counts, place, more, start, counted, with-faces, dropped, crowded-edges, dropped-at-edges, dropped-for-direction, repeateds, thins, duplicates, vertices-split, points-added, reoriented, components, isolated}
 use Rattle.rules.specs.Steps.{users, edges}
-use Rattle.rules.specs.Pass1.{marked1, pass1}
+use Rattle.rules.specs.Pass1.{repeated1, thin1, pass1}
 use Rattle.rules.specs.Pass2.{marked2, pass2}
 use Rattle.rules.specs.Pass3.{crowded, marked3, pass3}
 use Rattle.rules.specs.Pass4.{oriented, marked4, pass4}
@@ -51,9 +51,12 @@ module _ {B F : ℕ} where
   unfolding dropped counted with-faces
   dropped-low c marked m h l = more-low F c (count marked (below (length (m .faces)))) (m .report) (omega (arith, count-below-le marked (length (m .faces)))) l
 
-  pass1-low : (s : Float) (m : State) → length (m .faces) ≤ F → Low B (m .report) → Low (B + F) (pass1 s m .report)
-  unfolding pass1
-  pass1-low s m h l = dropped-low degenerates (marked1 s (m .points) (m .faces)) m h l
+  pass1-low : (s : Float) (m : State) → length (m .faces) ≤ F → Low B (m .report) → Low (B + F + F) (pass1 s m .report)
+  unfolding pass1 counted with-faces
+  pass1-low s m h l =
+      let n = length (m .faces) in
+      more-low F thins _ _ (omega (arith, count-below-le (thin1 s (m .points) (m .faces)) n))
+      (more-low F repeateds _ (m .report) (omega (arith, count-below-le (repeated1 s (m .points) (m .faces)) n)) l)
 
   pass2-low : (m : State) → length (m .faces) ≤ F → Low B (m .report) → Low (B + F) (pass2 m .report)
   unfolding pass2
@@ -148,20 +151,20 @@ low-at : {B C : ℕ} {report : List ℕ} → B ≤ C → Low B report → Low C 
 low-at h l = record { each = λ j. omega (arith, l .each j) }
 
 -- all six
-passes-both : (N F : ℕ) (s : Float) (options : ℕ) (m : State) → Both N F 0 m → Both (N + 3 * F) F (2 * N + 15 * F) (passes s options m)
+passes-both : (N F : ℕ) (s : Float) (options : ℕ) (m : State) → Both N F 0 m → Both (N + 3 * F) F (2 * N + 16 * F) (passes s options m)
 unfolding passes
 passes-both N F s options m k =
-    optional-both {N = N + 3 * F} {M = N + 3 * F} {F = F} {B = N + 12 * F} {C = 2 * N + 15 * F} (bit 5 options) pass6 _ (omega arith) (omega arith)
+    optional-both {N = N + 3 * F} {M = N + 3 * F} {F = F} {B = N + 13 * F} {C = 2 * N + 16 * F} (bit 5 options) pass6 _ (omega arith) (omega arith)
     (λ n q. record { fits = pass6-fits n (q .fits); low = low-at (omega arith) (pass6-low n (q .fits) (q .low)) })
-    (optional-both {N = N} {M = N + 3 * F} {F = F} {B = 9 * F} {C = N + 12 * F} (bit 3 options) pass5 _ (omega arith) (omega arith)
+    (optional-both {N = N} {M = N + 3 * F} {F = F} {B = 10 * F} {C = N + 13 * F} (bit 3 options) pass5 _ (omega arith) (omega arith)
     (λ n q. record { fits = pass5-fits n (q .fits); low = low-at (omega arith) (pass5-low n (q .fits) (q .low)) })
-    (optional-both {N = N} {M = N} {F = F} {B = 6 * F} {C = 9 * F} (bit 4 options) pass4 _ (omega arith) (omega arith)
+    (optional-both {N = N} {M = N} {F = F} {B = 7 * F} {C = 10 * F} (bit 4 options) pass4 _ (omega arith) (omega arith)
     (λ n q. record { fits = pass4-fits n (q .fits); low = low-at (omega arith) (pass4-low n (q .fits .kept .faces) (q .low)) })
-    (optional-both {N = N} {M = N} {F = F} {B = 2 * F} {C = 6 * F} (bit 2 options) pass3 _ (omega arith) (omega arith)
+    (optional-both {N = N} {M = N} {F = F} {B = 3 * F} {C = 7 * F} (bit 2 options) pass3 _ (omega arith) (omega arith)
     (λ n q. record { fits = pass3-fits n (q .fits); low = low-at (omega arith) (pass3-low n (q .fits .kept .faces) (q .low)) })
-    (optional-both {N = N} {M = N} {F = F} {B = F} {C = 2 * F} (bit 1 options) pass2 _ (omega arith) (omega arith)
+    (optional-both {N = N} {M = N} {F = F} {B = 2 * F} {C = 3 * F} (bit 1 options) pass2 _ (omega arith) (omega arith)
     (λ n q. record { fits = pass2-fits n (q .fits); low = low-at (omega arith) (pass2-low n (q .fits .kept .faces) (q .low)) })
-    (optional-both {N = N} {M = N} {F = F} {B = 0} {C = F} (bit 0 options) (pass1 s) _ (omega arith) (omega arith)
+    (optional-both {N = N} {M = N} {F = F} {B = 0} {C = 2 * F} (bit 0 options) (pass1 s) _ (omega arith) (omega arith)
     (λ n q. record { fits = pass1-fits s n (q .fits); low = low-at (omega arith) (pass1-low s n (q .fits .kept .faces) (q .low)) }) k)))))
 
 -- no entry of zeros is above 0
@@ -170,8 +173,8 @@ zeros-low zero j = omega arith
 zeros-low (suc n) zero = omega arith
 zeros-low (suc n) (suc j) = zeros-low n j
 
--- no count of a repair's report is above 2P + 15F
-pub repaired-low : (s : Float) (options : ℕ) (ps : List Point) (fs : List Face) → Inside (length ps) fs → Low (2 * length ps + 15 * length fs) (repaired s options ps fs .report)
+-- no count of a repair's report is above 2P + 16F
+pub repaired-low : (s : Float) (options : ℕ) (ps : List Point) (fs : List Face) → Inside (length ps) fs → Low (2 * length ps + 16 * length fs) (repaired s options ps fs .report)
 unfolding repaired start
 repaired-low s options ps fs h =
     passes-both (length ps) (length fs) s options (start ps fs)

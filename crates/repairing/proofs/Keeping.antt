@@ -7,10 +7,10 @@ use native.Mathlib.Omega.{arith}
 use lib.Dec.{T, ltb}
 use lib.Ieee.{Float}
 use lib.ListN.{length, getD, drop, length-set, length-map}
-use Rattle.rules.specs.Lists.{below, leave}
+use Rattle.rules.specs.Lists.{below, count, leave}
 use Rattle.rules.specs.Mesh.{Face, renamed}
-use Rattle.rules.specs.State.{State, Count, report-counts, place, more, counted, with-faces, dropped, degenerates, duplicates, crowded-edges, dropped-at-edges, dropped-for-direction, vertices-split, points-added, reoriented, components, isolated}
-use Rattle.rules.specs.Pass1.{marked1, pass1}
+use Rattle.rules.specs.State.{State, Count, report-counts, place, more, counted, with-faces, dropped, repeateds, thins, duplicates, crowded-edges, dropped-at-edges, dropped-for-direction, vertices-split, points-added, reoriented, components, isolated}
+use Rattle.rules.specs.Pass1.{repeated1, thin1, marked1, pass1}
 use Rattle.rules.specs.Pass2.{marked2, pass2}
 use Rattle.rules.specs.Pass3.{crowded, marked3, pass3}
 use Rattle.rules.specs.Pass4.{oriented, marked4, pass4}
@@ -65,24 +65,28 @@ pass6-fine m h =
 
 module _ {F : ℕ} where
   -- faces that leave
-  dropped-kept : (c : Count) (marked : ℕ → Bool) (m : State) → Kept F m → Kept F (dropped c marked m)
-  unfolding dropped counted with-faces
-  dropped-kept c marked m k =
-      record {
-        faces = omega (arith, leave-length marked (m .faces), k .faces);
-        inside = all-leave (Corners-below (length (m .points))) marked (m .faces) (k .inside);
-        report = length-more c _ (m .report) ∙ k .report;
-      }
+  left-kept : (marked : ℕ → Bool) (m : State) → Kept F m → Kept F (with-faces (leave marked (m .faces)) m)
+  unfolding with-faces
+  left-kept marked m k =
+      record { faces = omega (arith, leave-length marked (m .faces), k .faces); inside = all-leave (Corners-below (length (m .points))) marked (m .faces) (k .inside); report = k .report }
 
-  -- a count alone
+  -- a count
   counted-kept : (c : Count) (n : ℕ) (m : State) → Kept F m → Kept F (counted c n m)
   unfolding counted
   counted-kept c n m k = record { faces = k .faces; inside = k .inside; report = length-more c n (m .report) ∙ k .report }
 
+  -- faces that leave and are counted
+  dropped-kept : (c : Count) (marked : ℕ → Bool) (m : State) → Kept F m → Kept F (dropped c marked m)
+  unfolding dropped
+  dropped-kept c marked m k = counted-kept c (count marked (below (length (m .faces)))) (with-faces (leave marked (m .faces)) m) (left-kept marked m k)
+
   -- passes 1, 2 and 3
   pub pass1-kept : (s : Float) (m : State) → Kept F m → Kept F (pass1 s m)
-  unfolding pass1
-  pass1-kept s m k = dropped-kept degenerates (marked1 s (m .points) (m .faces)) m k
+  unfolding pass1 dropped counted with-faces
+  pass1-kept s m k =
+      let n = length (m .faces) in
+      counted-kept thins (count (thin1 s (m .points) (m .faces)) (below n)) _
+      (counted-kept repeateds (count (repeated1 s (m .points) (m .faces)) (below n)) _ (left-kept (marked1 s (m .points) (m .faces)) m k))
 
   pub pass2-kept : (m : State) → Kept F m → Kept F (pass2 m)
   unfolding pass2

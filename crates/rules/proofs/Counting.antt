@@ -1,7 +1,7 @@
 -- How many elements pass a test: put together, with a weaker test, over 0 .. n - 1; and what a count says of the members. Assumes nothing.
 use mathlib.Core.Path.{_≡_, refl, sym, ap, _∙_, subst}
 use mathlib.Core.Logic.{_⊎_, inl, inr}
-use mathlib.Core.Bool.{Bool, true, false, not, cond}
+use mathlib.Core.Bool.{Bool, true, false, not, _&&_, _||_, cond, true≢false}
 use mathlib.Core.List.{List, [], _∷_, _++_, map, List·Memᴰ, List·Memᴰ·head, List·Memᴰ·tail}
 use Prim.Native.Nat.{ℕ, zero, suc, _+_, _≤_, _<_, zero-le, suc-le-suc}
 use native.Mathlib.Omega.{arith}
@@ -55,6 +55,20 @@ module _ {A : Type 0} where
       go true false q e = rw q (omega arith)
       go false true q e = rw q (omega arith)
       go false false q e = rw q (omega arith)
+
+  -- of two tests that never both pass, those that pass either are those that pass the one and those that pass the other
+  pub count-either : (p q : A → Bool) → ((x : A) → (p x && q x) ≡ false) → (xs : List A) → count (λ x. p x || q x) xs ≡ count p xs + count q xs
+  unfolding count filter
+  count-either p q h [] = refl
+  count-either p q h (x ∷ xs) = go (p x) (q x) (h x) (count-either p q h xs)
+    where
+      go : (b c : Bool) → (b && c) ≡ false → length (filter (λ y. p y || q y) xs) ≡ length (filter p xs) + length (filter q xs)
+          → length (cond (b || c) (x ∷ filter (λ y. p y || q y) xs) (filter (λ y. p y || q y) xs))
+          ≡ length (cond b (x ∷ filter p xs) (filter p xs)) + length (cond c (x ∷ filter q xs) (filter q xs))
+      go true true e r = absurd (true≢false e)
+      go true false e r = omega arith
+      go false true e r = omega arith
+      go false false e r = r
 
 -- the changed elements that pass are those whose change passes
 pub count-map : {A B : Type 0} (p : B → Bool) (f : A → B) (xs : List A) → count p (map f xs) ≡ count (λ x. p (f x)) xs

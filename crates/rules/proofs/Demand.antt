@@ -13,7 +13,7 @@ use lib.Ieee.{Float}
 use Rattle.rules.specs.Lists.{count, any, each, has}
 use Rattle.rules.specs.Mesh.{Point, Face, pointsOf, facesOf, flatPoints, flatFaces, point, face, corners, exchanged}
 use Rattle.rules.specs.Steps.{Step, step, steps, same}
-use Rattle.rules.specs.State.{State, Count, place, degenerates, duplicates, dropped-at-edges, dropped-for-direction, points-added, isolated}
+use Rattle.rules.specs.State.{State, Count, place, repeateds, thins, duplicates, dropped-at-edges, dropped-for-direction, points-added, isolated}
 use Rattle.rules.specs.Pass6.{used}
 use Rattle.rules.specs.Refusal.{ok}
 use Rattle.rules.specs.Edges.{boundary, loops}
@@ -67,6 +67,10 @@ pub record Traced (ps : List Point) (fs : List Face) (ps′ : List Point) (fs′
 abbrev pub at : List ℕ → Count → ℕ
 at r c = getD r (place c) 0
 
+-- the first of the four removals: faces that repeat a corner, and thin ones
+abbrev pub degenerate : List ℕ → ℕ
+degenerate r = at r repeateds + at r thins
+
 -- ---- the edge call
 
 -- enough room for the edge call on P points and F faces
@@ -114,7 +118,7 @@ pub record Demand3 (ps : List Point) (fs : List Face) (m : State) : Type 0 where
   -- input faces equal output faces plus the four removals
   pub faces-add-up :
       length fs
-      ≡ length (m .faces) + (at (m .report) degenerates + at (m .report) duplicates + at (m .report) dropped-at-edges + at (m .report) dropped-for-direction)
+      ≡ length (m .faces) + (degenerate (m .report) + at (m .report) duplicates + at (m .report) dropped-at-edges + at (m .report) dropped-for-direction)
   -- input points plus added equal output points plus isolated
   pub points-add-up : length ps + at (m .report) points-added ≡ length (m .points) + at (m .report) isolated
   -- given enough room, the edge call accepts that output

@@ -1,5 +1,5 @@
 -- What the tables of a call share: each call in rooms of one entry more than stated, that all hold something, and what must then stand in them.
--- The sizes are written here as document 01 has them, not taken from the rules.
+-- The sizes are written here as the documents have them, not taken from the rules.
 use mathlib.Core.List.{List, [], _∷_, _++_, map}
 use mathlib.Core.Bool.{Bool, true, false, _&&_, cond}
 use Prim.Native.Nat.{ℕ, suc, _+_, _-_, _*_, _/_}
@@ -80,13 +80,13 @@ repairing points faces s options =
     let F = length faces / 3 in
     repair-shown
     (repair (floats points) faces (ofBits binary64 s) options
-    (repair-lent (3 * (P + 3 * F) + 1) (3 * F + 1) 11 (16 * P + 64 * F + 65)))
+    (repair-lent (3 * (P + 3 * F) + 1) (3 * F + 1) 12 (16 * P + 64 * F + 65)))
 
 -- what a repair of P points and F faces leaves there
 unfoldable pub repaired-to : ℕ → ℕ → List ℕ → List ℕ → List ℕ → List (List ℕ)
 repaired-to P F points faces report =
-    (length points ∷ length faces ∷ 10 ∷ [])
-    ∷ left (3 * (P + 3 * F)) dirt points ∷ left (3 * F) 7 faces ∷ left 10 7 report ∷ left (16 * P + 64 * F + 64) 7 [] ∷ []
+    (length points ∷ length faces ∷ 11 ∷ [])
+    ∷ left (3 * (P + 3 * F)) dirt points ∷ left (3 * F) 7 faces ∷ left 11 7 report ∷ left (16 * P + 64 * F + 64) 7 [] ∷ []
 
 -- ---- edges
 

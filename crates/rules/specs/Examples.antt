@@ -132,7 +132,7 @@ not-starred =
     row (mended legs (0 ∷ 1 ∷ 2 ∷ []) 1 one64) ((5 ∷ []) ∷ [] ∷ (1 ∷ replicate 9 0) ∷ [])
     ∷ row (mended legs (0 ∷ 1 ∷ 2 ∷ []) 1 below-one64) ((5 ∷ []) ∷ (0 ∷ 1 ∷ 2 ∷ []) ∷ replicate 10 0 ∷ [])
     -- coordinate 2^100 passes; the next f64 is refused 4
-    ∷ row (repairing (zero64 ∷ fin true 1 (pos 100) ∷ fin false 1 (pos 100) ∷ []) [] zero64 0) ((3 ∷ 0 ∷ 10 ∷ []) ∷ [])
+    ∷ row (repairing (zero64 ∷ fin true 1 (pos 100) ∷ fin false 1 (pos 100) ∷ []) [] zero64 0) ((3 ∷ 0 ∷ 11 ∷ []) ∷ [])
     ∷ row (repairing (origins 1 ++ (fin false (2 ^ 52 + 1) (pos 48) ∷ zero64 ∷ zero64 ∷ [])) [] zero64 0) ((4 ∷ 1 ∷ []) ∷ [])
     -- faces 0 1 2; 0 3 4: edge call refused 8. Three faces on one edge: refused 7
     ∷ row (edging 5 (0 ∷ 1 ∷ 2 ∷ 0 ∷ 3 ∷ 4 ∷ [])) ((8 ∷ 0 ∷ []) ∷ [])
@@ -198,7 +198,7 @@ refusals =
     -- 6 at the first room that is too short
     ∷ row (answered (check 0 [] (replicate 63 0) .answer) ∷ []) ((6 ∷ 0 ∷ []) ∷ [])
     ∷ row
-    (answered (repair [] [] zero64 0 (record { out-points = []; out-faces = []; report = replicate 9 0; work = [] }) .answer) ∷ [])
+    (answered (repair [] [] zero64 0 (record { out-points = []; out-faces = []; report = replicate 10 0; work = [] }) .answer) ∷ [])
     ((6 ∷ 2 ∷ []) ∷ [])
     -- 7: the position among all sorted unique edges; 8: the lowest vertex at fault
     ∷ row (edging 5 (0 ∷ 1 ∷ 2 ∷ 1 ∷ 2 ∷ 3 ∷ 1 ∷ 2 ∷ 4 ∷ [])) ((7 ∷ 2 ∷ []) ∷ [])
@@ -209,7 +209,7 @@ refusals =
     ∷ row (patching (origins 1) (0 ∷ 0 ∷ 0 ∷ []) (0 ∷ 1 ∷ []) 1 all-kept) ((9 ∷ 1 ∷ []) ∷ (0 ∷ []) ∷ replicate 7 0 ∷ (0 ∷ []) ∷ [])
     ∷ row (patching (origins 1) (0 ∷ 0 ∷ 0 ∷ []) (0 ∷ no-patch ∷ []) 1 all-kept) ((10 ∷ 0 ∷ []) ∷ (0 ∷ []) ∷ replicate 7 0 ∷ (0 ∷ []) ∷ [])
     -- the line: a count too few, a room of 511 bytes; a refusal changes nothing
-    ∷ row (lining (replicate 9 0)) ((1 ∷ 2 ∷ []) ∷ replicate 514 7 ∷ [])
+    ∷ row (lining (replicate 10 0)) ((1 ∷ 2 ∷ []) ∷ replicate 514 7 ∷ [])
     ∷ row (answered (write-line (replicate report-counts 0) (replicate 511 7) .answer) ∷ []) ((6 ∷ 0 ∷ []) ∷ [])
     ∷ []
 
@@ -234,9 +234,9 @@ answers =
     ∷ row
     (let o =
     repair (origins 2) (0 ∷ 0 ∷ 1 ∷ []) zero64 33
-    (record { out-points = replicate 16 one64; out-faces = replicate 4 7; report = replicate 11 7; work = replicate 161 7 }) in
+    (record { out-points = replicate 16 one64; out-faces = replicate 4 7; report = replicate 12 7; work = replicate 161 7 }) in
     answered (o .answer) ∷ bits (o .rooms .out-points) ∷ o .rooms .out-faces ∷ o .rooms .report ∷ o .rooms .work ∷ [])
-    ((0 ∷ 0 ∷ 10 ∷ []) ∷ (replicate 15 0 ++ (0x3ff0_0000_0000_0000 ∷ [])) ∷ (0 ∷ 0 ∷ 0 ∷ 7 ∷ []) ∷ (1 ∷ replicate 8 0 ++ (2 ∷ 7 ∷ []))
+    ((0 ∷ 0 ∷ 11 ∷ []) ∷ (replicate 15 0 ++ (0x3ff0_0000_0000_0000 ∷ [])) ∷ (0 ∷ 0 ∷ 0 ∷ 7 ∷ []) ∷ (1 ∷ replicate 9 0 ++ (2 ∷ 7 ∷ []))
     ∷ (replicate 160 0 ++ (7 ∷ [])) ∷ [])
     -- a face of the unit legs: its area and its box
     ∷ row (patching legs (0 ∷ 1 ∷ 2 ∷ []) (0 ∷ []) 1 all-kept)
@@ -261,12 +261,14 @@ answers =
     ∷ row (flagging legs (0 ∷ 1 ∷ 2 ∷ []) (0 ∷ []) 1 (by-area (limit (inf false)))) ((0 ∷ []) ∷ [])
     ∷ row (flagging legs (0 ∷ 1 ∷ 2 ∷ 0 ∷ 0 ∷ 0 ∷ []) (0 ∷ 1 ∷ []) 2 (by-fraction (limit one64))) ((1 ∷ 0 ∷ []) ∷ [])
     ∷ row (flagging legs (0 ∷ 0 ∷ 0 ∷ []) (0 ∷ []) 1 (by-fraction (limit (inf false)))) ((1 ∷ []) ∷ [])
-    -- the line: all zero, two that are not, all at their largest
+    -- the line: all zero; two that are not; the sum of the first two, however it is divided; all at their largest, the sum exact
     ∷ row (lining (replicate report-counts 0)) (lined "mesh was already manifold, nothing changed")
-    ∷ row (lining (10 ∷ 0 ∷ 2 ∷ replicate 7 0)) (lined "10 degenerate faces removed, 2 non-manifold edges")
+    ∷ row (lining (3 ∷ 7 ∷ 0 ∷ 2 ∷ replicate 7 0)) (lined "10 degenerate faces removed, 2 non-manifold edges")
+    ∷ row (lining (1 ∷ replicate 10 0)) (lined "1 degenerate faces removed")
+    ∷ row (lining (0 ∷ 1 ∷ replicate 9 0)) (lined "1 degenerate faces removed")
     ∷ row (lining (replicate report-counts 4294967295))
     (lined
-    "4294967295 degenerate faces removed, 4294967295 duplicate faces removed, 4294967295 non-manifold edges, 4294967295 faces dropped there, 4294967295 faces dropped as unorientable, 4294967295 bowtie vertices split, 4294967295 points added, 4294967295 faces reoriented, 4294967295 non-orientable components, 4294967295 isolated vertices removed")
+    "8589934590 degenerate faces removed, 4294967295 duplicate faces removed, 4294967295 non-manifold edges, 4294967295 faces dropped there, 4294967295 faces dropped as unorientable, 4294967295 bowtie vertices split, 4294967295 points added, 4294967295 faces reoriented, 4294967295 non-orientable components, 4294967295 isolated vertices removed")
     ∷ []
 
 -- each stands there
@@ -284,7 +286,7 @@ input =
 -- its output there
 pub output : String
 output =
-    "p\t0000000000000000\t0000000000000000\t0000000000000000\np\t3ff0000000000000\t0000000000000000\t0000000000000000\np\t0000000000000000\t3ff0000000000000\t0000000000000000\np\tbff0000000000000\t0000000000000000\t0000000000000000\np\t0000000000000000\tbff0000000000000\t0000000000000000\np\t0000000000000000\t0000000000000000\t0000000000000000\nf\t0\t1\t2\nf\t5\t3\t4\nr\t0\t0\t0\t0\t0\t1\t1\t0\t0\t0\n"
+    "p\t0000000000000000\t0000000000000000\t0000000000000000\np\t3ff0000000000000\t0000000000000000\t0000000000000000\np\t0000000000000000\t3ff0000000000000\t0000000000000000\np\tbff0000000000000\t0000000000000000\t0000000000000000\np\t0000000000000000\tbff0000000000000\t0000000000000000\np\t0000000000000000\t0000000000000000\t0000000000000000\nf\t0\t1\t2\nf\t5\t3\t4\nr\t0\t0\t0\t0\t0\t0\t1\t1\t0\t0\t0\n"
 
 -- the one follows from the other
 pub program : meshfix (bytes input) ≡ bytes output
@@ -305,7 +307,7 @@ texts =
     ∷ row (printing "o\t00\t0000000000000000\n") (bytes "x\t11\n" ∷ [])
     ∷ row (printing "o\t0\t000000000000000A\n") (bytes "x\t11\n" ∷ [])
     ∷ row (printing "o\t0\t0000000000000000\no\t0\t0000000000000000\n") (bytes "x\t11\n" ∷ [])
-    ∷ row (printing "o\t0\t0000000000000000\n") (bytes "r\t0\t0\t0\t0\t0\t0\t0\t0\t0\t0\n" ∷ [])
+    ∷ row (printing "o\t0\t0000000000000000\n") (bytes "r\t0\t0\t0\t0\t0\t0\t0\t0\t0\t0\t0\n" ∷ [])
     ∷ []
 
 -- each has its output

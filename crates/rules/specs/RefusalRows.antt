@@ -45,13 +45,13 @@ patches-kept n p a b c d = (n ∷ p ∷ []) ∷ replicate a 7 ∷ replicate b di
 pub repair-refusals : List Row
 repair-refusals =
     -- rooms exactly as long as stated for one point and one face, and each of them one short; a refusal changes no room
-    row (repair-at (0 ∷ 0 ∷ 0 ∷ []) (0 ∷ 0 ∷ 0 ∷ []) 0 0 12 3 10 144) ((3 ∷ 3 ∷ 10 ∷ []) ∷ replicate 12 0 ∷ replicate 3 0 ∷ replicate 10 0 ∷ replicate 144 0 ∷ [])
-    ∷ row (repair-at (0 ∷ 0 ∷ 0 ∷ []) (0 ∷ 0 ∷ 0 ∷ []) 0 0 11 3 10 144) (repair-kept 6 0 11 3 10 144)
-    ∷ row (repair-at (0 ∷ 0 ∷ 0 ∷ []) (0 ∷ 0 ∷ 0 ∷ []) 0 0 12 2 10 144) (repair-kept 6 1 12 2 10 144)
-    ∷ row (repair-at (0 ∷ 0 ∷ 0 ∷ []) (0 ∷ 0 ∷ 0 ∷ []) 0 0 12 3 9 144) (repair-kept 6 2 12 3 9 144)
-    ∷ row (repair-at (0 ∷ 0 ∷ 0 ∷ []) (0 ∷ 0 ∷ 0 ∷ []) 0 0 12 3 10 143) (repair-kept 6 3 12 3 10 143)
+    row (repair-at (0 ∷ 0 ∷ 0 ∷ []) (0 ∷ 0 ∷ 0 ∷ []) 0 0 12 3 11 144) ((3 ∷ 3 ∷ 11 ∷ []) ∷ replicate 12 0 ∷ replicate 3 0 ∷ replicate 11 0 ∷ replicate 144 0 ∷ [])
+    ∷ row (repair-at (0 ∷ 0 ∷ 0 ∷ []) (0 ∷ 0 ∷ 0 ∷ []) 0 0 11 3 11 144) (repair-kept 6 0 11 3 11 144)
+    ∷ row (repair-at (0 ∷ 0 ∷ 0 ∷ []) (0 ∷ 0 ∷ 0 ∷ []) 0 0 12 2 11 144) (repair-kept 6 1 12 2 11 144)
+    ∷ row (repair-at (0 ∷ 0 ∷ 0 ∷ []) (0 ∷ 0 ∷ 0 ∷ []) 0 0 12 3 10 144) (repair-kept 6 2 12 3 10 144)
+    ∷ row (repair-at (0 ∷ 0 ∷ 0 ∷ []) (0 ∷ 0 ∷ 0 ∷ []) 0 0 12 3 11 143) (repair-kept 6 3 12 3 11 143)
     -- of two short rooms the first
-    ∷ row (repair-at (0 ∷ 0 ∷ 0 ∷ []) (0 ∷ 0 ∷ 0 ∷ []) 0 0 12 2 10 0) (repair-kept 6 1 12 2 10 0)
+    ∷ row (repair-at (0 ∷ 0 ∷ 0 ∷ []) (0 ∷ 0 ∷ 0 ∷ []) 0 0 12 2 11 0) (repair-kept 6 1 12 2 11 0)
     -- two faults in one input, for each two neighbouring numbers: 1 at the points before 1 at the faces, 1 before 3
     ∷ row (repair-at (0 ∷ 0 ∷ []) (0 ∷ []) 0 0 0 0 0 0) (repair-kept 1 0 0 0 0 0)
     ∷ row (repair-at [] (0 ∷ []) 0x7ff8_0000_0000_0000 64 0 0 0 0) (repair-kept 1 1 0 0 0 0)
@@ -168,13 +168,13 @@ patches-refused = refl
 pub line-refusals : List Row
 line-refusals =
     -- a room of 512 bytes is enough, one of 511 is not
-    row (check-shown (write-line (replicate 9 0 ++ (5 ∷ [])) (replicate 512 7))) ((27 ∷ []) ∷ (bytes "5 isolated vertices removed" ++ replicate 485 0) ∷ [])
-    ∷ row (check-shown (write-line (replicate 10 0) (replicate 511 7))) ((6 ∷ 0 ∷ []) ∷ replicate 511 7 ∷ [])
-    -- 1 before 6; eleven counts
-    ∷ row (check-shown (write-line (replicate 9 0) [])) ((1 ∷ 2 ∷ []) ∷ [] ∷ [])
-    ∷ row (check-shown (write-line (replicate 11 0) [])) ((1 ∷ 2 ∷ []) ∷ [] ∷ [])
-    -- one digit and two
-    ∷ row (check-shown (write-line (9 ∷ 10 ∷ 99 ∷ 100 ∷ replicate 6 0) (replicate 512 7))) ((102 ∷ []) ∷ (bytes "9 degenerate faces removed, 10 duplicate faces removed, 99 non-manifold edges, 100 faces dropped there" ++ replicate 410 0) ∷ [])
+    row (check-shown (write-line (replicate 10 0 ++ (5 ∷ [])) (replicate 512 7))) ((27 ∷ []) ∷ (bytes "5 isolated vertices removed" ++ replicate 485 0) ∷ [])
+    ∷ row (check-shown (write-line (replicate 11 0) (replicate 511 7))) ((6 ∷ 0 ∷ []) ∷ replicate 511 7 ∷ [])
+    -- 1 before 6; ten counts and twelve
+    ∷ row (check-shown (write-line (replicate 10 0) [])) ((1 ∷ 2 ∷ []) ∷ [] ∷ [])
+    ∷ row (check-shown (write-line (replicate 12 0) [])) ((1 ∷ 2 ∷ []) ∷ [] ∷ [])
+    -- one digit and two; the first number is a sum
+    ∷ row (check-shown (write-line (4 ∷ 5 ∷ 10 ∷ 99 ∷ 100 ∷ replicate 6 0) (replicate 512 7))) ((102 ∷ []) ∷ (bytes "9 degenerate faces removed, 10 duplicate faces removed, 99 non-manifold edges, 100 faces dropped there" ++ replicate 410 0) ∷ [])
     ∷ []
 
 -- every row holds

@@ -33,7 +33,7 @@ long = "f\t4294967295\t4294967295\t4294967295\n"
 
 -- the `r` line of a repair without passes
 none : List ℕ
-none = bytes "r\t0\t0\t0\t0\t0\t0\t0\t0\t0\t0\n"
+none = bytes "r\t0\t0\t0\t0\t0\t0\t0\t0\t0\t0\t0\n"
 
 -- what the program prints
 pub text-rows : List Row

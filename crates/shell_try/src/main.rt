@@ -50,7 +50,7 @@ fn floats(row: &[f64], other: &[f64]) {
 fn repair(points: &[f64], faces: &[u32], options: u32, mended: &[f64]) {
     let mut out_points = [7.0; 64];
     let mut out_faces = [7u32; 16];
-    let mut report = [7u32; 11];
+    let mut report = [7u32; 12];
     let mut work = [7u32; 470];
     let r = shell::shell_repair(
         points,
@@ -75,7 +75,7 @@ fn repair(points: &[f64], faces: &[u32], options: u32, mended: &[f64]) {
 }
 
 // Document 01's mesh with three faces at an edge, by all passes, and by pass 4 alone; its five faces of one place, by pass 4; two faces at an edge, by
-// pass 3; and its face of one point, by pass 3, and by pass 5.
+// pass 3; two faces that repeat a corner, a good one and a thin one, by pass 1; and its face of one point, by pass 3, and by pass 5.
 fn repairs() {
     let legs = [
         0.0,
@@ -101,6 +101,7 @@ fn repairs() {
     let five = [0, 1, 2, 1, 2, 3, 2, 3, 4, 3, 4, 0, 4, 0, 1];
     repair(&[0.0; 15], &five, 16, &[0.0; 15]);
     repair(&legs, &[0, 1, 2, 2, 1, 3], 4, &legs);
+    repair(&legs, &[0, 0, 1, 2, 1, 0, 3, 3, 3, 0, 2, 3], 1, &legs);
     repair(&[2.0; 3], &[0, 0, 0], 4, &[2.0; 3]);
     repair(&[2.0; 3], &[0, 0, 0], 8, &[2.0; 9]);
 }

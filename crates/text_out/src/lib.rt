@@ -50,7 +50,7 @@ fn put_whole(out: &mut [u8], at: usize, n: u32) -> usize
     ensures { λ r. ⌜ Puts (now (out .entry)) at (9 ∷ text.decimal n) (now (out .exit)) r ⌝ }
 {
     out[at] = 9;
-    line::put_number(out, at + 1, n)
+    line::put_number(out, at + 1, n as u64)
 }
 
 // Puts the `p` line of point i.

@@ -1,16 +1,18 @@
 -- `drop_degenerate::flag_all` meets its contract: the flags of the faces passed are right. Assumes nothing.
 use Prim.Native.Nat.{_-_}
 use native.Mathlib.Omega.{arith}
-use Rattle.drop_degenerate.proofs.Marking.{Marked, begin, turn, corners-in, again, done}
+use Rattle.rules.specs.Float.{is-repeated}
+use Rattle.measure.specs.Measure.{shapeOf}
+use Rattle.drop_degenerate.proofs.Marking.{Marked, begin, turn, corners-in, again, done, all-counted, few-more}
 use borrow.Author.Needs.{needs}
 use Rattle.drop_degenerate.proofs.flag_all.Statement.{statement}
 use Rattle.drop_degenerate.proofs.flag_all.Tie as tie
 
 abbrev Inv-loop : tie.InvT-loop
-Inv-loop points s faces n work₀ i₀ work i = Marked points s faces n work₀ work i
+Inv-loop points s faces n work₀ repeated₀ i₀ work repeated i = Marked points s faces n work₀ work repeated i
 
 abbrev μ-loop : tie.MeasureT-loop
-μ-loop points s faces n work₀ i₀ work i = n - i
+μ-loop points s faces n work₀ repeated₀ i₀ work repeated i = n - i
 
 loop-holds : tie.Need-loop-holds Inv-loop μ-loop
 loop-holds c = begin (c .before .before .before .pre)
@@ -48,11 +50,11 @@ mul-c-2 c = omega (arith, turn (c .before .before .before .before .before .befor
 shared-slice-read-c : tie.Need-shared-slice-read-c Inv-loop μ-loop
 shared-slice-read-c c = omega (arith, turn (c .before .before .before .before .before .before .before .before .pre) (c .before .before .before .before .loop .inv) (c .before .before .before .loop-test .taken))
 
-degenerate-requires : tie.Need-degenerate-requires Inv-loop μ-loop
-degenerate-requires c κs = corners-in (c .before .before .before .before .before .before .before .before .pre) (c .before .before .before .before .loop .inv) (c .before .before .before .loop-test .taken)
+shape-requires : tie.Need-shape-requires Inv-loop μ-loop
+shape-requires c κs = corners-in (c .before .before .before .before .before .before .before .before .pre) (c .before .before .before .before .loop .inv) (c .before .before .before .loop-test .taken)
 
-flag-requires : tie.Need-flag-requires Inv-loop μ-loop
-flag-requires c κs = search needs
+leaves-requires : tie.Need-leaves-requires Inv-loop μ-loop
+leaves-requires c κs = search needs
 
 mul-work : tie.Need-mul-work Inv-loop μ-loop
 mul-work c = omega (arith, turn (c .before .before .before .before .before .before .before .before .before .before .pre) (c .before .before .before .before .before .before .loop .inv) (c .before .before .before .before .before .loop-test .taken))
@@ -60,20 +62,28 @@ mul-work c = omega (arith, turn (c .before .before .before .before .before .befo
 slice-write-work : tie.Need-slice-write-work Inv-loop μ-loop
 slice-write-work c = omega (arith, turn (c .before .before .before .before .before .before .before .before .before .before .pre) (c .before .before .before .before .before .before .loop .inv) (c .before .before .before .before .before .loop-test .taken))
 
+repeats-requires : tie.Need-repeats-requires Inv-loop μ-loop
+repeats-requires c κs = search needs
+
+add-repeated : tie.Need-add-repeated Inv-loop μ-loop
+add-repeated c =
+    let at-loop = c .before .before .before .before .before .before .before in
+    omega (arith, turn (at-loop .before .before .before .before .pre) (at-loop .loop .inv) (c .before .before .before .before .before .before .loop-test .taken), few-more (is-repeated (shapeOf (c .before .before .shape .result))) (c .repeats .ensures))
+
 add-i : tie.Need-add-i Inv-loop μ-loop
-add-i c = omega (arith, turn (c .before .before .before .before .before .before .before .before .before .before .pre) (c .before .before .before .before .before .before .loop .inv) (c .before .before .before .before .before .loop-test .taken))
+add-i c = omega (arith, turn (c .before .before .before .before .before .before .before .before .before .before .before .pre) (c .before .before .before .before .before .before .before .loop .inv) (c .before .before .before .before .before .before .loop-test .taken))
 
 loop-less : tie.Need-loop-less Inv-loop μ-loop
 loop-less c = omega arith
 
 loop-again : tie.Need-loop-again Inv-loop μ-loop
-loop-again c = again (c .before .before .before .before .before .before .before .before .before .before .pre) (c .before .before .before .before .before .before .loop .inv) (c .before .before .before .before .before .loop-test .taken) (c .before .degenerate .ensures) (c .flag .ensures)
+loop-again c = again (c .before .before .before .before .before .before .before .before .before .before .before .pre) (c .before .before .before .before .before .before .before .loop .inv) (c .before .before .before .before .before .before .loop-test .taken) (c .before .before .shape .ensures) (c .before .leaves .ensures) (c .repeats .ensures)
 
 same-length : tie.Need-same-length Inv-loop μ-loop
 same-length c = c .before .loop .inv .only .long
 
 returns : tie.Need-returns Inv-loop μ-loop
-returns c = done (c .before .before .before .before .before .pre) (c .before .loop .inv) (c .loop-test .left)
+returns c = (done (c .before .before .before .before .before .pre) (c .before .loop .inv) (c .loop-test .left), all-counted (c .before .before .before .before .before .pre) (c .before .loop .inv) (c .loop-test .left))
 
 pub flag-all-spec : {M : Type 1} → statement M
 flag-all-spec =
@@ -93,10 +103,12 @@ flag-all-spec =
     add-c
     mul-c-2
     shared-slice-read-c
-    degenerate-requires
-    flag-requires
+    shape-requires
+    leaves-requires
     mul-work
     slice-write-work
+    repeats-requires
+    add-repeated
     add-i
     loop-less
     loop-again

@@ -1,5 +1,4 @@
 -- `drop_degenerate::mark` meets its contract: the flags stand at the front. Assumes nothing.
-use mathlib.Core.Path.{refl}
 use borrow.Author.Needs.{needs}
 use Rattle.drop_degenerate.proofs.mark.Statement.{statement}
 use Rattle.drop_degenerate.proofs.mark.Tie as tie
@@ -11,7 +10,7 @@ same-length : tie.Need-same-length
 same-length c = search needs
 
 returns : tie.Need-returns
-returns c = (c .before .before .flag-all .ensures, refl)
+returns c = c .before .before .flag-all .ensures
 
 pub mark-spec : {M : Type 1} → statement M
 mark-spec = tie.close (tie.spec flag-all-requires same-length returns)

@@ -53,7 +53,7 @@ put-number-put-number-requires : (t : ℕ) → put-number-lts.Need-put-number-re
   put-number-below t,
   put-number.Post,
 ) (put-number-at t) put-number.Post
-put-number-put-number-requires t c κs = (omega (arith, c .before .before .before .pre .0), tenth-asks (c .before .before .before .pre .1) (c .before .if1 .left) (c .before .before .before .fits .n .fits))
+put-number-put-number-requires t c κs = (omega (arith, c .before .before .before .pre .0), tenth-asks (c .before .before .before .pre .1) (c .before .if1 .left))
 
 put-number-put-digit-requires-2 : (t : ℕ) → put-number-lts.Need-put-digit-requires-2 (
   put-digit-reads.Asked,
@@ -61,7 +61,7 @@ put-number-put-digit-requires-2 : (t : ℕ) → put-number-lts.Need-put-digit-re
   put-number-below t,
   put-number.Post,
 ) (put-number-at t) put-number.Post
-put-number-put-digit-requires-2 t c κs = last-asks (c .before .before .before .before .before .before .before .pre .1) (c .before .before .before .before .before .if1 .left) (c .before .before .before .before .before .before .before .fits .n .fits) (c .before .before .before .put-number .ensures)
+put-number-put-digit-requires-2 t c κs = last-asks (c .before .before .before .before .before .before .before .pre .1) (c .before .before .before .before .before .if1 .left) (c .before .before .before .put-number .ensures)
 
 put-number-same-length-2 : (t : ℕ) → put-number-lts.Need-same-length-2 (
   put-digit-reads.Asked,
@@ -77,7 +77,7 @@ put-number-returns-2 : (t : ℕ) → put-number-lts.Need-returns-2 (
   put-number-below t,
   put-number.Post,
 ) (put-number-at t) put-number.Post
-put-number-returns-2 t c = number-done (c .before .before .before .before .before .before .before .before .before .before .pre .1) (c .before .before .before .before .before .before .before .before .if1 .left) (c .before .before .before .before .before .before .before .before .before .before .fits .n .fits) (c .before .before .before .before .before .before .put-number .ensures) (c .before .before .put-digit2 .ensures)
+put-number-returns-2 t c = number-done (c .before .before .before .before .before .before .before .before .before .before .pre .1) (c .before .before .before .before .before .before .before .before .if1 .left) (c .before .before .before .before .before .before .put-number .ensures) (c .before .before .put-digit2 .ensures)
 
 pub +put-number-spec : {M : Type 1} → statement M
 +put-number-spec = close μ-put-number λ t. put-number-lts.spec (

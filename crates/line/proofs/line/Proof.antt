@@ -1,4 +1,5 @@
 -- `line::line` meets its contract: the checks decide, and an accepted line is put and closed with zeros. Assumes nothing.
+use native.Mathlib.Omega.{arith}
 use Rattle.line.proofs.Whole.{fine, zeros-asks, refused-done, line-done}
 use borrow.Author.Needs.{needs}
 use Rattle.line.proofs.line.Statement.{statement}
@@ -27,7 +28,8 @@ put-zeros-requires c κs =
     let at-put-line = c .before .before .before in
     let at-line-refusal = at-put-line .before .before .before .before in
     let start = at-line-refusal .before .before .before in
-    zeros-asks (fine _ (start .args .line .now) _ (at-line-refusal .line-refusal .ensures) (at-put-line .before .before .enum-told .given .1)) (at-put-line .put-line .ensures)
+    let is-fine = fine _ (start .args .line .now) _ (at-line-refusal .line-refusal .ensures) (at-put-line .before .before .enum-told .given .1) in
+    omega (arith, zeros-asks is-fine (at-put-line .put-line .ensures))
 
 returns : tie.Need-returns
 returns c =

@@ -7,7 +7,7 @@ use Rattle.line.proofs.put_comma.Statement.{statement}
 use Rattle.line.proofs.put_comma.Tie as tie
 
 returns : tie.Need-returns
-returns c = comma-none (c .if1 .taken)
+returns c = comma-none (omega arith)
 
 slice-write-line : tie.Need-slice-write-line
 slice-write-line c = search needs
@@ -25,7 +25,7 @@ same-length : tie.Need-same-length
 same-length c = search needs
 
 returns-2 : tie.Need-returns-2
-returns-2 c = comma-some (c .if1 .left) (c .before .pre)
+returns-2 c = comma-some (omega arith) (c .before .pre)
 
 pub put-comma-spec : {M : Type 1} → statement M
 put-comma-spec =

@@ -1,4 +1,5 @@
 -- `line::put_next` meets its contract. Assumes nothing.
+use native.Mathlib.Omega.{arith}
 use Rattle.line.proofs.Words.{more-none, part-asks, more-done}
 use borrow.Author.Needs.{needs}
 use Rattle.line.proofs.put_next.Statement.{statement}
@@ -7,7 +8,7 @@ use Rattle.line.proofs.put_next.Tie as tie
 returns : tie.Need-returns
 returns c =
     let start = c .before .before in
-    more-none (start .pre) (c .if1 .taken)
+    more-none (start .pre .0) (omega arith)
 
 put-comma-requires : tie.Need-put-comma-requires
 put-comma-requires c κs = search needs
@@ -16,7 +17,7 @@ put-part-requires : tie.Need-put-part-requires
 put-part-requires c κs =
     let at-put-comma = c .before .before .before in
     let start = at-put-comma .before .before .before .before in
-    part-asks (start .pre) (at-put-comma .put-comma .ensures)
+    (part-asks (start .pre .0) (at-put-comma .put-comma .ensures), start .pre .1)
 
 same-length : tie.Need-same-length
 same-length c = search needs
@@ -26,7 +27,7 @@ returns-2 c =
     let at-put-part = c .before .before in
     let at-put-comma = at-put-part .before .before .before .before in
     let start = at-put-comma .before .before .before .before in
-    more-done (start .pre) (at-put-comma .put-comma .ensures) (at-put-comma .before .before .if1 .left) (at-put-part .put-part .ensures)
+    more-done (start .pre .0) (at-put-comma .put-comma .ensures) (omega arith) (at-put-part .put-part .ensures)
 
 pub put-next-spec : {M : Type 1} → statement M
 put-next-spec =

@@ -1,4 +1,4 @@
--- `line::put_parts` meets its contract: after k counts the line of these stands in front. Assumes nothing.
+-- `line::put_parts` meets its contract: after k labels the line of their numbers stands in front. Assumes nothing.
 use Prim.Native.Nat.{_-_}
 use native.Mathlib.Omega.{arith}
 use Rattle.line.specs.Put.{label-count}
@@ -15,14 +15,11 @@ abbrev μ-loop : tie.MeasureT-loop
 loop-holds : tie.Need-loop-holds Inv-loop μ-loop
 loop-holds c = begin (c .before .before .pre)
 
-mul-put-next : tie.Need-mul-put-next Inv-loop μ-loop
-mul-put-next c = omega arith
-
-shared-slice-read-put-next : tie.Need-shared-slice-read-put-next Inv-loop μ-loop
-shared-slice-read-put-next c = turn (c .before .before .before .before .before .before .pre) (c .before .before .before .loop .inv) (c .before .before .loop-test .taken) .count
+value-requires : tie.Need-value-requires Inv-loop μ-loop
+value-requires c κs = turn (c .before .before .before .before .before .pre) (c .before .before .loop .inv) (c .before .loop-test .taken) .count
 
 put-next-requires : tie.Need-put-next-requires Inv-loop μ-loop
-put-next-requires c κs = turn (c .before .before .before .before .before .before .pre) (c .before .before .before .loop .inv) (c .before .before .loop-test .taken) .asks
+put-next-requires c κs = (turn (c .before .before .before .before .before .before .pre) (c .before .before .before .loop .inv) (c .before .before .loop-test .taken) .asks, c .value .ensures .1)
 
 add-k : tie.Need-add-k Inv-loop μ-loop
 add-k c = omega arith
@@ -31,7 +28,7 @@ loop-less : tie.Need-loop-less Inv-loop μ-loop
 loop-less c = omega arith
 
 loop-again : tie.Need-loop-again Inv-loop μ-loop
-loop-again c = again (c .before .before .before .before .before .before .before .before .before .pre) (c .before .before .before .before .before .before .loop .inv) (c .before .before .before .before .before .loop-test .taken) (c .before .before .put-next .ensures)
+loop-again c = again (c .before .before .before .before .before .before .before .before .before .pre) (c .before .before .before .before .before .before .loop .inv) (c .before .before .before .before .before .loop-test .taken) (c .before .before .before .value .ensures .0) (c .before .before .put-next .ensures)
 
 same-length : tie.Need-same-length Inv-loop μ-loop
 same-length c = c .before .loop .inv .puts .only .long
@@ -46,8 +43,7 @@ put-parts-spec =
     Inv-loop
     μ-loop
     loop-holds
-    mul-put-next
-    shared-slice-read-put-next
+    value-requires
     put-next-requires
     add-k
     loop-less

@@ -2,6 +2,7 @@
 use mathlib.Core.Path.{ap}
 use lib.Ieee.{binary64, toBits, isNan}
 use Rattle.rules.specs.Open.{every-rule}
+use Rattle.measure.specs.Measure.{numberOf}
 use borrow.Author.Needs.{needs}
 use Rattle.measure_try.proofs.close_by.Statement.{statement}
 use Rattle.measure_try.proofs.close_by.Tie as tie
@@ -26,15 +27,15 @@ same-requires-2 : tie.Need-same-requires-2
 unfolding every-rule isNan
 same-requires-2 c κs = (ap isNan (c .area .ensures), ap (toBits binary64) (c .area .ensures))
 
-slice-aggregate-degenerate : tie.Need-slice-aggregate-degenerate
-slice-aggregate-degenerate c = search needs
+slice-aggregate-shape : tie.Need-slice-aggregate-shape
+slice-aggregate-shape c = search needs
 
-degenerate-requires : tie.Need-degenerate-requires
-degenerate-requires c κs = search needs
+shape-requires : tie.Need-shape-requires
+shape-requires c κs = search needs
 
-expect-requires : tie.Need-expect-requires
-unfolding every-rule isNan
-expect-requires c κs = c .degenerate .ensures
+found-requires : tie.Need-found-requires
+unfolding every-rule
+found-requires c κs = ap numberOf (c .shape .ensures)
 
 returns : tie.Need-returns
 returns c = search needs
@@ -49,7 +50,7 @@ close-by-spec =
     slice-aggregate-area
     area-requires
     same-requires-2
-    slice-aggregate-degenerate
-    degenerate-requires
-    expect-requires
+    slice-aggregate-shape
+    shape-requires
+    found-requires
     returns)

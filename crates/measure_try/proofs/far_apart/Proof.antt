@@ -1,8 +1,8 @@
 -- `measure_try::far_apart` meets its contract: antt runs the rules. Assumes nothing.
 use mathlib.Core.Path.{ap}
-use mathlib.Core.Bool.{not}
 use lib.Ieee.{binary64, toBits, isNan}
 use Rattle.rules.specs.Open.{every-rule}
+use Rattle.measure.specs.Measure.{numberOf}
 use borrow.Author.Needs.{needs}
 use Rattle.measure_try.proofs.far_apart.Statement.{statement}
 use Rattle.measure_try.proofs.far_apart.Tie as tie
@@ -37,15 +37,15 @@ same-requires-3 : tie.Need-same-requires-3
 unfolding every-rule isNan
 same-requires-3 c κs = (ap isNan (c .distance .ensures), ap (toBits binary64) (c .distance .ensures))
 
-slice-aggregate-degenerate : tie.Need-slice-aggregate-degenerate
-slice-aggregate-degenerate c = search needs
+slice-aggregate-shape : tie.Need-slice-aggregate-shape
+slice-aggregate-shape c = search needs
 
-degenerate-requires : tie.Need-degenerate-requires
-degenerate-requires c κs = search needs
+shape-requires : tie.Need-shape-requires
+shape-requires c κs = search needs
 
-expect-requires : tie.Need-expect-requires
-unfolding every-rule isNan
-expect-requires c κs = ap not (c .degenerate .ensures)
+found-requires : tie.Need-found-requires
+unfolding every-rule
+found-requires c κs = ap numberOf (c .shape .ensures)
 
 returns : tie.Need-returns
 returns c = search needs
@@ -63,7 +63,7 @@ far-apart-spec =
     slice-aggregate-distance
     distance-requires
     same-requires-3
-    slice-aggregate-degenerate
-    degenerate-requires
-    expect-requires
+    slice-aggregate-shape
+    shape-requires
+    found-requires
     returns)

@@ -1,8 +1,7 @@
 -- `measure_try::forms` meets its contract: antt runs the rules. Assumes nothing.
-use mathlib.Core.Path.{ap, _∙_}
-use mathlib.Core.Bool.{not}
+use mathlib.Core.Path.{ap}
 use Rattle.rules.specs.Open.{every-rule}
-use Rattle.measure_try.specs.Forms.{repeats}
+use Rattle.measure.specs.Measure.{numberOf}
 use borrow.Author.Needs.{needs}
 use Rattle.measure_try.proofs.forms.Statement.{statement}
 use Rattle.measure_try.proofs.forms.Tie as tie
@@ -13,12 +12,9 @@ slice-aggregate-shape c = search needs
 shape-requires : tie.Need-shape-requires
 shape-requires c κs = search needs
 
-repeated-requires : tie.Need-repeated-requires
-repeated-requires c κs = search needs
-
-expect-requires : tie.Need-expect-requires
+found-requires : tie.Need-found-requires
 unfolding every-rule
-expect-requires c κs = c .repeated .ensures ∙ ap repeats (c .before .shape .ensures)
+found-requires c κs = ap numberOf (c .shape .ensures)
 
 slice-aggregate-shape-2 : tie.Need-slice-aggregate-shape-2
 slice-aggregate-shape-2 c = search needs
@@ -26,12 +22,9 @@ slice-aggregate-shape-2 c = search needs
 shape-requires-2 : tie.Need-shape-requires-2
 shape-requires-2 c κs = search needs
 
-repeated-requires-2 : tie.Need-repeated-requires-2
-repeated-requires-2 c κs = search needs
-
-expect-requires-2 : tie.Need-expect-requires-2
+found-requires-2 : tie.Need-found-requires-2
 unfolding every-rule
-expect-requires-2 c κs = c .repeated2 .ensures ∙ ap repeats (c .before .shape2 .ensures)
+found-requires-2 c κs = ap numberOf (c .shape2 .ensures)
 
 slice-aggregate-shape-3 : tie.Need-slice-aggregate-shape-3
 slice-aggregate-shape-3 c = search needs
@@ -39,12 +32,9 @@ slice-aggregate-shape-3 c = search needs
 shape-requires-3 : tie.Need-shape-requires-3
 shape-requires-3 c κs = search needs
 
-repeated-requires-3 : tie.Need-repeated-requires-3
-repeated-requires-3 c κs = search needs
-
-expect-requires-3 : tie.Need-expect-requires-3
+found-requires-3 : tie.Need-found-requires-3
 unfolding every-rule
-expect-requires-3 c κs = c .repeated3 .ensures ∙ ap repeats (c .before .shape3 .ensures)
+found-requires-3 c κs = ap numberOf (c .shape3 .ensures)
 
 slice-aggregate-shape-4 : tie.Need-slice-aggregate-shape-4
 slice-aggregate-shape-4 c = search needs
@@ -52,12 +42,9 @@ slice-aggregate-shape-4 c = search needs
 shape-requires-4 : tie.Need-shape-requires-4
 shape-requires-4 c κs = search needs
 
-repeated-requires-4 : tie.Need-repeated-requires-4
-repeated-requires-4 c κs = search needs
-
-expect-requires-4 : tie.Need-expect-requires-4
+found-requires-4 : tie.Need-found-requires-4
 unfolding every-rule
-expect-requires-4 c κs = ap not (c .repeated4 .ensures ∙ ap repeats (c .before .shape4 .ensures))
+found-requires-4 c κs = ap numberOf (c .shape4 .ensures)
 
 returns : tie.Need-returns
 returns c = search needs
@@ -68,18 +55,14 @@ forms-spec =
     (tie.spec
     slice-aggregate-shape
     shape-requires
-    repeated-requires
-    expect-requires
+    found-requires
     slice-aggregate-shape-2
     shape-requires-2
-    repeated-requires-2
-    expect-requires-2
+    found-requires-2
     slice-aggregate-shape-3
     shape-requires-3
-    repeated-requires-3
-    expect-requires-3
+    found-requires-3
     slice-aggregate-shape-4
     shape-requires-4
-    repeated-requires-4
-    expect-requires-4
+    found-requires-4
     returns)

@@ -1,8 +1,8 @@
 -- `measure_try::unit_legs` meets its contract: antt runs the rules. Assumes nothing.
 use mathlib.Core.Path.{ap}
-use mathlib.Core.Bool.{not}
 use lib.Ieee.{binary64, toBits, isNan}
 use Rattle.rules.specs.Open.{every-rule}
+use Rattle.measure.specs.Measure.{numberOf}
 use borrow.Author.Needs.{needs}
 use Rattle.measure_try.proofs.unit_legs.Statement.{statement}
 use Rattle.measure_try.proofs.unit_legs.Tie as tie
@@ -37,35 +37,35 @@ same-requires-3 : tie.Need-same-requires-3
 unfolding every-rule isNan
 same-requires-3 c κs = (ap isNan (c .distance .ensures), ap (toBits binary64) (c .distance .ensures))
 
-slice-aggregate-degenerate : tie.Need-slice-aggregate-degenerate
-slice-aggregate-degenerate c = search needs
+slice-aggregate-shape : tie.Need-slice-aggregate-shape
+slice-aggregate-shape c = search needs
 
-degenerate-requires : tie.Need-degenerate-requires
-degenerate-requires c κs = search needs
+shape-requires : tie.Need-shape-requires
+shape-requires c κs = search needs
 
-expect-requires : tie.Need-expect-requires
-unfolding every-rule isNan
-expect-requires c κs = c .degenerate .ensures
+found-requires : tie.Need-found-requires
+unfolding every-rule
+found-requires c κs = ap numberOf (c .shape .ensures)
 
-slice-aggregate-degenerate-2 : tie.Need-slice-aggregate-degenerate-2
-slice-aggregate-degenerate-2 c = search needs
+slice-aggregate-shape-2 : tie.Need-slice-aggregate-shape-2
+slice-aggregate-shape-2 c = search needs
 
-degenerate-requires-2 : tie.Need-degenerate-requires-2
-degenerate-requires-2 c κs = search needs
+shape-requires-2 : tie.Need-shape-requires-2
+shape-requires-2 c κs = search needs
 
-expect-requires-2 : tie.Need-expect-requires-2
-unfolding every-rule isNan
-expect-requires-2 c κs = ap not (c .degenerate2 .ensures)
+found-requires-2 : tie.Need-found-requires-2
+unfolding every-rule
+found-requires-2 c κs = ap numberOf (c .shape2 .ensures)
 
-slice-aggregate-degenerate-3 : tie.Need-slice-aggregate-degenerate-3
-slice-aggregate-degenerate-3 c = search needs
+slice-aggregate-shape-3 : tie.Need-slice-aggregate-shape-3
+slice-aggregate-shape-3 c = search needs
 
-degenerate-requires-3 : tie.Need-degenerate-requires-3
-degenerate-requires-3 c κs = search needs
+shape-requires-3 : tie.Need-shape-requires-3
+shape-requires-3 c κs = search needs
 
-expect-requires-3 : tie.Need-expect-requires-3
-unfolding every-rule isNan
-expect-requires-3 c κs = c .degenerate3 .ensures
+found-requires-3 : tie.Need-found-requires-3
+unfolding every-rule
+found-requires-3 c κs = ap numberOf (c .shape3 .ensures)
 
 returns : tie.Need-returns
 returns c = search needs
@@ -83,13 +83,13 @@ unit-legs-spec =
     slice-aggregate-distance
     distance-requires
     same-requires-3
-    slice-aggregate-degenerate
-    degenerate-requires
-    expect-requires
-    slice-aggregate-degenerate-2
-    degenerate-requires-2
-    expect-requires-2
-    slice-aggregate-degenerate-3
-    degenerate-requires-3
-    expect-requires-3
+    slice-aggregate-shape
+    shape-requires
+    found-requires
+    slice-aggregate-shape-2
+    shape-requires-2
+    found-requires-2
+    slice-aggregate-shape-3
+    shape-requires-3
+    found-requires-3
     returns)

@@ -2,7 +2,7 @@
 use mathlib.Core.Path.{sym, _∙_}
 use Rattle.leaving.proofs.ByFlags.{left-by, left-fewer}
 use Rattle.passes.proofs.Steps.{bit-set, bit-clear, lowest, as-long}
-use Rattle.passes.proofs.Passes.{reads1, leaves1, on1, off1}
+use Rattle.passes.proofs.Passes.{reads1, leaves1, fewer-repeated, on1, off1}
 use borrow.Author.Needs.{needs}
 use Rattle.passes.proofs.pass1.Statement.{statement}
 use Rattle.passes.proofs.pass1.Tie as tie
@@ -31,6 +31,13 @@ sub-t12 c =
     let at-mark = at-leave .before .before .before .before .before in
     left-fewer (left-by (at-mark .mark .ensures .0) (at-leave .leave .ensures))
 
+sub-t23 : tie.Need-sub-t23
+sub-t23 c =
+    let at-leave = c .before .before .before in
+    let at-mark = at-leave .before .before .before .before .before in
+    let start = at-mark .before .before .before .before .before .before .before .before in
+    fewer-repeated (start .pre) (start .args .s) (left-by (at-mark .mark .ensures .0) (at-leave .leave .ensures)) (at-mark .mark .ensures .1)
+
 same-length : tie.Need-same-length
 same-length c = search needs
 
@@ -42,10 +49,10 @@ same-length-3 c = search needs
 
 returns : tie.Need-returns
 returns c =
-    let at-leave = c .before .before in
+    let at-leave = c .before .before .before in
     let at-mark = at-leave .before .before .before .before .before in
     let start = at-mark .before .before .before .before .before .before .before .before in
-    rw (bit-set 0 (start .args .options) (lowest (start .args .options) ∙ c .before .before .before .before .before .before .before .before .before .before .before .if1 .taken)) (on1 (start .pre) (start .args .s) (at-mark .mark .ensures .0) (left-by (at-mark .mark .ensures .0) (at-leave .leave .ensures)))
+    rw (bit-set 0 (start .args .options) (lowest (start .args .options) ∙ c .before .before .before .before .before .before .before .before .before .before .before .before .if1 .taken)) (on1 (start .pre) (start .args .s) (at-mark .mark .ensures .0) (left-by (at-mark .mark .ensures .0) (at-leave .leave .ensures)) (at-mark .mark .ensures .1))
 
 returns-2 : tie.Need-returns-2
 returns-2 c =
@@ -62,6 +69,7 @@ pass1-spec =
     mark-requires
     leave-requires
     sub-t12
+    sub-t23
     same-length
     same-length-2
     same-length-3

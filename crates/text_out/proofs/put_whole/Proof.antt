@@ -15,7 +15,7 @@ add-put-number : tie.Need-add-put-number
 add-put-number c = search needs
 
 put-number-requires : tie.Need-put-number-requires
-put-number-requires c κs = record { room = simp length-set (omega (arith, c .before .before .pre, decimal-short (c .before .before .args .n))) }
+put-number-requires c κs = record { short = omega arith; room = simp length-set (omega (arith, c .before .before .pre, decimal-short (c .before .before .args .n))) }
 
 same-length : tie.Need-same-length
 same-length c = c .before .before .put-number .ensures .only .long ∙ length-set (c .before .before .before .before .before .args .out .now) (c .before .before .before .before .before .args .at) 9

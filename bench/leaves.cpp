@@ -13,7 +13,7 @@
 
 extern "C" {
 double bench_root(double x);
-bool bench_degenerate(const double *points, size_t points_len, double s, uint32_t a, uint32_t b, uint32_t c);
+uint32_t bench_shape(const double *points, size_t points_len, double s, uint32_t a, uint32_t b, uint32_t c);
 size_t bench_table(uint32_t *work, size_t work_len, const uint32_t *faces, size_t faces_len, size_t points, bool directed, size_t at);
 size_t bench_flood(uint32_t *work, size_t work_len, size_t things, size_t runs, size_t starts, size_t order, size_t labels);
 }
@@ -107,10 +107,10 @@ static void root(const char *name, const std::vector<double> &values) {
            other / values.size() * 1e9, own / other);
 }
 
-// The degeneracy test by the C library's root.
-static bool thin(const double *p, double s, uint32_t a, uint32_t b, uint32_t c) {
+// The degeneracy test by the C library's root: 0 good, 1 repeated, 2 thin.
+static uint32_t by_root(const double *p, double s, uint32_t a, uint32_t b, uint32_t c) {
     if (a == b || b == c || c == a)
-        return true;
+        return 1;
     double e[3], f[3];
     for (int k = 0; k < 3; k++) {
         e[k] = p[3 * b + k] - p[3 * a + k];
@@ -118,19 +118,19 @@ static bool thin(const double *p, double s, uint32_t a, uint32_t b, uint32_t c) 
     }
     double x[3] = {e[1] * f[2] - e[2] * f[1], e[2] * f[0] - e[0] * f[2], e[0] * f[1] - e[1] * f[0]};
     auto norm = [](const double *v) { return std::sqrt(v[0] * v[0] + v[1] * v[1] + v[2] * v[2]); };
-    return norm(x) <= s * norm(e) * norm(f);
+    return norm(x) <= s * norm(e) * norm(f) ? 2 : 0;
 }
 
-// Each face's degeneracy at the threshold s.
-static void degenerate(const char *name, double s, const std::vector<double> &points, const Row &faces) {
+// What each face is at the threshold s.
+static void shape(const char *name, double s, const std::vector<double> &points, const Row &faces) {
     size_t n = faces.size() / 3;
-    std::vector<char> mine(n), theirs(n);
+    Row mine(n), theirs(n);
     const double *p = points.data();
     const uint32_t *f = faces.data();
-    double own = best_of_five([&] { for (size_t i = 0; i < n; i++) mine[i] = bench_degenerate(p, points.size(), s, f[3 * i], f[3 * i + 1], f[3 * i + 2]); });
-    double other = best_of_five([&] { for (size_t i = 0; i < n; i++) theirs[i] = thin(p, s, f[3 * i], f[3 * i + 1], f[3 * i + 2]); });
+    double own = best_of_five([&] { for (size_t i = 0; i < n; i++) mine[i] = bench_shape(p, points.size(), s, f[3 * i], f[3 * i + 1], f[3 * i + 2]); });
+    double other = best_of_five([&] { for (size_t i = 0; i < n; i++) theirs[i] = by_root(p, s, f[3 * i], f[3 * i + 1], f[3 * i + 2]); });
     expect(mine == theirs, name);
-    printf("thin   %-28s %9zu faces              %7.1f ns, with the C library's root %5.1f ns, ratio %.1f\n", name, n, own / n * 1e9, other / n * 1e9,
+    printf("shape  %-28s %9zu faces              %7.1f ns, with the C library's root %5.1f ns, ratio %.1f\n", name, n, own / n * 1e9, other / n * 1e9,
            own / other);
 }
 
@@ -201,8 +201,12 @@ int main() {
     std::vector<double> rough(3 * points);
     for (size_t i = 0; i < rough.size(); i++)
         rough[i] = (i % 3 == 0 ? i / 3 % side : i % 3 == 1 ? i / 3 / side : 0) + unit[i % million];
-    degenerate("grid, rough, s 1e-12", 1e-12, rough, plain);
-    degenerate("grid, rough, s 0.3", 0.3, rough, plain);
+    shape("grid, rough, s 1e-12", 1e-12, rough, plain);
+    shape("grid, rough, s 0.3", 0.3, rough, plain);
+    Row repeating = plain;
+    for (size_t i = 0; i < repeating.size(); i += 9)
+        repeating[i + random() % 3] = repeating[i + random() % 3];
+    shape("a third may repeat, s 0.3", 0.3, rough, repeating);
 
     std::vector<Row> one(1, Row(million)), chain(million), mixed(million);
     std::iota(one[0].begin(), one[0].end(), 0);

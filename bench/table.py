@@ -204,7 +204,7 @@ if "check" in only:
 if "patches" in only:
     against("Patches, 64 labels", "patches", plain)
 if "line" in only:
-    against("Report line, ten counts", "line", shapes[:1], ["reused"])
+    against("Report line, eleven counts", "line", shapes[:1], ["reused"])
 growth()
 targets()
 if "others" in only:

@@ -9,7 +9,7 @@ int document_rooms(const Asked *a, size_t size[6], uint64_t stated[6]) {
     uint64_t P = a->P, F = a->faces_len / 3, C = a->patches, work = 16 * P + 64 * F + 64;
     static const size_t sizes[CALLS][6] = {{8, 4, 4, 4}, {4, 8, 4, 4, 4, 4}, {4}, {4, 8, 4, 4}, {1}};
     static const int rooms[CALLS] = {4, 6, 1, 4, 1};
-    const uint64_t all[CALLS][6] = {{3 * (P + 3 * F), 3 * F, 10, work}, {6 * F, 3 * F, 3 * F, 3 * F, 3 * F, work}, {work}, {C, 7 * C, C, 4 * C}, {512}};
+    const uint64_t all[CALLS][6] = {{3 * (P + 3 * F), 3 * F, 11, work}, {6 * F, 3 * F, 3 * F, 3 * F, 3 * F, work}, {work}, {C, 7 * C, C, 4 * C}, {512}};
     memcpy(size, sizes[a->call], sizeof sizes[0]);
     memcpy(stated, all[a->call], sizeof all[0]);
     return rooms[a->call];
@@ -25,7 +25,7 @@ static int refused(Wanted *w, uint32_t number, uint64_t place) {
 static int sizes_refused(const Asked *a, Wanted *w) {
     int has_points = a->call == REPAIR || a->call == EDGES || a->call == PATCHES;
     if (a->call == LINE)
-        return a->counts_len != 10 && refused(w, 1, 2);
+        return a->counts_len != 11 && refused(w, 1, 2);
     if (has_points && a->points_len % 3 != 0)
         return refused(w, 1, 0);
     if (a->faces_len % 3 != 0)
@@ -202,15 +202,18 @@ static void answer_patches(const Asked *a, Wanted *w) {
     w->entries[1] = 7 * C;
 }
 
+/* The line of ten numbers, of which the first is the sum of the first two counts. */
 static void answer_line(const Asked *a, Wanted *w) {
     static const char *const labels[] = {"degenerate faces removed", "duplicate faces removed", "non-manifold edges", "faces dropped there",
                                          "faces dropped as unorientable", "bowtie vertices split", "points added", "faces reoriented",
                                          "non-orientable components", "isolated vertices removed"};
     char *line = w->row[0] = row(512, 1);
     int at = 0;
-    for (int k = 0; k < 10; k++)
-        if (a->counts[k] != 0)
-            at += snprintf(line + at, 512 - at, "%s%u %s", at == 0 ? "" : ", ", a->counts[k], labels[k]);
+    for (int k = 0; k < 10; k++) {
+        unsigned long long number = k == 0 ? (unsigned long long)a->counts[0] + a->counts[1] : a->counts[k + 1];
+        if (number != 0)
+            at += snprintf(line + at, 512 - at, "%s%llu %s", at == 0 ? "" : ", ", number, labels[k]);
+    }
     if (at == 0)
         at = snprintf(line, 512, "mesh was already manifold, nothing changed");
     w->entries[0] = at;
@@ -287,7 +290,7 @@ static int one_fan(const uint32_t *faces, size_t n, size_t P) {
 
 const char *document_demand(const Asked *a, const double *points, size_t P, const uint32_t *faces, size_t F, const uint32_t *report) {
     size_t was = a->faces_len / 3, k = 0;
-    if (was != F + report[0] + report[1] + report[3] + report[4] || a->P + report[6] != P + report[9])
+    if (was != F + report[0] + report[1] + report[2] + report[4] + report[5] || a->P + report[7] != P + report[10])
         return "the counts do not add up";
     for (size_t i = 0; i < 3 * F; i++)
         if (faces[i] >= P)

@@ -24,13 +24,16 @@ static double norm_of(const double e[3]) { return norm(e[0], e[1], e[2]); }
 
 static double squared(const double e[3]) { return (e[0] * e[0] + e[1] * e[1]) + e[2] * e[2]; }
 
-static int degenerate(const Mesh *m, const uint32_t *f) {
+typedef enum { GOOD, REPEATED, THIN } Kind;
+
+/* What a face is by the degeneracy test: a repeated corner wins over thin. */
+static Kind kind(const Mesh *m, const uint32_t *f) {
     double e1[3], e2[3];
     if (f[0] == f[1] || f[1] == f[2] || f[2] == f[0])
-        return 1;
+        return REPEATED;
     difference(m, f[1], f[0], e1);
     difference(m, f[2], f[0], e2);
-    return cross_norm(e1, e2) <= (m->s * norm_of(e1)) * norm_of(e2);
+    return cross_norm(e1, e2) <= (m->s * norm_of(e1)) * norm_of(e2) ? THIN : GOOD;
 }
 
 static double quality(const Mesh *m, uint32_t face) {
@@ -61,9 +64,13 @@ static uint32_t leave(Mesh *m, const uint8_t *marks) {
 
 static void pass1(Mesh *m) {
     uint8_t *marks = row(m->F, 1);
-    for (size_t i = 0; i < m->F; i++)
-        marks[i] = (uint8_t)degenerate(m, m->faces + 3 * i);
-    m->report[0] += leave(m, marks);
+    for (size_t i = 0; i < m->F; i++) {
+        Kind is = kind(m, m->faces + 3 * i);
+        m->report[0] += is == REPEATED;
+        m->report[1] += is == THIN;
+        marks[i] = is != GOOD;
+    }
+    leave(m, marks);
     free(marks);
 }
 
@@ -91,7 +98,7 @@ static void pass2(Mesh *m) {
     qsort(all, m->F, sizeof *all, by_corners);
     for (size_t i = 1; i < m->F; i++)
         marks[all[i].face] = memcmp(all[i - 1].corner, all[i].corner, 12) == 0;
-    m->report[1] += leave(m, marks);
+    m->report[2] += leave(m, marks);
     free(all);
     free(marks);
 }
@@ -120,7 +127,7 @@ static void pass3(Mesh *m) {
             ;
         if (j - i <= 2)
             continue;
-        m->report[2]++;
+        m->report[3]++;
         const Use *run = all + i;
         size_t n = j - i, first = best(m, run, n, n, -1);
         size_t second = best(m, run, n, n, !steps(m, run[first].entry / 3, run[first].low, run[first].high));
@@ -130,7 +137,7 @@ static void pass3(Mesh *m) {
             if (run[k].entry / 3 != run[first].entry / 3 && run[k].entry / 3 != run[second].entry / 3)
                 marks[run[k].entry / 3] = 1;
     }
-    m->report[3] += leave(m, marks);
+    m->report[4] += leave(m, marks);
     free(all);
     free(marks);
 }
@@ -176,7 +183,7 @@ static void pop(Mesh *m, Walk *w, uint32_t face) {
                 f[1] = f[2];
                 f[2] = held;
                 w->exchanged[other] = 1;
-                m->report[7]++;
+                m->report[8]++;
             }
             w->stack[w->height++] = other;
         }
@@ -196,7 +203,7 @@ static void orient(Mesh *m) {
         w.marked = 0;
         while (w.height > 0)
             pop(m, &w, w.stack[--w.height]);
-        m->report[8] += (uint32_t)w.marked;
+        m->report[9] += (uint32_t)w.marked;
     }
     free(all);
     free(w.stack);
@@ -218,7 +225,7 @@ static void collisions(Mesh *m) {
             if (k != first)
                 marks[all[i + k].entry / 3] = 1;
     }
-    m->report[4] += leave(m, marks);
+    m->report[5] += leave(m, marks);
     free(all);
     free(marks);
 }
@@ -247,7 +254,7 @@ static void split(Mesh *m, uint32_t v, const uint32_t *entries, size_t n) {
                     queue[last++] = (uint32_t)k;
                 }
     }
-    m->report[5] += groups > 1;
+    m->report[6] += groups > 1;
     for (uint32_t g = 2; g <= groups; g++) {
         memcpy(m->points + 3 * m->P, m->points + 3 * v, 24);
         for (size_t k = 0; k < n; k++)
@@ -255,7 +262,7 @@ static void split(Mesh *m, uint32_t v, const uint32_t *entries, size_t n) {
                 if (m->faces[3 * entries[k] + c] == v)
                     m->faces[3 * entries[k] + c] = (uint32_t)m->P;
         m->P++;
-        m->report[6]++;
+        m->report[7]++;
     }
     free(group);
     free(queue);
@@ -289,13 +296,13 @@ static void pass6(Mesh *m) {
         }
     for (size_t i = 0; i < 3 * m->F; i++)
         m->faces[i] = new[m->faces[i]];
-    m->report[9] += (uint32_t)(m->P - kept);
+    m->report[10] += (uint32_t)(m->P - kept);
     m->P = kept;
     free(new);
 }
 
 void document_repair(const Asked *a, Wanted *w) {
-    Mesh m = {row(3 * (a->P + a->faces_len), 8), a->s, row(a->faces_len, 4), row(10, 4), a->P, a->faces_len / 3};
+    Mesh m = {row(3 * (a->P + a->faces_len), 8), a->s, row(a->faces_len, 4), row(11, 4), a->P, a->faces_len / 3};
     if (a->points_len > 0)
         memcpy(m.points, a->points, 8 * a->points_len);
     if (a->faces_len > 0)
@@ -319,5 +326,5 @@ void document_repair(const Asked *a, Wanted *w) {
     w->row[2] = m.report;
     w->entries[0] = 3 * m.P;
     w->entries[1] = 3 * m.F;
-    w->entries[2] = 10;
+    w->entries[2] = 11;
 }

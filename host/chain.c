@@ -1,6 +1,7 @@
 /* The chain repair, check, edges on damaged meshes, from a fixed seed: `chain MESHES`. After a repair with all six options each mesh must be what is
  * proved of it: the check says yes, the edge call accepts, each boundary edge stands in exactly one loop, each directed edge is walked at most once,
- * every point is used and has one fan, each face is an input face in input order, and the counts add up. The first mesh that differs is printed. */
+ * every point is used and has one fan, each face is an input face in input order, as many faces as repeat a corner are counted so, and the counts add up.
+ * The first mesh that differs is printed. */
 #include "shell.h"
 #include <stdio.h>
 #include <stdlib.h>
@@ -197,10 +198,18 @@ static int accepted(const Mesh *m) {
     return check.yes && r.found.number == SHELL_ACCEPTED;
 }
 
+/* How many faces have two corners with the same number. */
+static uint32_t repeated(const Mesh *m) {
+    uint32_t count = 0;
+    for (const uint32_t *face = m->faces; face < m->faces + 3 * m->F; face += 3)
+        count += face[0] == face[1] || face[1] == face[2] || face[2] == face[0];
+    return count;
+}
+
 /* The two sums of the report: faces and points. */
 static int adds_up(const Mesh *m, const uint32_t *report, size_t P, size_t F) {
-    uint32_t removed = report[SHELL_DEGENERATE_REMOVED] + report[SHELL_DUPLICATE_FACES_REMOVED] + report[SHELL_FACES_DROPPED_AT_NONMANIFOLD] +
-                       report[SHELL_FACES_DROPPED_FOR_ORIENTATION];
+    uint32_t removed = report[SHELL_REPEATED_REMOVED] + report[SHELL_THIN_REMOVED] + report[SHELL_DUPLICATE_FACES_REMOVED] +
+                       report[SHELL_FACES_DROPPED_AT_NONMANIFOLD] + report[SHELL_FACES_DROPPED_FOR_ORIENTATION];
     return m->F == F + removed && m->P + report[SHELL_POINTS_ADDED_BY_SPLITTING] == P + report[SHELL_ISOLATED_VERTICES_REMOVED];
 }
 
@@ -283,11 +292,18 @@ static int looped(const Rooms *r, size_t P, size_t F, uint64_t *boundary) {
     return ok;
 }
 
+/* What all meshes together had: boundary edges and loops after the repair, and degenerate faces of both kinds before it. */
+typedef struct {
+    uint64_t boundary, loops, repeated, thin;
+} Sums;
+
 /* What differs from what is proved of the output, or NULL. */
 static const char *fault(const Mesh *m, Rooms *r, uint64_t *boundary) {
     if (r->repaired.number != SHELL_ACCEPTED || r->repaired.counts != SHELL_REPORT_ROOM)
         return "the repair refuses";
     size_t P = r->repaired.points / 3, F = r->repaired.faces / 3;
+    if (r->report[SHELL_REPEATED_REMOVED] != repeated(m))
+        return "another number of faces repeat a corner";
     if (!adds_up(m, r->report, P, F))
         return "the counts do not add up";
     if (!in_order(m, r, F))
@@ -305,13 +321,15 @@ static const char *fault(const Mesh *m, Rooms *r, uint64_t *boundary) {
 }
 
 /* Repairs the mesh, and says what differs after it. */
-static const char *chain(const Mesh *m, uint64_t *boundary, uint64_t *loops) {
+static const char *chain(const Mesh *m, Sums *sums) {
     size_t P = m->P, F = m->F, most = SHELL_WORK_ROOM(P + 3 * F, F);
     Rooms r = {.points = room(SHELL_POINTS_ROOM(P, F), 8), .faces = room(SHELL_FACES_ROOM(F), 4), .report = room(SHELL_REPORT_ROOM, 4), .work = room(most, 4)};
     r.repaired = shell_repair(m->points, 3 * P, m->faces, 3 * F, m->s, SHELL_ALL_OPTIONS, r.points, SHELL_POINTS_ROOM(P, F), r.faces, SHELL_FACES_ROOM(F),
                               r.report, SHELL_REPORT_ROOM, r.work, most);
-    const char *found = fault(m, &r, boundary);
-    *loops += r.found.loop_ends;
+    const char *found = fault(m, &r, &sums->boundary);
+    sums->loops += r.found.loop_ends;
+    sums->repeated += r.report[SHELL_REPEATED_REMOVED];
+    sums->thin += r.report[SHELL_THIN_REMOVED];
     free_edges(&r);
     free(r.points);
     free(r.faces);
@@ -326,10 +344,10 @@ int main(int count, char **names) {
         return 2;
     }
     unsigned long meshes = strtoul(names[1], NULL, 10), refused = 0;
-    uint64_t boundary = 0, loops = 0;
+    Sums sums = {0, 0, 0, 0};
     for (unsigned long k = 0; k < meshes; k++) {
         Mesh m = k < 3 ? plain(k) : damaged();
-        const char *found = chain(&m, &boundary, &loops);
+        const char *found = chain(&m, &sums);
         if (found != NULL) {
             printf("chain: mesh %lu: %s\n", k, found);
             print(&m);
@@ -337,7 +355,8 @@ int main(int count, char **names) {
         }
         refused += !accepted(&m);
     }
-    printf("chain: %lu meshes, %lu of them refused before the repair; after it %lu boundary edges in %lu loops\n", meshes, refused, (unsigned long)boundary,
-           (unsigned long)loops);
+    printf("chain: %lu meshes, %lu of them refused before the repair; it removes %lu faces that repeat a corner and %lu thin ones; after it %lu boundary "
+           "edges in %lu loops\n",
+           meshes, refused, (unsigned long)sums.repeated, (unsigned long)sums.thin, (unsigned long)sums.boundary, (unsigned long)sums.loops);
     return 0;
 }

@@ -2,6 +2,11 @@
 #include "shell.h"
 #include <stdio.h>
 
+/* The places of a report are those of the header's edition. */
+#if SHELL_VERSION != 2
+#error "written for edition 2 of shell.h"
+#endif
+
 /* Rooms for shells of up to 5 points and 5 faces. A repair may add 3 points a face, so the calls after it want a work room for that many. */
 enum { P = 5, F = 5, MOST = P + 3 * F };
 static double mended[SHELL_POINTS_ROOM(P, F)], lengths[SHELL_LENGTHS_ROOM(F)];
@@ -47,6 +52,8 @@ static int mend(const char *name, const double *points, size_t points_len, const
     if (written.number != SHELL_ACCEPTED)
         return refused("line", written.number, written.place);
     printf("\n  %.*s\n", (int)written.bytes, (const char *)line);
+    if (report[SHELL_REPEATED_REMOVED] + report[SHELL_THIN_REMOVED] > 0)
+        printf("  of the degenerate faces %u repeat a corner, %u are thin\n", report[SHELL_REPEATED_REMOVED], report[SHELL_THIN_REMOVED]);
 
     ShellCheck sound = shell_check(repaired.points / 3, triples, repaired.faces, ROOM(work));
     if (sound.number != SHELL_ACCEPTED)
@@ -72,8 +79,9 @@ static int patches(void) {
 
 int main(void) {
     const double cross[] = {0, 0, 0, 1, 0, 0, 0, 1, 0, -1, 0, 0, 0, -1, 0}, legs[] = {0, 0, 0, 1, 0, 0, 0, 1, 0, 0, -1, 0, 0, 0, 1},
-                 cube[] = {0, 0, 0, 1, 0, 0, 0, 1, 0, 0, 0, 1, 1, 1, 1};
-    const uint32_t bowtie[] = {0, 1, 2, 0, 3, 4}, crowded[] = {0, 1, 2, 0, 1, 3, 0, 1, 4}, moebius[] = {0, 1, 2, 1, 2, 3, 2, 3, 4, 3, 4, 0, 4, 0, 1};
+                 cube[] = {0, 0, 0, 1, 0, 0, 0, 1, 0, 0, 0, 1, 1, 1, 1}, row[] = {0, 0, 0, 1, 0, 0, 2, 0, 0, 3, 0, 0, 0, 1, 0};
+    const uint32_t bowtie[] = {0, 1, 2, 0, 3, 4}, crowded[] = {0, 1, 2, 0, 1, 3, 0, 1, 4}, moebius[] = {0, 1, 2, 1, 2, 3, 2, 3, 4, 3, 4, 0, 4, 0, 1},
+                   crumbs[] = {0, 1, 4, 0, 0, 1, 0, 1, 2, 0, 2, 3, 1, 2, 3};
     return mend("bowtie", ROOM(cross), ROOM(bowtie)) || mend("three faces on an edge", ROOM(legs), ROOM(crowded)) ||
-           mend("Moebius strip", ROOM(cube), ROOM(moebius)) || patches();
+           mend("Moebius strip", ROOM(cube), ROOM(moebius)) || mend("crumbs", ROOM(row), ROOM(crumbs)) || patches();
 }

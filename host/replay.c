@@ -1,6 +1,10 @@
 /* Replays recorded answers through the library: `replay CASES ANSWERS`. The word form is told in tests/cases/FORMAT.md. Every room is lent filled with
  * 0xff, which makes each float a NaN with a payload; accepted, it must hold the answer, then zero up to the stated room, then 0xff; refused, 0xff
- * everywhere. Repair and edges are called once more with a work room of zeros. */
+ * everywhere. Repair and edges are called once more with a work room of zeros.
+ *
+ * The recorded reports are document 01's and have one count of degenerate faces where the library has two. Of a repair their sum must be that count, and the
+ * first of them the number of input faces that repeat a corner, as it is counted here; the report room is lent one entry longer. A line gets the count in
+ * two parts. */
 #include "shell.h"
 #include <stdio.h>
 #include <stdlib.h>
@@ -144,6 +148,28 @@ static int returned(Recorded want, int count, const size_t *size, const uint64_t
     return ok;
 }
 
+/* How many faces have two corners with the same number. */
+static uint64_t repeated(Row faces) {
+    uint64_t count = 0;
+    for (uint64_t i = 0; i < faces.count / 3; i++) {
+        uint64_t a = entry(faces, 3 * i), b = entry(faces, 3 * i + 1), c = entry(faces, 3 * i + 2);
+        count += a == b || b == c || c == a;
+    }
+    return count;
+}
+
+/* The eleven counts for ten recorded ones, where so many of the degenerate faces repeat a corner. */
+static Row by_kind(Row ten, uint64_t repeated, uint64_t eleven[11]) {
+    Row row = {11, 0, eleven};
+    if (ten.count != 10)
+        return ten;
+    eleven[0] = repeated;
+    eleven[1] = entry(ten, 0) - repeated;
+    for (uint64_t i = 1; i < ten.count; i++)
+        eleven[i + 1] = entry(ten, i);
+    return row;
+}
+
 static int replay_repair(Words *w, Recorded want, int zero) {
     uint32_t options = (uint32_t)one(w);
     uint64_t bits = one(w);
@@ -154,7 +180,12 @@ static int replay_repair(Words *w, Recorded want, int zero) {
     uint64_t stated[4] = {SHELL_POINTS_ROOM(P, F), SHELL_FACES_ROOM(F), SHELL_REPORT_ROOM, SHELL_WORK_ROOM(P, F)};
     const size_t size[4] = {8, 4, 4, 4};
     void *room[4];
-    lend(array(w), 4, size, length, room, zero);
+    Row recorded = array(w);
+    const uint64_t longer[4] = {entry(recorded, 0), entry(recorded, 1), entry(recorded, 2) + 1, entry(recorded, 3)};
+    uint64_t eleven[SHELL_REPORT_ROOM];
+    lend((Row){4, 0, longer}, 4, size, length, room, zero);
+    if (want.number == 0)
+        want.row[2] = by_kind(want.row[2], options & SHELL_DROP_DEGENERATE ? repeated(faces) : 0, eleven);
     double *coordinates = floats(points);
     uint32_t *corners = numbers(faces);
     ShellRepaired got = shell_repair(coordinates, points.count, corners, faces.count, s, options, room[0], length[0], room[1], length[1], room[2],
@@ -203,16 +234,31 @@ static int replay_check(Words *w, Recorded want) {
     return ok;
 }
 
+/* Counts with the first of them, if there is one, in two parts: by turns none, a third, two thirds and all of it in the first part. */
+static uint32_t *in_parts(Row counts, size_t *length) {
+    static uint64_t turn;
+    uint32_t *out = malloc(4 * counts.count + 8);
+    for (uint64_t i = 0; out != NULL && i < counts.count; i++)
+        out[i + 1] = (uint32_t)entry(counts, i);
+    if (out != NULL && counts.count > 0) {
+        out[0] = (uint32_t)(entry(counts, 0) * (turn++ % 4) / 3);
+        out[1] -= out[0];
+    }
+    *length = counts.count > 0 ? counts.count + 1 : 0;
+    return out;
+}
+
 static int replay_line(Words *w, Recorded want) {
     Row counts = array(w), rooms = array(w);
     uint64_t length = entry(rooms, 0);
-    uint32_t *ten = numbers(counts);
+    size_t count;
+    uint32_t *parts = in_parts(counts, &count);
     uint8_t *line = lent(length, 1);
-    ShellLine got = shell_line(ten, counts.count, line, length);
+    ShellLine got = shell_line(parts, count, line, length);
     Row answer = want.number == 0 ? want.row[0] : NOTHING;
     int ok = got.number == want.number && got.place == want.place && got.bytes == answer.count &&
              holds(line, 1, length, want.number == 0 ? SHELL_LINE_ROOM : 0, answer);
-    free(ten);
+    free(parts);
     free(line);
     return ok;
 }

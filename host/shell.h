@@ -20,10 +20,15 @@
 extern "C" {
 #endif
 
+/* The edition of this header: a higher number where a call, a room or a report is another, so that a program can tell whether it was written for it. In
+ * edition 2 a report has eleven counts; where no edition is defined it has ten, and a program that was built for those and lends ten is refused,
+ * SHELL_SHORT_ROOM at place 2. */
+#define SHELL_VERSION 2
+
 /* The numbers a call may give back, and what `place` then is. */
 enum {
     SHELL_ACCEPTED = 0,
-    SHELL_BAD_LENGTH = 1,   /* points or faces no multiple of 3, or not ten counts: 0 points, 1 faces, 2 counts */
+    SHELL_BAD_LENGTH = 1,   /* points or faces no multiple of 3, or not eleven counts: 0 points, 1 faces, 2 counts */
     SHELL_TOO_LARGE = 2,    /* points, faces or patches: 0, 1, 2 */
     SHELL_BAD_SETTING = 3,  /* threshold or options: 0, 1 */
     SHELL_BAD_POINT = 4,    /* a coordinate outside its domain: the first such point; of an STL file, the first such corner, counted through the file */
@@ -51,7 +56,7 @@ enum {
 #define SHELL_WORK_ROOM(P, F) (16 * (size_t)(P) + 64 * (size_t)(F) + 64)
 #define SHELL_POINTS_ROOM(P, F) (3 * ((size_t)(P) + 3 * (size_t)(F)))
 #define SHELL_FACES_ROOM(F) (3 * (size_t)(F))
-#define SHELL_REPORT_ROOM ((size_t)10)
+#define SHELL_REPORT_ROOM ((size_t)11)
 #define SHELL_EDGES_ROOM(F) (6 * (size_t)(F))
 #define SHELL_LENGTHS_ROOM(F) (3 * (size_t)(F))
 #define SHELL_FACE_EDGES_ROOM(F) (3 * (size_t)(F))
@@ -77,21 +82,23 @@ enum {
     SHELL_ALL_OPTIONS = 63
 };
 
-/* The places of a repair's report. */
+/* The places of a repair's report. A face repeats a corner if two of its three numbers are equal, wherever the points lie; it is then counted as repeated and
+ * not as thin. It is thin by the threshold s if |e1 x e2| <= s |e1| |e2| for the steps e1 and e2 from its first corner to the others. */
 enum {
-    SHELL_DEGENERATE_REMOVED = 0,
-    SHELL_DUPLICATE_FACES_REMOVED = 1,
-    SHELL_NONMANIFOLD_EDGES = 2,
-    SHELL_FACES_DROPPED_AT_NONMANIFOLD = 3,
-    SHELL_FACES_DROPPED_FOR_ORIENTATION = 4,
-    SHELL_BOWTIE_VERTICES_SPLIT = 5,
-    SHELL_POINTS_ADDED_BY_SPLITTING = 6,
-    SHELL_FACES_REORIENTED = 7,
-    SHELL_NONORIENTABLE_COMPONENTS = 8,
-    SHELL_ISOLATED_VERTICES_REMOVED = 9
+    SHELL_REPEATED_REMOVED = 0,
+    SHELL_THIN_REMOVED = 1,
+    SHELL_DUPLICATE_FACES_REMOVED = 2,
+    SHELL_NONMANIFOLD_EDGES = 3,
+    SHELL_FACES_DROPPED_AT_NONMANIFOLD = 4,
+    SHELL_FACES_DROPPED_FOR_ORIENTATION = 5,
+    SHELL_BOWTIE_VERTICES_SPLIT = 6,
+    SHELL_POINTS_ADDED_BY_SPLITTING = 7,
+    SHELL_FACES_REORIENTED = 8,
+    SHELL_NONORIENTABLE_COMPONENTS = 9,
+    SHELL_ISOLATED_VERTICES_REMOVED = 10
 };
 
-/* The repair, for a degeneracy threshold 0 <= s <= 1 and options: the mended points, the mended faces, and the ten counts of the report. With all
+/* The repair, for a degeneracy threshold 0 <= s <= 1 and options: the mended points, the mended faces, and the eleven counts of the report. With all
  * options no face that comes out repeats a corner and no directed edge is walked twice, so the edge check says yes; and the edge call accepts it. What
  * comes out may have up to P + 3F points. Rooms, in this order: SHELL_POINTS_ROOM(P, F), SHELL_FACES_ROOM(F), SHELL_REPORT_ROOM, SHELL_WORK_ROOM(P, F). */
 typedef struct {
@@ -142,7 +149,8 @@ ShellPatches shell_patches(const double *points, size_t points_len, const uint32
                            double min_area_fraction, uint64_t keep_largest_n, uint32_t *face_counts, size_t face_counts_len, double *numbers,
                            size_t numbers_len, uint32_t *flags, size_t flags_len, uint32_t *work, size_t work_len);
 
-/* The report line of ten counts, `bytes` long and not ended by a zero of its own. Room: SHELL_LINE_ROOM. */
+/* The report line of eleven counts, `bytes` long and not ended by a zero of its own. Of the first two it has the sum, as degenerate faces; the sum is exact,
+ * also where it has 33 bits. Room: SHELL_LINE_ROOM. */
 typedef struct {
     uint32_t number, place;
     uint64_t bytes;

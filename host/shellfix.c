@@ -1,16 +1,19 @@
-/* Mends a shell from the mould shop: shellfix FILE.stl
+/* Mends a shell from the mould shop: shellfix [-s THRESHOLD] FILE.stl
  *
- * Reads a binary STL file, repairs it with all options, checks it, and prints what was mended and how many edges and boundary loops it has then. A
- * refusal is printed in words with its number and place. For a large file each stage is told on standard error. Exit status: 0; 1 for a refusal, or for
- * a shell that the check does not pass; 2 if the file cannot be read or memory runs out. */
+ * Reads a binary STL file, repairs it with all options, checks it, and prints what was mended and how many edges and boundary loops it has then. Where
+ * degenerate faces were removed it says how many of them repeat a corner and how many are thin: a scanner is adjusted by that. THRESHOLD is the sine, from 0
+ * to 1, of the angle at a face's first corner up to which the face is thin. A refusal is printed in words with its number and place. For a large file each
+ * stage is told on standard error. Exit status: 0; 1 for a refusal, or for a shell that the check does not pass; 2 if the words or the threshold are not
+ * understood, the file cannot be read or memory runs out. */
 #include "shell.h"
+#include <ctype.h>
 #include <errno.h>
 #include <stdio.h>
 #include <stdlib.h>
 #include <string.h>
 
-/* The sine below which the Rust takes a face for degenerate, and the number of facets from which the stages are told. */
-#define THRESHOLD 1e-12
+/* The sine up to which the Rust takes a face for degenerate, and the number of facets from which the stages are told. */
+#define THRESHOLD "1e-12"
 #define LARGE 100000u
 
 /* What a refusal's number says. */
@@ -108,24 +111,27 @@ static int read_mesh(const uint8_t *file, size_t length, Mesh *mesh) {
 }
 
 /* The repair of a mesh with all options, and its report. */
-static int mend(const Mesh *mesh, Mesh *mended, uint32_t *report) {
+static int mend(const Mesh *mesh, double s, Mesh *mended, uint32_t *report) {
     size_t p = mesh->point_count, f = mesh->face_count;
     double *points = room(SHELL_POINTS_ROOM(p, f), sizeof *points);
     uint32_t *faces = room(SHELL_FACES_ROOM(f), sizeof *faces), *work = room(SHELL_WORK_ROOM(p, f), sizeof *work);
-    ShellRepaired repaired = shell_repair(mesh->points, 3 * p, mesh->faces, 3 * f, THRESHOLD, SHELL_ALL_OPTIONS, points, SHELL_POINTS_ROOM(p, f), faces,
+    ShellRepaired repaired = shell_repair(mesh->points, 3 * p, mesh->faces, 3 * f, s, SHELL_ALL_OPTIONS, points, SHELL_POINTS_ROOM(p, f), faces,
                                           SHELL_FACES_ROOM(f), report, SHELL_REPORT_ROOM, work, SHELL_WORK_ROOM(p, f));
     free(work);
     *mended = (Mesh){points, faces, repaired.points / 3, repaired.faces / 3, mesh->large};
     return accepted("repair", repaired.number, repaired.place);
 }
 
-/* The report as a line. */
-static int print_report(const uint32_t *report) {
+/* The report as a line, and of the degenerate faces how many there were of each kind. */
+static int print_report(const uint32_t *report, const char *threshold) {
+    uint32_t repeated = report[SHELL_REPEATED_REMOVED], thin = report[SHELL_THIN_REMOVED];
     uint8_t line[SHELL_LINE_ROOM];
     ShellLine written = shell_line(report, SHELL_REPORT_ROOM, line, sizeof line);
     if (!accepted("line", written.number, written.place))
         return 0;
     printf("%.*s\n", (int)written.bytes, (const char *)line);
+    if (repeated != 0 || thin != 0)
+        printf("of the degenerate faces %u repeat a corner, %u are thin at %s\n", repeated, thin, threshold);
     return 1;
 }
 
@@ -155,11 +161,11 @@ static int count_edges(const Mesh *mesh, uint32_t *work, size_t work_length) {
 }
 
 /* What is said of a mended mesh: the report, the check's answer, and the counts of edges and loops. */
-static int describe(const Mesh *mended, const uint32_t *report) {
+static int describe(const Mesh *mended, const uint32_t *report, const char *threshold) {
     size_t work_length = SHELL_WORK_ROOM(mended->point_count, mended->face_count);
     uint32_t *work = room(work_length, sizeof *work);
     printf("mended: %zu points, %zu faces\n", mended->point_count, mended->face_count);
-    int good = print_report(report);
+    int good = print_report(report, threshold);
     stage(mended, "checking");
     good = good && check(mended, work, work_length);
     stage(mended, "listing the edges of");
@@ -168,31 +174,74 @@ static int describe(const Mesh *mended, const uint32_t *report) {
     return good;
 }
 
+/* What the words ask for: a file, and a threshold as it is written and as a number. */
+typedef struct {
+    const char *name, *threshold;
+    double s;
+} Asked;
+
 /* The mesh of the file, mended and described. */
-static int mend_file(const uint8_t *file, size_t length) {
+static int mend_file(const uint8_t *file, size_t length, const Asked *asked) {
     Mesh mesh, mended;
     uint32_t report[SHELL_REPORT_ROOM] = {0};
     int good = read_mesh(file, length, &mesh);
     if (good) {
         printf("read: %zu points, %zu faces\n", mesh.point_count, mesh.face_count);
         stage(&mesh, "repairing");
-        good = mend(&mesh, &mended, report) && describe(&mended, report);
+        good = mend(&mesh, asked->s, &mended, report) && describe(&mended, report, asked->threshold);
         free(mended.points), free(mended.faces);
     }
     free(mesh.points), free(mesh.faces);
     return good;
 }
 
+/* Whether a word is a number from 0 to 1 and nothing besides, and that number; if not, says why. */
+static int read_threshold(const char *word, Asked *asked) {
+    char *end;
+    asked->threshold = word;
+    asked->s = strtod(word, &end);
+    if (end == word || *end != 0 || isspace((unsigned char)*word)) {
+        fprintf(stderr, "shellfix: the threshold '%s' is not a number\n", word);
+        return 0;
+    }
+    if (!(0 <= asked->s && asked->s <= 1)) {
+        fprintf(stderr, "shellfix: the threshold '%s' is not from 0 to 1\n", word);
+        return 0;
+    }
+    return 1;
+}
+
+/* Whether the words ask for one file, and what else they ask for; if not, says why. */
+static int read_words(int count, char **given, Asked *asked) {
+    for (int i = 1; i < count; i++) {
+        if (strcmp(given[i], "-s") == 0 && i + 1 == count) {
+            fprintf(stderr, "shellfix: -s wants a threshold\n");
+            return 0;
+        }
+        if (strcmp(given[i], "-s") == 0) {
+            if (!read_threshold(given[++i], asked))
+                return 0;
+        } else if (given[i][0] == '-' || asked->name != NULL) {
+            fprintf(stderr, given[i][0] == '-' ? "shellfix: there is no option %s\n" : "shellfix: one file at a time, and not %s too\n", given[i]);
+            return 0;
+        } else
+            asked->name = given[i];
+    }
+    return asked->name != NULL;
+}
+
 int main(int count, char **given) {
-    if (count != 2) {
-        fprintf(stderr, "usage: shellfix FILE.stl\n");
+    Asked asked = {NULL, NULL, 0};
+    if (!read_threshold(THRESHOLD, &asked) || !read_words(count, given, &asked)) {
+        fprintf(stderr, "usage: shellfix [-s THRESHOLD] FILE.stl\n"
+                        "  THRESHOLD, from 0 to 1: a face is thin up to this sine of the angle at its first corner; " THRESHOLD " where none is given\n");
         return 2;
     }
     size_t length;
-    uint8_t *file = read_file(given[1], &length);
+    uint8_t *file = read_file(asked.name, &length);
     if (length >= 84 + 50 * (size_t)LARGE)
         fprintf(stderr, "shellfix: reading %zu bytes\n", length);
-    int good = mend_file(file, length);
+    int good = mend_file(file, length, &asked);
     free(file);
     return good ? 0 : 1;
 }

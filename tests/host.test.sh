@@ -1,7 +1,8 @@
 #!/usr/bin/env bash
 # The library in a C program: the example prints what it must, the header is good for C++, recorded answers come out through the calls with every
-# room as it must be, damaged meshes are after a repair what is proved of them, what fuzzing found worth keeping comes out as document 01 says, and a call
-# takes no memory but its rooms and no more stack than is promised; a sample under valgrind too, so that nothing outside a room is touched.
+# room as it must be, degenerate faces are counted by kind and their sums printed up to the limits, damaged meshes are after a repair what is proved of them,
+# what fuzzing found worth keeping comes out as the documents say, and a call takes no memory but its rooms and no more stack than is promised; a sample under
+# valgrind too, so that nothing outside a room is touched.
 set -u
 here=$(cd "$(dirname "${BASH_SOURCE[0]}")/.." && pwd)
 room=$(mktemp -d) || exit 1
@@ -9,7 +10,7 @@ trap 'rm -rf "$room"' EXIT
 bash "$here/host/build.sh" "$room" || exit 1
 cd "$room" || exit 1
 flags=(-std=c11 -Wall -Wextra -Wpedantic -Werror -O2 -g -ffp-contract=off -I.)
-for program in example replay chain stack; do
+for program in example kinds replay chain stack; do
     gcc "${flags[@]}" -o "$program" "$here/host/$program.c" libshell.a || exit 1
 done
 g++ -std=c++17 -Wall -Werror -fsyntax-only -x c++ shell.h || exit 1
@@ -20,6 +21,15 @@ if nm -u libshell.a | sed -n 's/^ *U //p' | grep -vxE 'memset|memcpy|memmove|mem
 fi
 ./example >found || exit 1
 diff found "$here/host/example.out" || exit 1
+./kinds || exit 1
+# A program that was built for ten counts is told so by its compiler, if it asks, and by the library.
+sed '/^#define SHELL_VERSION /d; s/^#define SHELL_REPORT_ROOM .*/#define SHELL_REPORT_ROOM ((size_t)10)/' shell.h >old.h
+sed 's/"shell.h"/"old.h"/' "$here/host/example.c" >old.c
+! gcc "${flags[@]}" -fsyntax-only old.c 2>told && grep -q 'written for edition' told || exit 1
+sed -i '/^#if SHELL_VERSION/,/^#endif/d' old.c
+gcc "${flags[@]}" -o old old.c libshell.a || exit 1
+! ./old >found || exit 1
+[ "$(cat found)" = "repair: refused 6 at 2" ] || exit 1
 ./replay "$here/tests/cases/lib.cases.bin" "$here/tests/cases/lib.answers.bin" || exit 1
 shared=$here/../shared/cases/open
 if [ -d "$shared" ]; then
@@ -43,6 +53,7 @@ if command -v valgrind >/dev/null; then
     watched=(valgrind -q --error-exitcode=9)
     "${watched[@]}" ./example >found || exit 1
     diff found "$here/host/example.out" || exit 1
+    "${watched[@]}" ./kinds || exit 1
     "${watched[@]}" ./replay "$here/tests/cases/lib.cases.bin" "$here/tests/cases/lib.answers.bin" || exit 1
     "${watched[@]}" ./chain 300 || exit 1
     "${watched[@]}" "$here/target/bin/meshfix" <"$here/examples/shell.txt" >found || exit 1

@@ -13,20 +13,34 @@ program=$here/target/bin/meshfix
 faults=0
 count=0
 
-# The answer to text $1 must be file $2.
+# The answer to text $1 must be file $2, which is told as $3 if that is given.
 answers() {
     count=$((count + 1))
     "$program" <"$1" >"$room/found" || echo "meshfix: $1: status $?" >>"$room/found"
     cmp -s "$room/found" "$2" && return
     faults=$((faults + 1))
-    echo "meshfix: $1: another answer than $2"
+    echo "meshfix: $1: another answer than ${3:-$2}"
+}
+
+# The answer $2 to text $1 with eleven counts. One that was recorded with ten has all degenerate faces in the first: of these the faces of the text that repeat
+# a corner, if the options drop them, are the first of two counts, and the others the second.
+counted() {
+    awk -F '\t' -v OFS='\t' '
+        of == "text" && $1 == "o" { drops = $2 % 2 }
+        of == "text" && $1 == "f" && ($2 == $3 || $3 == $4 || $4 == $2) { repeated++ }
+        of == "text" { next }
+        $1 == "r" && NF == 11 { $2 = (drops * repeated) OFS ($2 - drops * repeated) }
+        { print }
+    ' of=text "$1" of=answer "$2"
 }
 
 # Every text of folder $1 that has an answer.
 replay() {
     local text
     for text in "$1"/*.txt; do
-        [ -f "${text%.txt}.out" ] && answers "$text" "${text%.txt}.out"
+        [ -f "${text%.txt}.out" ] || continue
+        counted "$text" "${text%.txt}.out" >"$room/wanted"
+        answers "$text" "$room/wanted" "${text%.txt}.out"
     done
 }
 
@@ -38,10 +52,17 @@ mesh() {
     for ((i = 0; i < $2; i++)); do printf 'f\t%d\t1\t2\n' $((i % $1)); done
 }
 
-# With no pass the mesh comes back, and ten zeros.
+# With no pass the mesh comes back, and eleven zeros.
 back() {
     tail -n +2 "$1"
-    printf 'r\t0\t0\t0\t0\t0\t0\t0\t0\t0\t0\n'
+    printf 'r\t0\t0\t0\t0\t0\t0\t0\t0\t0\t0\t0\n'
+}
+
+# Faces that repeat a corner and one whose corners are in a row, with options $1 and threshold $2.
+kinds() {
+    printf 'o\t%d\t%s\n' "$1" "$2"
+    mesh 3 0 | tail -n +2
+    printf 'f\t0\t0\t1\nf\t1\t2\t1\nf\t2\t2\t2\nf\t0\t1\t2\n'
 }
 
 replay "$here/tests/cases/text"
@@ -79,9 +100,21 @@ answers "$room/cut" "$room/eleven"
     for ((i = 0; i < 191; i++)); do mesh 1 0 | tail -n 1; done
     printf 'f\t64\t64\t64\n'
     for ((i = 1; i < 64; i++)); do printf 'f\t%d\t%d\t%d\n' $((63 + 3 * i)) $((63 + 3 * i)) $((63 + 3 * i)); done
-    printf 'r\t0\t0\t0\t0\t0\t1\t191\t0\t0\t0\n'
+    printf 'r\t0\t0\t0\t0\t0\t0\t1\t191\t0\t0\t0\n'
 } >"$room/split.back"
 answers "$room/split" "$room/split.back"
+# A face that repeats a corner is never counted as thin, whatever the threshold; without bit 0 neither kind is counted.
+{
+    mesh 3 0 | tail -n +2
+    printf 'r\t3\t1\t0\t0\t0\t0\t0\t0\t0\t0\t0\n'
+} >"$room/by-kind"
+for threshold in 0000000000000000 3f50000000000000 3ff0000000000000; do
+    kinds 1 $threshold >"$room/kinds"
+    answers "$room/kinds" "$room/by-kind"
+done
+kinds 0 3ff0000000000000 >"$room/kinds"
+back "$room/kinds" >"$room/kinds.back"
+answers "$room/kinds" "$room/kinds.back"
 # 64 `p` lines and the `o` line have at most 3,422 bytes, 64 `f` lines of the largest numbers 2,240: no text of the form reaches 8,192 bytes, so
 # both sides of that limit are refused 11, and also a text far beyond it.
 head -c 8192 /dev/zero | tr '\0' 'p' >"$room/limit"

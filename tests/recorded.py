@@ -1,10 +1,13 @@
 #!/usr/bin/env python3
-"""Runs the rules of document 01 on recorded answers of the Rust: writes a crate `recorded` of computed claims, one for each case.
+"""Runs the rules on recorded answers of the Rust: writes a crate `recorded` of computed claims, one for each case.
 
     recorded.py CASES FOLDER EVERY
 
 CASES has the recorded cases (texts NAME.txt with NAME.out, there or in text/, and lib.cases.bin with lib.answers.bin), FOLDER is where the crate is written,
-and every EVERY-th case that is small enough for antt is taken."""
+and every EVERY-th case that is small enough for antt is taken.
+
+The recorded reports are document 01's and have one count of degenerate faces, where the rules have two. Of these the first must be the number of input faces
+that repeat a corner, as it is counted here, and their sum the recorded count; the report room is lent one entry longer. A line gets the count in two parts."""
 import glob
 import os
 import struct
@@ -86,13 +89,37 @@ def rows(xss):
     return "(" + "".join(listed(xs) + " ∷ " for xs in xss) + "[])"
 
 
+def eleven(ten, options, faces):
+    """The eleven counts for ten recorded ones: of the degenerate faces, those that repeat a corner and the others."""
+    repeated = sum(len(set(faces[i : i + 3])) < 3 for i in range(0, len(faces), 3)) if options % 2 == 1 else 0
+    return [repeated, ten[0] - repeated] + ten[1:]
+
+
+def in_parts(counts, turn):
+    """Counts with the first of them, if there is one, in two parts: by turns none, a third, two thirds and all of it in the first part."""
+    part = counts[0] * (turn % 4) // 3 if counts else 0
+    return [part, counts[0] - part] + counts[1:] if counts else []
+
+
+def counted(text, out):
+    """What must be printed for a text, where its recorded answer has ten counts or eleven."""
+    *lines, last = out.splitlines()
+    name, *counts = last.split(b"\t")
+    if name != b"r" or len(counts) != 10:
+        return out
+    fields = [line.split(b"\t") for line in text.splitlines()]
+    faces = [int(corner) for kind, *corners in fields if kind == b"f" for corner in corners]
+    counts = eleven([int(n) for n in counts], int(fields[0][1]), faces)
+    return b"".join(line + b"\n" for line in lines) + b"r\t" + b"\t".join(b"%d" % n for n in counts) + b"\n"
+
+
 def texts(cases):
     """The program's cases: what the rule gives for a text, and what was recorded."""
     for name in sorted(glob.glob(os.path.join(cases, "*.txt")) + glob.glob(os.path.join(cases, "text", "*.txt"))):
         text = open(name, "rb").read()
         if len(text) <= MOST_TEXT and all(b < 128 for b in text):
             out = open(name[:-4] + ".out", "rb").read()
-            yield "meshfix (bytes %s)" % quoted(text), "bytes %s" % quoted(out)
+            yield "meshfix (bytes %s)" % quoted(text), "bytes %s" % quoted(counted(text, out))
 
 
 class Long(Exception):
@@ -178,8 +205,8 @@ def turned(vertices, ends):
     return [v for loop in loops for v in loop], totals
 
 
-def claim(call, case, answer):
-    """One of the library's cases: the call's outcome by the rules, and what was recorded, with every room."""
+def claim(call, case, answer, turn):
+    """One of the library's cases: the call's outcome by the rules, and what was recorded, with every room. The turn says how a line's count is parted."""
     w, a = Words(case), Words(answer)
     number, place = a.one(), a.one()
     answers = [a.row() for _ in range(a.one())]
@@ -188,7 +215,11 @@ def claim(call, case, answer):
         options, s, points, faces, lengths = w.one(), w.one(), w.array(), w.array(), w.array()
         P, F = len(points) // 3, len(faces) // 3
         kinds = [DIRTY64, DIRTY32, DIRTY32, DIRTY32]
-        stated = [3 * (P + 3 * F), 3 * F, 10, 16 * P + 64 * F + 64]
+        stated = [3 * (P + 3 * F), 3 * F, 11, 16 * P + 64 * F + 64]
+        lengths[2] += 1
+        if number == 0:
+            answers[2] = eleven(answers[2], options, faces)
+            entries[2] += 1
         lent = rooms(["out-points", "out-faces", "report", "work"], lengths, kinds)
         found = "repairing (floats %s) %s (ofBits binary64 %d) %d %s" % (listed(points), listed(faces), s, options, lent)
     elif call == 2:
@@ -217,7 +248,7 @@ def claim(call, case, answer):
         lent = rooms(["face-counts", "numbers", "flags", "work"], lengths, kinds)
         found = "patching (floats %s) %s %s %d (record { %s }) %s" % (listed(points), listed(faces), listed(labels), C, limits, lent)
     else:
-        counts, lengths = w.array(), w.array()
+        counts, lengths = in_parts(w.array(), turn), w.array()
         kinds, stated = [DIRTY8], [512]
         found = "lining %s (replicate %d %d)" % (listed(counts), lengths[0], DIRTY8)
         if number == 0:
@@ -230,10 +261,11 @@ def claim(call, case, answer):
 
 def calls(cases):
     """The library's cases that are small enough."""
-    for (call, case), (_, answer) in zip(records(cases + "/lib.cases.bin"), records(cases + "/lib.answers.bin")):
+    both = zip(records(cases + "/lib.cases.bin"), records(cases + "/lib.answers.bin"))
+    for turn, ((call, case), (_, answer)) in enumerate(both):
         if len(case) <= MOST_WORDS:
             try:
-                yield claim(call, case, answer)
+                yield claim(call, case, answer, turn)
             except Long:
                 pass
 

@@ -111,6 +111,20 @@ def limits(folder):
             put(folder, "%s-%d" % (name, k), stl([plain, facet(words), facet([payload] * 9)]))
 
 
+def kinds(folder):
+    """A shell with faces of every kind: good ones, three that repeat a corner as numbers, one with its corners in a row, one whose sine is about a thousandth."""
+    faces = [
+        [(0, 0, 0), (1, 0, 0), (0, 1, 0)],
+        [(1, 0, 0), (1, 1, 0), (0, 1, 0)],
+        [(0, 0, 0), (-0.0, 0, 0), (1, 0, 0)],
+        [(0, 1, 0), (1, 1, 0), (0, 1, 0)],
+        [(5, 5, 5)] * 3,
+        [(0, 0, 0), (0, 0, 1), (0, 0, 2)],
+        [(1, 1, 0), (2, 1, 0), (2, 1.0009765625, 0)],
+    ]
+    put(folder, "kinds", stl([facet([word(x) for corner in face for x in corner]) for face in faces]))
+
+
 def made(random_, folder, name, facets, kinds):
     """A file whose coordinates are drawn from few values, zeros of both signs among them."""
     values = [0, 0x80000000] + [random_.choice([random_.getrandbits(23), word(random_.uniform(-9, 9)), random_.getrandbits(32) & 0xBFFFFFFF]) for _ in range(kinds)]
@@ -122,6 +136,7 @@ def made(random_, folder, name, facets, kinds):
 def make(folder):
     os.makedirs(folder, exist_ok=True)
     limits(folder)
+    kinds(folder)
     random_ = random.Random(5)
     for i in range(60):
         made(random_, folder, "random-%d" % i, random_.randrange(0, 40), random_.randrange(0, 6))

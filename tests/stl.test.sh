@@ -1,6 +1,6 @@
 #!/usr/bin/env bash
 # Binary STL: what the call reads of files at the limits, of random ones and of files that other programs wrote is what a reader in Python finds, corner by
-# corner, with every room as it must be; and shellfix mends such a file from disk.
+# corner, with every room as it must be; and shellfix mends such a file from disk, and says of its degenerate faces how many there were of each kind.
 set -u
 here=$(cd "$(dirname "${BASH_SOURCE[0]}")/.." && pwd)
 room=$(mktemp -d) || exit 1
@@ -36,8 +36,15 @@ fi
 
 # Says what shellfix printed, and its exit status.
 fixed() {
-    ./shellfix "$1" 2>/dev/null
+    ./shellfix "$@" 2>/dev/null
     echo "exit status $?"
+}
+
+# Says how shellfix begins to answer words that it does not understand. It must go on with its usage, print nothing else, and end with status 2.
+puzzled() {
+    ./shellfix "$@" 2>said >printed
+    [ $? -eq 2 ] && [ ! -s printed ] && grep -q '^usage: shellfix' said || echo "another answer to $*"
+    head -n 1 said
 }
 {
     fixed made/by-admesh.stl
@@ -47,11 +54,21 @@ fixed() {
     fixed made/one-facet-too-many.stl
     fixed made/payload-7.stl
     fixed made/no-such-file.stl
+    fixed made/kinds.stl
+    for threshold in 0 -0 1e-400 1e-12 0.0009 0.001 0x1p-9 1; do fixed -s $threshold made/kinds.stl; done
+    fixed made/kinds.stl -s 0.001
+    fixed -s 0.5 made/by-admesh.stl
+    puzzled
+    for threshold in nan 1.0000000000000002 -1e-300 inf 1e400 '' ' 0.5' 0.5x 1e-12,5 zero; do puzzled -s "$threshold" made/kinds.stl; done
+    puzzled made/kinds.stl -s
+    puzzled -t 0.5 made/kinds.stl
+    puzzled made/kinds.stl made/none.stl
 } >found
 diff found "$here/tests/cases/stl/shellfix.out" || exit 1
 
 if command -v valgrind >/dev/null; then
     valgrind -q --error-exitcode=9 ./corners made/random-1*.stl made/zeros.stl made/subnormals.stl made/payload-*.stl >/dev/null || exit 1
+    valgrind -q --error-exitcode=9 --leak-check=full --errors-for-leak-kinds=definite ./shellfix -s 0.001 made/kinds.stl >/dev/null || exit 1
     valgrind -q --error-exitcode=9 --leak-check=full --errors-for-leak-kinds=definite ./shellfix made/by-admesh.stl >/dev/null || exit 1
 else
     echo "stl: no valgrind here, so the rooms' neighbours are not watched"

@@ -34,6 +34,9 @@ pub const MOST_FACES: u64 = 1_048_576;
 pub const MOST_PATCHES: u64 = 1_048_576;
 pub const NO_PATCH: u32 = u32::MAX;
 
+/// How many counts a report has.
+pub const REPORT: usize = 11;
+
 /// The patch filter: bit k of `set` says whether limit k is there; an absent limit's number means nothing.
 #[derive(Clone, Copy, Default)]
 pub struct Filter {
@@ -113,7 +116,7 @@ impl Case {
         let (p, f, c) = (self.p() as u128, self.f() as u128, self.patch_count as u128);
         let work = (4, 16 * p + 64 * f + 64);
         match self.call {
-            Call::Repair => vec![(8, 3 * (p + 3 * f)), (4, 3 * f), (4, 10), work],
+            Call::Repair => vec![(8, 3 * (p + 3 * f)), (4, 3 * f), (4, REPORT as u128), work],
             Call::Edges => vec![(4, 6 * f), (8, 3 * f), (4, 3 * f), (4, 3 * f), (4, 3 * f), work],
             Call::Check => vec![work],
             Call::Patches => vec![(4, c), (8, 7 * c), (4, c), (4, 4 * c)],

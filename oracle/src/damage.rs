@@ -90,8 +90,8 @@ fn patch_count(case: &mut Case, random: &mut Random) {
     case.patch_count = random.choose(&[MOST_PATCHES, MOST_PATCHES + 1, u64::MAX, 1 << 32, count.saturating_sub(1), 0]);
 }
 
-/// More or fewer than ten counts, or just ten.
+/// More or fewer than eleven counts, or just eleven.
 fn counts(case: &mut Case, random: &mut Random) {
-    let length = random.choose(&[0, 1, 9, 11, 10, 20, 30]);
+    let length = random.choose(&[0, 1, 10, 12, 11, 20, 30]);
     case.counts.resize(length, 7);
 }

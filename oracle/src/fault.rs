@@ -5,8 +5,9 @@ use crate::here::{Inputs, Reply};
 use crate::lent::Lent;
 use crate::there::Outcome;
 
-/// What is wrong: something in the reply, in a room, behind a room; or the whole answer is that of another input, without one bit of the options or
-/// limits, or with the threshold's neighbour.
+/// What is wrong: something in the reply, in a room, behind a room; repeated and thin faces exchanged, or all counted as one of the two; or the
+/// whole answer is that of another input, without one bit of the options or limits, with the threshold's neighbour, without the second count, or with
+/// a sum of the first two that has lost its 33rd bit.
 #[derive(Clone, Copy, PartialEq, Debug)]
 pub enum Fault {
     None,
@@ -24,6 +25,11 @@ pub enum Fault {
     BeforeRoom,
     RefusalWrites,
     InputChanged,
+    KindsExchanged,
+    AllRepeated,
+    AllThin,
+    SecondLeftOut,
+    SumWraps,
 }
 
 /// The faults that a call can have. The edge check and the line have no room to be cleared beside the last one.
@@ -31,10 +37,10 @@ pub fn faults(call: Call) -> Vec<Fault> {
     use Fault::*;
     let mut all = vec![Number, Place, Count, Answer, WorkLeft, BehindStated, BehindRoom, BeforeRoom, RefusalWrites, InputChanged];
     match call {
-        Call::Repair => all.extend([AnswerOfTwoFaces, NotCleared, Threshold]),
+        Call::Repair => all.extend([AnswerOfTwoFaces, NotCleared, Threshold, KindsExchanged, AllRepeated, AllThin]),
         Call::Edges | Call::Patches => all.extend([AnswerOfTwoFaces, NotCleared]),
         Call::Check => all.push(AnswerOfTwoFaces),
-        Call::Line => {}
+        Call::Line => all.extend([SecondLeftOut, SumWraps]),
     }
     let bits = [6, 0, 0, 5, 0][call as usize];
     all.extend((0..bits).map(Without));
@@ -65,6 +71,8 @@ impl Fault {
                 other.filter.set &= !(1 << bit);
             }
             Fault::Threshold => other.threshold = if case.threshold < 1.0 { case.threshold.next_up() } else { case.threshold.next_down() },
+            Fault::SecondLeftOut if case.counts.len() > 1 => other.counts[1] = 0,
+            Fault::SumWraps if case.counts.len() > 1 => (other.counts[0], other.counts[1]) = (case.counts[0].wrapping_add(case.counts[1]), 0),
             _ => return None,
         }
         Some(other)
@@ -75,6 +83,9 @@ impl Fault {
         let accepted = reply.number == 0;
         let (last, lengths, stated) = (rooms.len() - 1, case.lengths(), case.stated());
         let work = stated[last].1 as usize;
+        if accepted && case.call == Call::Repair {
+            self.recount(&mut rooms[2]);
+        }
         // Flips a bit of the last byte of entry i of room k.
         let mut flip = |k: usize, i: i64| {
             let (bytes, start) = rooms[k].all_mut();
@@ -95,5 +106,18 @@ impl Fault {
             Fault::InputChanged => input.faces.all_mut().0[40] ^= 1,
             _ => {}
         }
+    }
+
+    /// Alters the first two counts of a report.
+    fn recount(self, report: &mut Lent) {
+        let [repeated, thin] = [0, 1].map(|k| report.entries::<u32>(2)[k]);
+        let counts = match self {
+            Fault::KindsExchanged => [thin, repeated],
+            Fault::AllRepeated => [repeated + thin, 0],
+            Fault::AllThin => [0, repeated + thin],
+            _ => return,
+        };
+        let (bytes, start) = report.all_mut();
+        bytes[start..start + 8].copy_from_slice(&counts.map(u32::to_ne_bytes).concat());
     }
 }

@@ -1,6 +1,6 @@
 //! A case from a call, a seed and a number: a mesh with defects, settings, rooms, and sometimes damage.
 
-use crate::case::{Call, Case, Filter, MOST_FACES, MOST_POINTS, NO_PATCH};
+use crate::case::{Call, Case, Filter, MOST_FACES, MOST_POINTS, NO_PATCH, REPORT};
 use crate::damage;
 use crate::meshes::{self, Mesh};
 use crate::random::Random;
@@ -13,7 +13,7 @@ pub fn case(call: Call, seed: u64, number: u64) -> Case {
     let mut case = Case::new(call);
     if call == Call::Line {
         let most = random.choose(&[1, 10, 20, 20]);
-        case.counts = (0..10).map(|_| if random.below(20) < most { count(random) } else { 0 }).collect();
+        case.counts = (0..REPORT).map(|_| if random.below(20) < most { count(random) } else { 0 }).collect();
     } else {
         mesh(&mut case, random);
     }

@@ -1,4 +1,6 @@
 //! Recorded answers, in the word form of tests/cases/FORMAT.md, against what the harness expects: so its own refusals and its Rust are tested too.
+//! They are document 01's, with one count of degenerate faces: a report room is lent one entry longer, a line gets the count in two parts, and of a
+//! report the sum of the two is compared.
 
 use crate::case::{CALLS, Call, Case};
 use crate::{compare, print, there};
@@ -45,8 +47,15 @@ impl Words {
     }
 }
 
-/// The case that a record holds.
-fn read(words: &mut Words, call: Call) -> Case {
+/// Counts with the first of them, if there is one, in two parts: by turns none, a third, two thirds and all of it in the first part.
+fn in_parts(counts: Vec<u32>, turn: usize) -> Vec<u32> {
+    let Some((&sum, rest)) = counts.split_first() else { return counts };
+    let part = (sum as u64 * (turn as u64 % 4) / 3) as u32;
+    [&[part, sum - part], rest].concat()
+}
+
+/// The case that a record holds; `turn` says how a line's count is parted.
+fn read(words: &mut Words, call: Call, turn: usize) -> Case {
     let mut case = Case::new(call);
     match call {
         Call::Repair => {
@@ -63,11 +72,12 @@ fn read(words: &mut Words, call: Call) -> Case {
             case.filter.reals = [1, 2, 3].map(|k| f64::from_bits(limits[k].1));
             (case.filter.min_faces, case.filter.keep_largest_n) = (limits[0].1, limits[4].1);
         }
-        Call::Line => case.counts = words.numbers(),
+        Call::Line => case.counts = in_parts(words.numbers(), turn),
     }
     let stated = case.stated();
     for (k, length) in words.array().into_iter().enumerate() {
-        case.rooms[k].extra = length as i128 - stated[k].1 as i128;
+        let longer = (call == Call::Repair && k == 2) as i128;
+        case.rooms[k].extra = length as i128 + longer - stated[k].1 as i128;
         case.rooms[k].dirt = 0x5a;
     }
     case
@@ -91,8 +101,12 @@ fn as_recorded(case: &Case, answers: &mut Words) -> bool {
     }
     let word = |bytes: &[u8]| bytes.iter().rev().fold(0, |word, byte| word << 8 | *byte as u64);
     let sizes = case.stated();
-    let found = outcome.rows.iter().enumerate().map(|(k, row)| row.chunks(sizes[k].0).map(word).collect::<Vec<u64>>());
-    found.eq(rows)
+    let mut found: Vec<Vec<u64>> = outcome.rows.iter().enumerate().map(|(k, row)| row.chunks(sizes[k].0).map(word).collect()).collect();
+    if case.call == Call::Repair {
+        let repeated = found[2].remove(0);
+        found[2][0] += repeated;
+    }
+    found == rows
 }
 
 /// Runs all records, and prints those that differ.
@@ -104,7 +118,7 @@ pub fn run(cases: &str, answers: &str) -> ExitCode {
         let end = cases.one() as usize + cases.at;
         answers.one();
         let after = answers.one() as usize + answers.at;
-        let case = read(&mut cases, call);
+        let case = read(&mut cases, call, same[call as usize]);
         let wrong =
             if as_recorded(&case, &mut answers) { compare::difference(&case, &there::outcome(&case), None) } else { Some("not as recorded".into()) };
         if let Some(what) = wrong {

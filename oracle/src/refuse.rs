@@ -1,7 +1,7 @@
-//! Document 01's refusals in plain words: the number and place that a call must give back, or nothing if it must accept. Written from the document
-//! alone, so that it shares nothing with the library.
+//! Document 01's refusals in plain words, with eleven counts as document 02 has them: the number and place that a call must give back, or nothing if
+//! it must accept. Written from the documents alone, so that it shares nothing with the library.
 
-use crate::case::{Call, Case, MOST_FACES, MOST_PATCHES, MOST_POINTS, NO_PATCH};
+use crate::case::{Call, Case, MOST_FACES, MOST_PATCHES, MOST_POINTS, NO_PATCH, REPORT};
 use std::collections::BTreeMap;
 
 type Refusal = Option<(u32, u64)>;
@@ -20,10 +20,10 @@ pub fn refusal(case: &Case) -> Refusal {
         .or_else(|| boundary(case))
 }
 
-/// 1: points or faces length no multiple of 3, or not ten counts.
+/// 1: points or faces length no multiple of 3, or not eleven counts.
 fn length(case: &Case) -> Refusal {
     if case.call == Call::Line {
-        return (case.counts.len() != 10).then_some((1, 2));
+        return (case.counts.len() != REPORT).then_some((1, 2));
     }
     if case.call != Call::Check && case.points.len() % 3 != 0 {
         return Some((1, 0));

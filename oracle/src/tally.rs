@@ -1,6 +1,6 @@
 //! How often each refusal and each part of an answer came up, so that a reader sees what was tried.
 
-use crate::case::{Call, Case};
+use crate::case::{Call, Case, REPORT};
 use crate::there::Outcome;
 use std::cmp::Ordering;
 use std::collections::{BTreeMap, BTreeSet};
@@ -14,8 +14,9 @@ pub struct Tally {
     options: BTreeSet<u32>,
 }
 
-const REPORT: [&str; 10] = [
-    "degenerate",
+const COUNTS: [&str; REPORT] = [
+    "repeated",
+    "thin",
     "duplicate",
     "edges counted in 3",
     "dropped in 3",
@@ -59,7 +60,8 @@ impl Tally {
         let mut count = |name: &'static str, yes: bool| *self.things.entry(name).or_default() += yes as usize;
         match case.call {
             Call::Repair => {
-                (0..10).for_each(|k| count(REPORT[k], number(&rows[2], k) > 0));
+                (0..REPORT).for_each(|k| count(COUNTS[k], number(&rows[2], k) > 0));
+                count("repeated and thin", number(&rows[2], 0) > 0 && number(&rows[2], 1) > 0);
                 self.options.insert(case.options);
             }
             Call::Edges => {
@@ -79,9 +81,13 @@ impl Tally {
                 count("an empty patch", (0..flags.len()).any(|i| number(&rows[0], i) == 0));
             }
             Call::Line => {
-                count("nothing changed", case.counts.iter().all(|n| *n == 0));
-                count("one part", case.counts.iter().filter(|n| **n > 0).count() == 1);
-                count("several parts", case.counts.iter().filter(|n| **n > 0).count() > 1);
+                let sum = case.counts[0] as u64 + case.counts[1] as u64;
+                let parts = (sum > 0) as usize + case.counts[2..].iter().filter(|n| **n > 0).count();
+                count("nothing changed", parts == 0);
+                count("one part", parts == 1);
+                count("several parts", parts > 1);
+                count("a sum of two counts", case.counts[0] > 0 && case.counts[1] > 0);
+                count("a sum of 33 bits", sum > u32::MAX as u64);
             }
         }
     }

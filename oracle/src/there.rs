@@ -1,9 +1,10 @@
-//! The Rust's answers, in document 01's form. It is asked only where document 01 accepts, or where it refuses by an error of its own.
+//! The Rust's answers, in the documents' form. It is asked only where document 01 accepts, or where it refuses by an error of its own.
 
-use crate::case::{Call, Case};
+use crate::case::{Call, Case, REPORT};
 use crate::refuse;
 use crate::time::LINES;
 use engeom::edges::MeshEdges;
+use engeom::normals::compute_face_normal;
 use engeom::patches::{PatchFilter, PatchLabels, PatchStats};
 use engeom::repair::{RepairOpts, RepairReport, repair_buffers};
 use engeom::{Mesh3, Point3, na};
@@ -92,10 +93,21 @@ fn options(bits: u32) -> RepairOpts {
         .with_drop_isolated_vertices(bit(5))
 }
 
-/// The ten counts in report order.
-fn ten(r: &RepairReport) -> [usize; 10] {
+/// How many of the input faces repeat a corner, and how many of the others the Rust's test finds degenerate: these are thin.
+fn kinds(case: &Case) -> [usize; 2] {
+    let (points, faces) = (points(case), case.triples());
+    let (repeated, others): (Vec<_>, Vec<_>) = faces.into_iter().partition(|[a, b, c]| a == b || b == c || c == a);
+    let thin = others.into_iter().filter(|face| compute_face_normal(&face.map(|v| points[v as usize])).is_none());
+    [repeated.len(), thin.count()]
+}
+
+/// The eleven counts in report order. The Rust counts degenerate faces of both kinds together: their sum must be its count.
+fn eleven(case: &Case, r: &RepairReport) -> [usize; REPORT] {
+    let [repeated, thin] = if case.options & 1 == 1 { kinds(case) } else { [0, 0] };
+    assert_eq!(repeated + thin, r.degenerate_removed, "the Rust counts another number of degenerate faces");
     [
-        r.degenerate_removed,
+        repeated,
+        thin,
         r.duplicate_faces_removed,
         r.nonmanifold_edges,
         r.faces_dropped_at_nonmanifold,
@@ -109,17 +121,17 @@ fn ten(r: &RepairReport) -> [usize; 10] {
 }
 
 /// A mesh mended by the Rust, as flat lists.
-pub fn mended(case: &Case) -> (Vec<f64>, Vec<u32>, [usize; 10]) {
+pub fn mended(case: &Case) -> (Vec<f64>, Vec<u32>, [usize; REPORT]) {
     na::set_threshold(case.threshold);
     let answer = repair_buffers(&points(case), &case.triples(), &options(case.options)).expect("an accepted mesh");
     let coordinates = answer.points.iter().flat_map(|p| [p[0], p[1], p[2]]).collect();
-    (coordinates, answer.faces.into_iter().flatten().collect(), ten(&answer.report))
+    (coordinates, answer.faces.into_iter().flatten().collect(), eleven(case, &answer.report))
 }
 
 /// `repair_buffers`: counts and rows.
 fn repair(case: &Case) -> (Vec<u64>, Vec<Vec<u8>>) {
     let (points, faces, report) = mended(case);
-    let counts = vec![points.len() as u64, faces.len() as u64, 10];
+    let counts = vec![points.len() as u64, faces.len() as u64, REPORT as u64];
     (counts, vec![floats(points), numbers(faces), numbers(report.map(|n| n as u32))])
 }
 
@@ -224,20 +236,20 @@ pub fn time<T>(case: &Case, median: impl FnOnce(&mut dyn FnMut()) -> T) -> T {
     }
 }
 
-/// The report of ten counts.
+/// The Rust's report of eleven counts: it has the sum of the first two.
 fn report(case: &Case) -> RepairReport {
     let n = |k: usize| case.counts[k] as usize;
     RepairReport {
-        degenerate_removed: n(0),
-        duplicate_faces_removed: n(1),
-        nonmanifold_edges: n(2),
-        faces_dropped_at_nonmanifold: n(3),
-        faces_dropped_for_orientation: n(4),
-        bowtie_vertices_split: n(5),
-        points_added_by_splitting: n(6),
-        faces_reoriented: n(7),
-        nonorientable_components: n(8),
-        isolated_vertices_removed: n(9),
+        degenerate_removed: n(0) + n(1),
+        duplicate_faces_removed: n(2),
+        nonmanifold_edges: n(3),
+        faces_dropped_at_nonmanifold: n(4),
+        faces_dropped_for_orientation: n(5),
+        bowtie_vertices_split: n(6),
+        points_added_by_splitting: n(7),
+        faces_reoriented: n(8),
+        nonorientable_components: n(9),
+        isolated_vertices_removed: n(10),
         faces_rejected_by_ingest: 0,
     }
 }

@@ -1,7 +1,7 @@
 //! Times of a call on a mesh: the median of five runs in processor time, the library's and the Rust's, and the memory that a run takes.
 
 use crate::call_named;
-use crate::case::{Call, Case, Filter};
+use crate::case::{Call, Case, Filter, REPORT};
 use crate::here::{self, Inputs, Reply};
 use crate::lent::Lent;
 use crate::meshes::Mesh;
@@ -81,7 +81,7 @@ fn asked(call: Call, mesh: Mesh) -> Case {
     }
     if call == Call::Line {
         case = Case::new(call);
-        case.counts = (0..10).map(|k| faces as u32 / (k + 1)).collect();
+        case.counts = (0..REPORT as u32).map(|k| faces as u32 / (k + 1)).collect();
     }
     case
 }

@@ -75,6 +75,15 @@ pub record TraceGives (w xs : List ℕ) (P at row : ℕ) (w′ : List ℕ) : Typ
   pub only : Only row (3 * P) w w′
   pub counted : Counted P row (boundary (facesOf xs)) w′
 
+-- a table of the undirected edges with m runs
+pub record CrowdAsks (w xs : List ℕ) (at m : ℕ) : Type 0 where
+  pub P : ℕ
+  pub tabled : Tabled w xs P false at m
+
+-- the verdict is the rules' of 7
+abbrev pub CrowdGives : {w xs : List ℕ} {at m : ℕ} → CrowdAsks w xs at m → Verdict → Type 0
+CrowdGives {w} {xs} q r = checkOf r ≡ decided (no7 (q .P) (facesOf xs) ∷ [])
+
 -- a table of the undirected edges with m runs, and room for the rows apart from it
 pub record BoundaryAsks (w xs : List ℕ) (P at m row : ℕ) : Type 0 where
   pub points : P < 2 ^ 32

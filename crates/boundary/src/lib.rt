@@ -1,23 +1,15 @@
-// Refusals 7 and 8 of the edge call from a finished table of the undirected edges, and where the boundary goes on from each vertex.
+// Refusals 7 and 8 from a finished table of the undirected edges, and where the boundary goes on from each vertex.
 //
 // The rows stand in the work room from `row` on, outside the table:
 //
 //     row        P   how many boundary edges begin at each vertex
 //     row + P    P   how many end there
 //     row + 2P   P   where the boundary edge that begins at the vertex ends; P where none begins
-//
-// The work room of the edge call, with n = 3F, within 16P + 64F + 64:
-//
-//     0             5n + 1 + P   the table (crate table)
-//     5n + 1 + P    3P           the rows above
-//     5n + 1 + 4P   ..           free for the walk of the loops
-//
-// Where its first 5n + 1 + 4P entries are 0 at entry, a fault is undone by clearing them again: the room is then as it was.
 use refuse::Verdict;
 ghost use mathlib.Core.Path.{_≡_};
 ghost use Prim.Native.Nat.{_+_, _≤_, _<_};
 ghost use lib.ListN.{length};
-ghost use Rattle.boundary.specs.Rows.{FirstOf, long, uneven, AddAsks, AddGives, TraceAsks, TraceGives, BoundaryAsks, BoundaryGives};
+ghost use Rattle.boundary.specs.Rows.{FirstOf, long, uneven, AddAsks, AddGives, TraceAsks, TraceGives, CrowdAsks, CrowdGives, BoundaryAsks, BoundaryGives};
 
 // The first of the m runs that has more than two entries, or m: the runs begin where the row `starts` says, which has one entry more.
 fn crowded(work: &[u32], starts: usize, m: usize) -> usize
@@ -85,6 +77,18 @@ fn uneven(work: &[u32], count: usize, row: usize) -> usize
     count
 }
 
+// 7 or nothing, from the table at `at` with m runs: 7 at the position of the first edge that occurs more than twice.
+pub fn crowd(work: &[u32], faces: &[u32], at: usize, m: usize) -> Verdict
+    requires { ⌜ CrowdAsks (now work) (now faces) at m ⌝ }
+    ensures { λ r. ⌜ ((q : CrowdAsks (now (work .entry)) (now (faces .entry)) at m) → CrowdGives q r) ⌝ }
+{
+    let r = crowded(work, at + 4 * faces.len(), m);
+    if r < m {
+        return Verdict::Refused(7, r);
+    }
+    Verdict::Fine
+}
+
 // 7, else 8, else nothing, from the table at `at` with m runs: 7 at the position of the first edge that occurs more than twice, 8 at the lowest
 // vertex at fault. Where it is nothing, the third row has where the boundary goes on from each vertex.
 pub fn boundary(
@@ -98,10 +102,10 @@ pub fn boundary(
     requires { ⌜ BoundaryAsks (now work) (now faces) count at m row ⌝ }
     ensures { λ r. ⌜ BoundaryGives (now (work .entry)) (now (faces .entry)) count at m row (now (work .exit)) r ⌝ }
 {
-    let r = crowded(work, at + 4 * faces.len(), m);
-    if r < m {
-        return Verdict::Refused(7, r);
-    }
+    let found = crowd(work, faces, at, m);
+    let Verdict::Fine = found else {
+        return found;
+    };
     rows::clear(work, row, 2 * count);
     rows::fill(work, row + 2 * count, count, count as u32);
     trace(work, faces, count, at, m, row);

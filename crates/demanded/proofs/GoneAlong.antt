@@ -1,4 +1,4 @@
--- Demand 3's last words of the edge call as it is lent: the vertices in one room, cut at the ends in the other, are the rules' loops, and so they go along
+-- Demand 3's last words of the loop call as it is lent: the vertices in one room, cut at the ends in the other, are the rules' loops, and so they go along
 -- each boundary edge exactly once. Assumes nothing.
 use mathlib.Core.Path.{_≡_, sym, ap, _∙_, subst}
 use mathlib.Core.List.{List, [], _∷_, List·Memᴰ}
@@ -11,16 +11,16 @@ use Rattle.rules.specs.Steps.{Step, same}
 use Rattle.rules.specs.Rooms.{accepted}
 use Rattle.rules.specs.RepairCall.{repair}
 use Rattle.rules.specs.Edges.{boundary, loops, loop-vertices}
-use Rattle.rules.specs.EdgesCall.{EdgesRooms, edges-check, find-edges}
-use Rattle.rules.proofs.Demand.{Looped, Rooms-enough, loop-steps}
-use Rattle.rules.proofs.Called.{outcome-ok, filled-front, find-edges-looped}
+use Rattle.rules.specs.LoopsCall.{LoopsRooms, loops-check, find-loops}
+use Rattle.rules.proofs.Demand.{Looped, Loops-enough, loop-steps}
+use Rattle.rules.proofs.Called.{outcome-ok, filled-front, find-loops-looped}
 use Rattle.rules.proofs.Reading.{cut, loops-read}
 use Rattle.repair.specs.declared.Repaired.the-variants as repaired
 use Rattle.repair.specs.Answers as repaired-as
-use Rattle.edges.specs.declared.Found.{Found}
-use Rattle.edges.specs.declared.Found.the-variants.{Done, Refused}
-use Rattle.edges.specs.Answers.{outcomeOf}
-use Rattle.demanded.proofs.Edged.{Is-done, edged}
+use Rattle.boundary_loops.specs.declared.Looped as answer
+use Rattle.boundary_loops.specs.declared.Looped.the-variants.{Done, Refused}
+use Rattle.boundary_loops.specs.Answers.{outcomeOf}
+use Rattle.demanded.proofs.Edged.{Loops-done, looped-too}
 
 -- a row of vertices, cut at the ends into loops, goes along each boundary edge of the faces fs exactly once
 pub record Gone-along (fs : List Face) (vertices ends : List ℕ) : Type 0 where
@@ -48,46 +48,46 @@ from-loops P fs vertices ends l c v =
 
 -- the vertices stand at the front of their room
 row :
-    (points : List Float) (faces : List ℕ) (r : EdgesRooms) (n : List ℕ) → find-edges points faces r .answer ≡ accepted n
-    → take (getD n 3 0) (find-edges points faces r .rooms .loop-vertices) ≡ loop-vertices (length points / 3) (facesOf faces)
-unfolding find-edges
+    (points : List Float) (faces : List ℕ) (r : LoopsRooms) (n : List ℕ) → find-loops points faces r .answer ≡ accepted n
+    → take (getD n 0 0) (find-loops points faces r .rooms .loop-vertices) ≡ loop-vertices (length points / 3) (facesOf faces)
+unfolding find-loops
 row points faces r n e =
-    let o = outcome-ok (edges-check points faces r) r _ _ n e in
-    ap (λ k. take (getD n 3 0) (k .loop-vertices)) (o .2)
-    ∙ filled-front 0 (3 * (length faces / 3)) (getD n 3 0) (loop-vertices (length points / 3) (facesOf faces)) (r .loop-vertices) (ap (λ l. getD l 3 0) (o .1))
+    let o = outcome-ok (loops-check points faces r) r _ _ n e in
+    ap (λ k. take (getD n 0 0) (k .loop-vertices)) (o .2)
+    ∙ filled-front 0 (3 * (length faces / 3)) (getD n 0 0) (loop-vertices (length points / 3) (facesOf faces)) (r .loop-vertices) (ap (λ l. getD l 0 0) (o .1))
 
--- what an accepted edge call leaves in its two loop rooms, by the rules
+-- what an accepted loop call leaves in its rooms, by the rules
 pub gone-along :
-    (points : List Float) (faces : List ℕ) (r : EdgesRooms) (n : List ℕ) → find-edges points faces r .answer ≡ accepted n
-    → Gone-along (facesOf faces) (take (getD n 3 0) (find-edges points faces r .rooms .loop-vertices)) (take (getD n 4 0) (find-edges points faces r .rooms .loop-ends))
+    (points : List Float) (faces : List ℕ) (r : LoopsRooms) (n : List ℕ) → find-loops points faces r .answer ≡ accepted n
+    → Gone-along (facesOf faces) (take (getD n 0 0) (find-loops points faces r .rooms .loop-vertices)) (take (getD n 1 0) (find-loops points faces r .rooms .loop-ends))
 gone-along points faces r n e =
-    from-loops (length points / 3) (facesOf faces) _ _ (find-edges-looped points faces r n e) (loops-read points faces r n e) (row points faces r n e)
+    from-loops (length points / 3) (facesOf faces) _ _ (find-loops-looped points faces r n e) (loops-read points faces r n e) (row points faces r n e)
 
--- what `find_edges` leaves there when it is done
+-- what `find_loops` leaves there when it is done
 pub found-along :
-    (points : List Float) (faces : List ℕ) (q q′ : EdgesRooms) {a b c d e : ℕ} → outcomeOf (Done a b c d e) q′ ≡ find-edges points faces q
+    (points : List Float) (faces : List ℕ) (q q′ : LoopsRooms) {d e : ℕ} → outcomeOf (Done d e) q′ ≡ find-loops points faces q
     → Gone-along (facesOf faces) (take d (q′ .loop-vertices)) (take e (q′ .loop-ends))
-found-along points faces q q′ {a} {b} {c} {d} {e} o =
+found-along points faces q q′ {d} {e} o =
     subst (λ t. Gone-along (facesOf faces) (take d (t .rooms .loop-vertices)) (take e (t .rooms .loop-ends))) (sym o)
-    (gone-along points faces q (a ∷ b ∷ c ∷ d ∷ e ∷ []) (ap (λ t. t .answer) (sym o)))
+    (gone-along points faces q (d ∷ e ∷ []) (ap (λ t. t .answer) (sym o)))
 
 -- a call is done, and its loops go along each boundary edge of the faces fs exactly once
-unfoldable pub Done-along : List Face → Found → EdgesRooms → Type 0
-Done-along fs (Done a b c d e) q = Gone-along fs (take d (q .loop-vertices)) (take e (q .loop-ends))
+unfoldable pub Done-along : List Face → answer.Looped → LoopsRooms → Type 0
+Done-along fs (Done d e) q = Gone-along fs (take d (q .loop-vertices)) (take e (q .loop-ends))
 Done-along fs (Refused n p) q = ⊥
 
 -- so does each that is done
 done-along :
-    (points : List Float) (faces : List ℕ) (q q′ : EdgesRooms) (f : Found) → Is-done f → outcomeOf f q′ ≡ find-edges points faces q → Done-along (facesOf faces) f q′
-unfolding Is-done Done-along
-done-along points faces q q′ (Done a b c d e) h o = found-along points faces q q′ o
+    (points : List Float) (faces : List ℕ) (q q′ : LoopsRooms) (f : answer.Looped) → Loops-done f → outcomeOf f q′ ≡ find-loops points faces q → Done-along (facesOf faces) f q′
+unfolding Loops-done Done-along
+done-along points faces q q′ (Done d e) h o = found-along points faces q q′ o
 done-along points faces q q′ (Refused n p) h o = h
 
--- after an accepted repair with options 63 the edge call on what stands in the rooms is done, and goes along each boundary edge exactly once
-pub edged-along :
+-- after an accepted repair with options 63 the loop call on what stands in the rooms is done, and goes along each boundary edge exactly once
+pub looped-along :
     (points : List Float) (faces : List ℕ) (s : Float) (ps : List Float) (xs rs w : List ℕ) {ps′ : List Float} {xs′ rs′ w′ : List ℕ} {a b : ℕ}
     → repaired-as.outcomeOf (repaired.Done a b) ps′ xs′ rs′ w′ ≡ repair points faces s 63 (repaired-as.roomsOf ps xs rs w)
-    → (q q′ : EdgesRooms) (f : Found) → Rooms-enough (length (take a ps′) / 3) (length (take b xs′) / 3) q
-    → outcomeOf f q′ ≡ find-edges (take a ps′) (take b xs′) q → Done-along (facesOf (take b xs′)) f q′
-edged-along points faces s ps xs rs w {ps′} {xs′} {rs′} {w′} {a} {b} e q q′ f enough o =
-    done-along (take a ps′) (take b xs′) q q′ f (edged points faces s ps xs rs w e q q′ f enough o) o
+    → (q q′ : LoopsRooms) (f : answer.Looped) → Loops-enough (length (take a ps′) / 3) (length (take b xs′) / 3) q
+    → outcomeOf f q′ ≡ find-loops (take a ps′) (take b xs′) q → Done-along (facesOf (take b xs′)) f q′
+looped-along points faces s ps xs rs w {ps′} {xs′} {rs′} {w′} {a} {b} e q q′ f enough o =
+    done-along (take a ps′) (take b xs′) q q′ f (looped-too points faces s ps xs rs w e q q′ f enough o) o

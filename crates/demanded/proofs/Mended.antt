@@ -7,8 +7,8 @@ use lib.Ieee.{Float}
 use Rattle.rules.specs.Mesh.{pointsOf, facesOf}
 use Rattle.rules.specs.State.{State, report-counts}
 use Rattle.rules.specs.Rooms.{accepted}
-use Rattle.rules.specs.Calls.{EdgesRooms, repair, find-edges}
-use Rattle.rules.proofs.Demand.{Demand3, Beside, Looped, Rooms-enough}
+use Rattle.rules.specs.Calls.{EdgesRooms, LoopsRooms, repair, find-edges, find-loops}
+use Rattle.rules.proofs.Demand.{Demand3, Beside, Looped, Edges-enough, Loops-enough}
 use Rattle.rules.proofs.Called.{Called3, called3, left}
 use Rattle.repair.specs.declared.Repaired.the-variants.{Done}
 use Rattle.repair.specs.Answers.{roomsOf, outcomeOf}
@@ -37,11 +37,19 @@ module _ (points : List Float) (faces : List ℕ) (s : Float) (ps : List Float) 
 
   -- given enough room, the rules' edge call accepts it
   pub demanded-edges :
-      (q : EdgesRooms) → Rooms-enough (length (take a ps′) / 3) (length (take b xs′) / 3) q
+      (q : EdgesRooms) → Edges-enough (length (take a ps′) / 3) (length (take b xs′) / 3) q
       → (k : List ℕ) × (find-edges (take a ps′) (take b xs′) q .answer ≡ accepted k)
   demanded-edges =
-      subst (λ o. (q : EdgesRooms) → Rooms-enough (length (take a (o .rooms .out-points)) / 3) (length (take b (o .rooms .out-faces)) / 3) q
+      subst (λ o. (q : EdgesRooms) → Edges-enough (length (take a (o .rooms .out-points)) / 3) (length (take b (o .rooms .out-faces)) / 3) q
       → (k : List ℕ) × (find-edges (take a (o .rooms .out-points)) (take b (o .rooms .out-faces)) q .answer ≡ accepted k)) (sym e) (said .edge-call)
+
+  -- and so does their loop call
+  pub demanded-loop-call :
+      (q : LoopsRooms) → Loops-enough (length (take a ps′) / 3) (length (take b xs′) / 3) q
+      → (k : List ℕ) × (find-loops (take a ps′) (take b xs′) q .answer ≡ accepted k)
+  demanded-loop-call =
+      subst (λ o. (q : LoopsRooms) → Loops-enough (length (take a (o .rooms .out-points)) / 3) (length (take b (o .rooms .out-faces)) / 3) q
+      → (k : List ℕ) × (find-loops (take a (o .rooms .out-points)) (take b (o .rooms .out-faces)) q .answer ≡ accepted k)) (sym e) (said .loop-call)
 
   -- each boundary edge of it is in exactly one loop
   pub demanded-loops : Looped (length (take a ps′) / 3) (facesOf (take b xs′))

@@ -1,4 +1,5 @@
--- Demand 3 of what C gets: the mesh that `shell_repair` leaves in its rooms, by the entries that it tells, and the loops that `shell_edges` then leaves.
+-- Demand 3 of what C gets: the mesh that `shell_repair` leaves in its rooms, by the entries that it tells, that `shell_edges` and `shell_loops` accept
+-- it, and the loops that the latter then leaves.
 -- The number 0 says that the rules accepted the call, and of that call the rules' demand speaks. Assumes nothing.
 use mathlib.Core.Path.{_≡_, sym, ap, _∙_, subst}
 use mathlib.Core.List.{List, [], _∷_}
@@ -11,14 +12,16 @@ use Rattle.rules.specs.Rooms.{accepted}
 use Rattle.rules.specs.Repair.{repaired}
 use Rattle.rules.specs.RepairCall.{RepairRooms, repair-check, repair}
 use Rattle.rules.specs.EdgesCall.{EdgesRooms, find-edges}
+use Rattle.rules.specs.LoopsCall.{LoopsRooms, find-loops}
 use Rattle.rules.proofs.Flat.{length-flat-points, length-flat-faces}
-use Rattle.rules.proofs.Demand.{Demand3, Beside, Rooms-enough}
+use Rattle.rules.proofs.Demand.{Demand3, Beside, Edges-enough, Loops-enough}
 use Rattle.rules.proofs.Called.{Called3, called3, outcome-ok, filled-front}
 use Rattle.demanded.proofs.GoneAlong.{Gone-along, gone-along}
 use Rattle.shell.specs.Told.{Given}
 use Rattle.shell.specs.declared.ShellRepaired.{ShellRepaired}
 use Rattle.shell.specs.declared.ShellEdges.{ShellEdges}
-use Rattle.one_answer.proofs.Numbered.{repair-numbered, edges-numbered}
+use Rattle.shell.specs.declared.ShellLoops.{ShellLoops}
+use Rattle.one_answer.proofs.Numbered.{repair-numbered, loops-numbered}
 use Rattle.demanded_in_c.proofs.Zero.{zero-accepted, accepted-zero}
 
 -- what `shell_repair` ensures with options 63, of its rooms before and after and of what it gives back
@@ -27,8 +30,11 @@ Repaired-as points faces s before after r = Given (r .number) (r .place) (r .poi
 
 -- what `shell_edges` ensures
 abbrev pub Edges-as : List Float → List ℕ → EdgesRooms → EdgesRooms → ShellEdges → Type 0
-Edges-as points faces before after r =
-    Given (r .number) (r .place) (r .edges ∷ r .lengths ∷ r .«face_edges» ∷ r .«loop_vertices» ∷ r .«loop_ends» ∷ []) after (find-edges points faces before)
+Edges-as points faces before after r = Given (r .number) (r .place) (r .edges ∷ r .lengths ∷ r .«face_edges» ∷ []) after (find-edges points faces before)
+
+-- what `shell_loops` ensures
+abbrev pub Loops-as : List Float → List ℕ → LoopsRooms → LoopsRooms → ShellLoops → Type 0
+Loops-as points faces before after r = Given (r .number) (r .place) (r .«loop_vertices» ∷ r .«loop_ends» ∷ []) after (find-loops points faces before)
 
 -- the points that stand in the rooms, flat, by the entries that are told
 abbrev pub points-in : ShellRepaired → RepairRooms → List Float
@@ -44,15 +50,19 @@ mesh-in r rooms = record { points = pointsOf (points-in r rooms); faces = facesO
 
 -- given enough room, the rules' edge call accepts the points ps and the faces xs, both flat
 abbrev Edges-accept : List Float → List ℕ → Type 0
-Edges-accept ps xs = (q : EdgesRooms) → Rooms-enough (length ps / 3) (length xs / 3) q → (k : List ℕ) × (find-edges ps xs q .answer ≡ accepted k)
+Edges-accept ps xs = (q : EdgesRooms) → Edges-enough (length ps / 3) (length xs / 3) q → (k : List ℕ) × (find-edges ps xs q .answer ≡ accepted k)
 
--- the loops of a `shell_edges` of number 0 go along each boundary edge exactly once
+-- and so does their loop call
+abbrev Loops-accept : List Float → List ℕ → Type 0
+Loops-accept ps xs = (q : LoopsRooms) → Loops-enough (length ps / 3) (length xs / 3) q → (k : List ℕ) × (find-loops ps xs q .answer ≡ accepted k)
+
+-- the loops of a `shell_loops` of number 0 go along each boundary edge exactly once
 pub shell-gone-along :
-    (points : List Float) (faces : List ℕ) (before after : EdgesRooms) (r : ShellEdges) → Edges-as points faces before after r → r .number ≡ 0
+    (points : List Float) (faces : List ℕ) (before after : LoopsRooms) (r : ShellLoops) → Loops-as points faces before after r → r .number ≡ 0
     → Gone-along (facesOf faces) (take (r .«loop_vertices») (after .loop-vertices)) (take (r .«loop_ends») (after .loop-ends))
 shell-gone-along points faces before after r g zero =
     subst (λ q. Gone-along (facesOf faces) (take (r .«loop_vertices») (q .loop-vertices)) (take (r .«loop_ends») (q .loop-ends))) (sym (g .after))
-    (gone-along points faces before _ (zero-accepted (edges-numbered points faces before) g zero))
+    (gone-along points faces before _ (zero-accepted (loops-numbered points faces before) g zero))
 
 module _ (points : List Float) (faces : List ℕ) (s : Float) (before after : RepairRooms) (r : ShellRepaired) (g : Repaired-as points faces s before after r) (zero : r .number ≡ 0) where
   -- the rules accepted it
@@ -88,21 +98,28 @@ module _ (points : List Float) (faces : List ℕ) (s : Float) (before after : Re
       )
 
   -- room for so many points and faces is room for the mesh that stands there
-  room-for : (room : EdgesRooms) → Rooms-enough (r .points / 3) (r .faces / 3) room → Rooms-enough (length (points-in r after) / 3) (length (faces-in r after) / 3) room
-  room-for room enough =
+  room-for : (Enough : ℕ → ℕ → Type 0) → Enough (r .points / 3) (r .faces / 3) → Enough (length (points-in r after) / 3) (length (faces-in r after) / 3)
+  room-for Enough enough =
       let e = shell-demanded-entries in
-      subst (λ P. Rooms-enough (P / 3) (length (faces-in r after) / 3) room) (sym (e .0)) (subst (λ F. Rooms-enough (r .points / 3) (F / 3) room) (sym (e .1)) enough)
+      subst (λ P. Enough (P / 3) (length (faces-in r after) / 3)) (sym (e .0)) (subst (λ F. Enough (r .points / 3) (F / 3)) (sym (e .1)) enough)
 
   -- given enough room, `shell_edges` on it gives number 0
   pub shell-demanded-edges :
-      (room after′ : EdgesRooms) (t : ShellEdges) → Rooms-enough (r .points / 3) (r .faces / 3) room → Edges-as (points-in r after) (faces-in r after) room after′ t
+      (room after′ : EdgesRooms) (t : ShellEdges) → Edges-enough (r .points / 3) (r .faces / 3) room → Edges-as (points-in r after) (faces-in r after) room after′ t
       → t .number ≡ 0
   shell-demanded-edges room after′ t enough h =
-      accepted-zero (subst (λ w. Edges-accept (points-in r w) (faces-in r w)) (sym (g .after)) (said .edge-call) room (room-for room enough) .1) h
+      accepted-zero (subst (λ w. Edges-accept (points-in r w) (faces-in r w)) (sym (g .after)) (said .edge-call) room (room-for (λ P F. Edges-enough P F room) enough) .1) h
 
-  -- and its loops go along each boundary edge exactly once
+  -- and so does `shell_loops`
+  pub shell-demanded-loop-call :
+      (room after′ : LoopsRooms) (t : ShellLoops) → Loops-enough (r .points / 3) (r .faces / 3) room → Loops-as (points-in r after) (faces-in r after) room after′ t
+      → t .number ≡ 0
+  shell-demanded-loop-call room after′ t enough h =
+      accepted-zero (subst (λ w. Loops-accept (points-in r w) (faces-in r w)) (sym (g .after)) (said .loop-call) room (room-for (λ P F. Loops-enough P F room) enough) .1) h
+
+  -- whose loops go along each boundary edge exactly once
   pub shell-demanded-loops :
-      (room after′ : EdgesRooms) (t : ShellEdges) → Rooms-enough (r .points / 3) (r .faces / 3) room → Edges-as (points-in r after) (faces-in r after) room after′ t
+      (room after′ : LoopsRooms) (t : ShellLoops) → Loops-enough (r .points / 3) (r .faces / 3) room → Loops-as (points-in r after) (faces-in r after) room after′ t
       → Gone-along (facesOf (faces-in r after)) (take (t .«loop_vertices») (after′ .loop-vertices)) (take (t .«loop_ends») (after′ .loop-ends))
   shell-demanded-loops room after′ t enough h =
-      shell-gone-along (points-in r after) (faces-in r after) room after′ t h (shell-demanded-edges room after′ t enough h)
+      shell-gone-along (points-in r after) (faces-in r after) room after′ t h (shell-demanded-loop-call room after′ t enough h)

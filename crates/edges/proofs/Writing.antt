@@ -5,8 +5,7 @@ use Prim.Native.Nat.{ℕ, _+_, _*_, _/_, _≤_}
 use native.Mathlib.Omega.{arith}
 use lib.ListN.{length}
 use lib.Ieee.{Float}
-use Rattle.rows.specs.Region.{Apart.before, Only, Filled}
-use Rattle.rows.proofs.Regions.{only-both}
+use Rattle.rows.specs.Region.{Only, Filled}
 use Rattle.rules.specs.Lists.{each}
 use Rattle.rules.specs.Mesh.{facesOf, pointsOf, zero64}
 use Rattle.rules.specs.Steps.{edges}
@@ -14,16 +13,13 @@ use Rattle.rules.specs.Rooms.{work-room, filled, cleared}
 use Rattle.rules.specs.Edges as rule
 use Rattle.rules.specs.Edges.{both-ends}
 use Rattle.rules.specs.EdgesCall.{EdgesRooms}
-use Rattle.table.proofs.Frames.{only2-wide}
 use Rattle.table.proofs.Theorems.{edge-count}
 use Rattle.filling.proofs.Filling.{cleared-is}
-use Rattle.boundary.specs.Rows.{onward}
 use Rattle.listing.specs.Listing as listing
 use Rattle.listing.specs.Listing.{EdgesAsks, ListLengthsAsks, ListLengthsGives, FaceEdgesAsks, FaceEdgesGives}
 use Rattle.listing.proofs.Ends.{fewer}
-use Rattle.loops.specs.Loops.{LoopsAsks, LoopsGives}
 use Rattle.edges.specs.Answers.{roomsOf}
-use Rattle.edges.specs.Steps.{ListAsks, ListGives}
+use Rattle.edges.specs.Steps.{ListAsks, after}
 
 module _ {ps : List Float} {xs : List ℕ} {m : ℕ} {r : EdgesRooms} (a : ListAsks ps xs m r) where
   -- P
@@ -70,54 +66,24 @@ module _ {ps : List Float} {xs : List ℕ} {m : ℕ} {r : EdgesRooms} (a : ListA
   abbrev pub face-edges-asks : FaceEdgesAsks (r .work) xs 0 (r .face-edges)
   face-edges-asks = record { P = P; m = m; tabled = a .stands .tabled; room = omega (arith, a .accepted .room-face-edges, sizes) }
 
-  -- the loops
-  pub loops-asks : LoopsAsks (r .work) xs P (5 * length xs + 1 + 3 * P) (5 * length xs + 1 + 3 * P + P) (r .loop-vertices) (r .loop-ends)
-  unfolding onward
-  loops-asks =
-      let f = a .accepted .input .faces-fine in
-      let s = sizes in
-      record {
-        whole = f .whole;
-        inside = f .below;
-        simple = a .simple;
-        few = omega (arith, s);
-        short = omega (arith, s);
-        next-fit = omega (arith, s);
-        spare-fit = omega (arith, s);
-        apart = before (omega arith);
-        row = a .stands .next;
-        room-vertices = omega (arith, a .accepted .room-loop-vertices, s);
-        room-ends = omega (arith, a .accepted .room-loop-ends, s);
-      }
-
   -- ---- the rooms
 
-  module _ {e′ : List ℕ} {l′ : List Float} {s′ w′ v′ n′ : List ℕ} {total count : ℕ}
-      (ge : (q : EdgesAsks (r .work) xs 0 m (r .edges)) → listing.ListGives q e′)
-      (gl : ListLengthsGives ps xs (r .lengths) l′)
-      (gs : (q : FaceEdgesAsks (r .work) xs 0 (r .face-edges)) → FaceEdgesGives q s′)
-      (go : LoopsGives (r .work) xs P (5 * length xs + 1 + 3 * P) (5 * length xs + 1 + 3 * P + P) (r .loop-vertices) (r .loop-ends) w′ v′ n′ total count) where
-    -- the walks stay in the stated work room
-    walks-only : Only 0 (16 * P + 64 * (length xs / 3) + 64) (r .work) w′
-    walks-only = let s = sizes in only2-wide 0 (16 * P + 64 * (length xs / 3) + 64) (omega arith) (omega (arith, s)) (omega arith) (omega (arith, s)) (go .only)
+  -- the stated work room can be cleared
+  pub clear-fits : 0 + (16 * P + 64 * (length xs / 3) + 64) ≤ length (r .work)
+  clear-fits = omega (arith, sizes)
 
-    -- which can be cleared
-    pub clear-fits : 0 + (16 * P + 64 * (length xs / 3) + 64) ≤ length w′
-    clear-fits = omega (arith, sizes, walks-only .long)
-
-    -- and then every room is the rules'
-    pub all-done :
-        {w″ : List ℕ} → Only 0 (16 * P + 64 * (length xs / 3) + 64) w′ w″ → Filled 0 (16 * P + 64 * (length xs / 3) + 64) 0 w″
-        → ListGives ps xs r (roomsOf e′ l′ s′ v′ n′ w″) total count
-    unfolding work-room
-    all-done {w″} o z =
-        let s = sizes in
-        let two : 2 * length xs ≡ 6 * (length xs / 3) = omega (arith, s) in
-        let one : length xs ≡ 3 * (length xs / 3) = omega (arith, s) in
-        let pe : e′ ≡ filled 0 (6 * (length xs / 3)) (each both-ends (edges P (facesOf xs))) (r .edges) = ge edges-asks .whole ∙ ap (λ k. filled 0 k (each both-ends (edges P (facesOf xs))) (r .edges)) two in
-        let pl : l′ ≡ filled zero64 (3 * (length xs / 3)) (rule.lengths (pointsOf ps) (facesOf xs)) (r .lengths) = gl .whole ∙ ap (λ k. filled zero64 k (rule.lengths (pointsOf ps) (facesOf xs)) (r .lengths)) one in
-        let ps′ : s′ ≡ filled 0 (3 * (length xs / 3)) (rule.face-edges P (facesOf xs)) (r .face-edges) = gs face-edges-asks .whole ∙ ap (λ k. filled 0 k (rule.face-edges P (facesOf xs)) (r .face-edges)) one in
-        let pv : v′ ≡ filled 0 (3 * (length xs / 3)) (rule.loop-vertices P (facesOf xs)) (r .loop-vertices) = go .vertices ∙ ap (λ k. filled 0 k (rule.loop-vertices P (facesOf xs)) (r .loop-vertices)) one in
-        let pn : n′ ≡ filled 0 (3 * (length xs / 3)) (rule.loop-ends P (facesOf xs)) (r .loop-ends) = go .ends ∙ ap (λ k. filled 0 k (rule.loop-ends P (facesOf xs)) (r .loop-ends)) one in
-        let pw : w″ ≡ cleared (16 * P + 64 * (length xs / 3) + 64) (r .work) = cleared-is (s .stated) (only-both walks-only o) z in
-        record { vertices-is = go .total-is; ends-is = go .count-is; rooms = λ i. roomsOf (pe i) (pl i) (ps′ i) (pv i) (pn i) (pw i) }
+  -- and then every room is the rules'
+  pub all-done :
+      {e′ : List ℕ} {l′ : List Float} {s′ w′ : List ℕ} → ((q : EdgesAsks (r .work) xs 0 m (r .edges)) → listing.ListGives q e′) → ListLengthsGives ps xs (r .lengths) l′
+      → ((q : FaceEdgesAsks (r .work) xs 0 (r .face-edges)) → FaceEdgesGives q s′)
+      → Only 0 (16 * P + 64 * (length xs / 3) + 64) (r .work) w′ → Filled 0 (16 * P + 64 * (length xs / 3) + 64) 0 w′ → roomsOf e′ l′ s′ w′ ≡ after ps xs r
+  unfolding work-room
+  all-done {e′} {l′} {s′} {w′} ge gl gs o z =
+      let s = sizes in
+      let two : 2 * length xs ≡ 6 * (length xs / 3) = omega (arith, s) in
+      let one : length xs ≡ 3 * (length xs / 3) = omega (arith, s) in
+      let pe : e′ ≡ filled 0 (6 * (length xs / 3)) (each both-ends (edges P (facesOf xs))) (r .edges) = ge edges-asks .whole ∙ ap (λ k. filled 0 k (each both-ends (edges P (facesOf xs))) (r .edges)) two in
+      let pl : l′ ≡ filled zero64 (3 * (length xs / 3)) (rule.lengths (pointsOf ps) (facesOf xs)) (r .lengths) = gl .whole ∙ ap (λ k. filled zero64 k (rule.lengths (pointsOf ps) (facesOf xs)) (r .lengths)) one in
+      let ps′ : s′ ≡ filled 0 (3 * (length xs / 3)) (rule.face-edges P (facesOf xs)) (r .face-edges) = gs face-edges-asks .whole ∙ ap (λ k. filled 0 k (rule.face-edges P (facesOf xs)) (r .face-edges)) one in
+      let pw : w′ ≡ cleared (16 * P + 64 * (length xs / 3) + 64) (r .work) = cleared-is (s .stated) o z in
+      λ i. roomsOf (pe i) (pl i) (ps′ i) (pw i)

@@ -7,15 +7,14 @@ use Rattle.rules.specs.EdgesCall.{EdgesRooms}
 use Rattle.edges.specs.declared.Found.{Found}
 use Rattle.edges.specs.declared.Found.the-variants.{Done, Refused}
 
--- document 01's answer: how many entries stand in each room, or a number and a place
+-- the rules' answer: how many entries stand in each room, or a number and a place
 abbrev pub answerOf : Found → Answer
-answerOf (Done edges lengths face-edges loop-vertices loop-ends) = accepted (edges ∷ lengths ∷ face-edges ∷ loop-vertices ∷ loop-ends ∷ [])
+answerOf (Done edges lengths face-edges) = accepted (edges ∷ lengths ∷ face-edges ∷ [])
 answerOf (Refused n p) = refused n p
 
 -- the rooms lent to the call, in their order
-abbrev pub roomsOf : List ℕ → List Float → List ℕ → List ℕ → List ℕ → List ℕ → EdgesRooms
-roomsOf edges lengths face-edges loop-vertices loop-ends work =
-    record { edges = edges; lengths = lengths; face-edges = face-edges; loop-vertices = loop-vertices; loop-ends = loop-ends; work = work }
+abbrev pub roomsOf : List ℕ → List Float → List ℕ → List ℕ → EdgesRooms
+roomsOf edges lengths face-edges work = record { edges = edges; lengths = lengths; face-edges = face-edges; work = work }
 
 -- the answer, with the rooms as the call leaves them
 abbrev pub outcomeOf : Found → EdgesRooms → Outcome EdgesRooms

@@ -8,10 +8,10 @@ use Rattle.rules.specs.Refusal.{Check, ok, no, unless, at-first, no6}
 use Rattle.rules.specs.Rooms.{work-room}
 use Rattle.rules.specs.EdgesCall.{edges-rooms}
 
-module _ (P F edges lengths face-edges loop-vertices loop-ends work : ℕ) where
+module _ (P F edges lengths face-edges work : ℕ) where
   -- what 6 finds
   abbrev six : Check
-  six = no6 (edges-rooms P F) (edges ∷ lengths ∷ face-edges ∷ loop-vertices ∷ loop-ends ∷ work ∷ [])
+  six = no6 (edges-rooms P F) (edges ∷ lengths ∷ face-edges ∷ work ∷ [])
 
   -- room 0 is the first too short
   pub short-0 : edges < 6 * F → no 6 0 ≡ six
@@ -29,21 +29,11 @@ module _ (P F edges lengths face-edges loop-vertices loop-ends work : ℕ) where
   short-2 a b c = rw (le-ltb _ _ a, le-ltb _ _ b, lt-ltb _ _ c)
 
   -- room 3 is the first too short
-  pub short-3 : 6 * F ≤ edges → 3 * F ≤ lengths → 3 * F ≤ face-edges → loop-vertices < 3 * F → no 6 3 ≡ six
+  pub short-3 : 6 * F ≤ edges → 3 * F ≤ lengths → 3 * F ≤ face-edges → work < work-room P F → no 6 3 ≡ six
   unfolding no6 at-first below all first unless edges-rooms
   short-3 a b c d = rw (le-ltb _ _ a, le-ltb _ _ b, le-ltb _ _ c, lt-ltb _ _ d)
 
-  -- room 4 is the first too short
-  pub short-4 : 6 * F ≤ edges → 3 * F ≤ lengths → 3 * F ≤ face-edges → 3 * F ≤ loop-vertices → loop-ends < 3 * F → no 6 4 ≡ six
-  unfolding no6 at-first below all first unless edges-rooms
-  short-4 a b c d e = rw (le-ltb _ _ a, le-ltb _ _ b, le-ltb _ _ c, le-ltb _ _ d, lt-ltb _ _ e)
-
-  -- room 5 is the first too short
-  pub short-5 : 6 * F ≤ edges → 3 * F ≤ lengths → 3 * F ≤ face-edges → 3 * F ≤ loop-vertices → 3 * F ≤ loop-ends → work < work-room P F → no 6 5 ≡ six
-  unfolding no6 at-first below all first unless edges-rooms
-  short-5 a b c d e f = rw (le-ltb _ _ a, le-ltb _ _ b, le-ltb _ _ c, le-ltb _ _ d, le-ltb _ _ e, lt-ltb _ _ f)
-
   -- none is too short
-  pub long : 6 * F ≤ edges → 3 * F ≤ lengths → 3 * F ≤ face-edges → 3 * F ≤ loop-vertices → 3 * F ≤ loop-ends → work-room P F ≤ work → ok ≡ six
+  pub long : 6 * F ≤ edges → 3 * F ≤ lengths → 3 * F ≤ face-edges → work-room P F ≤ work → ok ≡ six
   unfolding no6 at-first below all first unless edges-rooms
-  long a b c d e f = rw (le-ltb _ _ a, le-ltb _ _ b, le-ltb _ _ c, le-ltb _ _ d, le-ltb _ _ e, le-ltb _ _ f)
+  long a b c d = rw (le-ltb _ _ a, le-ltb _ _ b, le-ltb _ _ c, le-ltb _ _ d)

@@ -9,18 +9,16 @@ use Rattle.rules.specs.EdgesCall.{edges-rooms}
 use Rattle.refuse.specs.Verdicts.{sizes, contents}
 use Rattle.refuse.specs.Accepted.{Accepted}
 
--- the rules' `edges-check` up to 6; 7 and 8 follow
-abbrev pub edges-list : List Float → List ℕ → ℕ → ℕ → ℕ → ℕ → ℕ → ℕ → List Check
-edges-list points faces edges lengths face-edges loop-vertices loop-ends work =
+-- the rules' `edges-check` up to 6; 7 follows
+abbrev pub edges-list : List Float → List ℕ → ℕ → ℕ → ℕ → ℕ → List Check
+edges-list points faces edges lengths face-edges work =
     sizes (length points) (length faces) ++ contents points faces
-    ++ (no6 (edges-rooms (length points / 3) (length faces / 3)) (edges ∷ lengths ∷ face-edges ∷ loop-vertices ∷ loop-ends ∷ work ∷ []) ∷ [])
+    ++ (no6 (edges-rooms (length points / 3) (length faces / 3)) (edges ∷ lengths ∷ face-edges ∷ work ∷ []) ∷ [])
 
 -- what is known of the input and of the lengths of the rooms where 1 to 6 find nothing
-pub record EdgesAccepted (points : List Float) (faces : List ℕ) (edges lengths face-edges loop-vertices loop-ends work : ℕ) : Type 0 where
+pub record EdgesAccepted (points : List Float) (faces : List ℕ) (edges lengths face-edges work : ℕ) : Type 0 where
   pub input : Accepted points faces
   pub room-edges : 6 * (length faces / 3) ≤ edges
   pub room-lengths : 3 * (length faces / 3) ≤ lengths
   pub room-face-edges : 3 * (length faces / 3) ≤ face-edges
-  pub room-loop-vertices : 3 * (length faces / 3) ≤ loop-vertices
-  pub room-loop-ends : 3 * (length faces / 3) ≤ loop-ends
   pub room-work : work-room (length points / 3) (length faces / 3) ≤ work

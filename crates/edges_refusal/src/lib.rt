@@ -1,4 +1,4 @@
-// The refusals of the edge call up to 6, in their order: 1, 2, 4, 5, 6; the rooms by their lengths. Then 7 and 8 are left.
+// The refusals of the edge call up to 6, in their order: 1, 2, 4, 5, 6; the rooms by their lengths. Then 7 is left.
 use refuse::Verdict;
 ghost use mathlib.Core.Path.{_≡_};
 ghost use mathlib.Core.List.{_∷_, []};
@@ -12,18 +12,16 @@ pub struct Rooms {
     pub edges: usize,
     pub lengths: usize,
     pub face_edges: usize,
-    pub loop_vertices: usize,
-    pub loop_ends: usize,
     pub work: usize,
 }
 
-// 6: edges 6F, lengths 3F, face edges 3F, loop vertices 3F, loop ends 3F, work.
+// 6: edges 6F, lengths 3F, face edges 3F, work.
 fn short_room(p: usize, f: usize, rooms: Rooms) -> Verdict
     requires { ⌜ by.Limits p f ⌝ }
     ensures { λ r. ⌜
         by.checkOf r
         ≡ refusal.no6 (rule.edges-rooms p f)
-        (rooms .edges ∷ rooms .lengths ∷ rooms .«face_edges» ∷ rooms .«loop_vertices» ∷ rooms .«loop_ends» ∷ rooms .work ∷ [])
+        (rooms .edges ∷ rooms .lengths ∷ rooms .«face_edges» ∷ rooms .work ∷ [])
         ⌝ }
 {
     if rooms.edges < 6 * f {
@@ -35,14 +33,8 @@ fn short_room(p: usize, f: usize, rooms: Rooms) -> Verdict
     if rooms.face_edges < 3 * f {
         return Verdict::Refused(6, 2);
     }
-    if rooms.loop_vertices < 3 * f {
-        return Verdict::Refused(6, 3);
-    }
-    if rooms.loop_ends < 3 * f {
-        return Verdict::Refused(6, 4);
-    }
     if rooms.work < refuse::stated_work(p, f) {
-        return Verdict::Refused(6, 5);
+        return Verdict::Refused(6, 3);
     }
     Verdict::Fine
 }
@@ -51,8 +43,7 @@ fn short_room(p: usize, f: usize, rooms: Rooms) -> Verdict
 pub fn edges_refusal(points: &[f64], faces: &[u32], rooms: Rooms) -> Verdict
     ensures { λ r. ⌜
         by.checkOf r
-        ≡ refusal.decided
-        (edges-list (now (points .entry)) (now (faces .entry)) (rooms .edges) (rooms .lengths) (rooms .«face_edges») (rooms .«loop_vertices») (rooms .«loop_ends») (rooms .work))
+        ≡ refusal.decided (edges-list (now (points .entry)) (now (faces .entry)) (rooms .edges) (rooms .lengths) (rooms .«face_edges») (rooms .work))
         ⌝ }
 {
     let found = refuse::sizes(points.len(), faces.len());

@@ -63,3 +63,8 @@ unfolding cleared
 cleared-is {n} {w} {w′} h o z =
     let m : n - 0 ≡ n = omega arith in
     filled-is {d = 0} {answer = []} h (omega arith) (only-none 0 0 w) refl (rw m o) (rw m z)
+
+-- what is cleared does not depend on what was written there before
+pub cleared-kept : {n : ℕ} {w w′ : List ℕ} → OnlyOf 0 0 n w w′ → cleared n w′ ≡ cleared n w
+unfolding cleared filled
+cleared-kept {n} o = ap (λ l. [] ++ replicate (n - 0) 0 ++ l) (drop-kept o)

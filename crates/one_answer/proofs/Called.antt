@@ -7,13 +7,16 @@ use lib.ListN.{getD}
 use lib.Dec.{eqb}
 use lib.Ieee.{Float}
 use Rattle.rules.specs.Rooms.{Answer, accepted, refused, Outcome}
-use Rattle.rules.specs.Calls.{RepairRooms, EdgesRooms, PatchesRooms}
+use Rattle.rules.specs.Calls.{RepairRooms, EdgesRooms, LoopsRooms, PatchesRooms}
 use Rattle.repair.specs.declared.Repaired.{Repaired}
 use Rattle.repair.specs.declared.Repaired.the-variants as repaired
 use Rattle.repair.specs.Answers as repair
 use Rattle.edges.specs.declared.Found.{Found}
 use Rattle.edges.specs.declared.Found.the-variants as found
 use Rattle.edges.specs.Answers as edges
+use Rattle.boundary_loops.specs.declared.Looped.{Looped}
+use Rattle.boundary_loops.specs.declared.Looped.the-variants as looped
+use Rattle.boundary_loops.specs.Answers as loops
 use Rattle.edge_check.specs.declared.Checked.{Checked}
 use Rattle.edge_check.specs.declared.Checked.the-variants as checked
 use Rattle.edge_check.specs.Answers as check
@@ -58,18 +61,35 @@ one-repair {o} {r} {r′} p q =
 
 -- what the edge call gave back, from the rules' answer
 abbrev found-of : Answer → Found
-found-of (accepted ns) = found.Done (getD ns 0 0) (getD ns 1 0) (getD ns 2 0) (getD ns 3 0) (getD ns 4 0)
+found-of (accepted ns) = found.Done (getD ns 0 0) (getD ns 1 0) (getD ns 2 0)
 found-of (refused n p) = found.Refused n p
 
 -- nothing of it is lost
 found-is : (r : Found) → found-of (edges.answerOf r) ≡ r
-found-is (found.Done a b c d e) = refl
+found-is (found.Done a b c) = refl
 found-is (found.Refused n p) = refl
 
 -- the edge call has one answer, and leaves one list in each room
 pub one-edges : {o : Outcome EdgesRooms} {r r′ : Found} {rooms rooms′ : EdgesRooms} → edges.outcomeOf r rooms ≡ o → edges.outcomeOf r′ rooms′ ≡ o → (r ≡ r′) × (rooms ≡ rooms′)
 one-edges {o} {r} {r′} p q =
     let e = p ∙ sym q in (sym (found-is r) ∙ ap (λ t. found-of (t .answer)) e ∙ found-is r′, ap (λ t. t .rooms) e)
+
+-- ---- loops
+
+-- what the loop call gave back, from the rules' answer
+abbrev looped-of : Answer → Looped
+looped-of (accepted ns) = looped.Done (getD ns 0 0) (getD ns 1 0)
+looped-of (refused n p) = looped.Refused n p
+
+-- nothing of it is lost
+looped-is : (r : Looped) → looped-of (loops.answerOf r) ≡ r
+looped-is (looped.Done a b) = refl
+looped-is (looped.Refused n p) = refl
+
+-- the loop call has one answer, and leaves one list in each room
+pub one-loops : {o : Outcome LoopsRooms} {r r′ : Looped} {rooms rooms′ : LoopsRooms} → loops.outcomeOf r rooms ≡ o → loops.outcomeOf r′ rooms′ ≡ o → (r ≡ r′) × (rooms ≡ rooms′)
+one-loops {o} {r} {r′} p q =
+    let e = p ∙ sym q in (sym (looped-is r) ∙ ap (λ t. looped-of (t .answer)) e ∙ looped-is r′, ap (λ t. t .rooms) e)
 
 -- ---- edge check
 

@@ -8,7 +8,7 @@ use Rattle.rules.specs.Refusal.{Check, ok, no, decided, unless, at-first, no1, 
 use Rattle.rules.specs.Rooms.{Answer, accepted, refused, outcome}
 use Rattle.rules.specs.Edges.{no7, no8}
 use Rattle.rules.specs.Patches.{Filter}
-use Rattle.rules.specs.Calls.{RepairRooms, EdgesRooms, PatchesRooms, repair, repair-check, find-edges, edges-check, check, check-check, find-patches, patches-check, write-line, line-check}
+use Rattle.rules.specs.Calls.{RepairRooms, EdgesRooms, LoopsRooms, PatchesRooms, repair, repair-check, find-edges, edges-check, find-loops, loops-check, check, check-check, find-patches, patches-check, write-line, line-check}
 use Rattle.rules.specs.Stl.{StlRooms, read-stl, stl-check, no12}
 
 -- a refusal's number is not 0
@@ -64,9 +64,16 @@ repair-numbered points faces s options r =
 
 -- the edge call
 pub edges-numbered : (points : List Float) (faces : List ℕ) (r : EdgesRooms) → Numbered (find-edges points faces r .answer)
-unfolding find-edges edges-check no4 no5 no6 no7 no8 at-first
+unfolding find-edges edges-check no4 no5 no6 no7 at-first
 edges-numbered points faces r =
     answers (edges-check points faces r) _ _ _
+    (decides _ (one 0 _, (one 1 _, (two 0 _ _, (two 1 _ _, (by-number 4 _ _ (omega arith), (by-number 5 _ _ (omega arith), (by-number 6 _ _ (omega arith), (by-number 7 _ _ (omega arith), tt)))))))))
+
+-- the loop call
+pub loops-numbered : (points : List Float) (faces : List ℕ) (r : LoopsRooms) → Numbered (find-loops points faces r .answer)
+unfolding find-loops loops-check no4 no5 no6 no7 no8 at-first
+loops-numbered points faces r =
+    answers (loops-check points faces r) _ _ _
     (decides _ (one 0 _, (one 1 _, (two 0 _ _, (two 1 _ _, (by-number 4 _ _ (omega arith), (by-number 5 _ _ (omega arith), (by-number 6 _ _ (omega arith), (by-number 7 _ _ (omega arith), (by-number 8 _ _ (omega arith), tt))))))))))
 
 -- the edge check

@@ -7,6 +7,7 @@ use Rattle.rules.specs.Rooms.{Outcome}
 use Rattle.shell.specs.Told.{Given, told}
 use Rattle.shell.specs.declared.ShellRepaired.{ShellRepaired}
 use Rattle.shell.specs.declared.ShellEdges.{ShellEdges}
+use Rattle.shell.specs.declared.ShellLoops.{ShellLoops}
 use Rattle.shell.specs.declared.ShellCheck.{ShellCheck}
 use Rattle.shell.specs.declared.ShellPatches.{ShellPatches}
 use Rattle.shell.specs.declared.ShellLine.{ShellLine}
@@ -29,11 +30,19 @@ module _ {R : Type 0} {o : Outcome R} {rooms rooms′ : R} where
 
   -- shell_edges
   pub one-shell-edges :
-      {r r′ : ShellEdges} → Given (r .number) (r .place) (r .edges ∷ r .lengths ∷ r .«face_edges» ∷ r .«loop_vertices» ∷ r .«loop_ends» ∷ []) rooms o
-      → Given (r′ .number) (r′ .place) (r′ .edges ∷ r′ .lengths ∷ r′ .«face_edges» ∷ r′ .«loop_vertices» ∷ r′ .«loop_ends» ∷ []) rooms′ o → (r ≡ r′) × (rooms ≡ rooms′)
+      {r r′ : ShellEdges} → Given (r .number) (r .place) (r .edges ∷ r .lengths ∷ r .«face_edges» ∷ []) rooms o
+      → Given (r′ .number) (r′ .place) (r′ .edges ∷ r′ .lengths ∷ r′ .«face_edges» ∷ []) rooms′ o → (r ≡ r′) × (rooms ≡ rooms′)
   one-shell-edges g h =
       let b = one-given refl g h in
-      (ap (λ xs. record { number = getD xs 0 0; place = getD xs 1 0; edges = getD xs 2 0; lengths = getD xs 3 0; «face_edges» = getD xs 4 0; «loop_vertices» = getD xs 5 0; «loop_ends» = getD xs 6 0 }) (b .0), b .1)
+      (ap (λ xs. record { number = getD xs 0 0; place = getD xs 1 0; edges = getD xs 2 0; lengths = getD xs 3 0; «face_edges» = getD xs 4 0 }) (b .0), b .1)
+
+  -- shell_loops
+  pub one-shell-loops :
+      {r r′ : ShellLoops} → Given (r .number) (r .place) (r .«loop_vertices» ∷ r .«loop_ends» ∷ []) rooms o
+      → Given (r′ .number) (r′ .place) (r′ .«loop_vertices» ∷ r′ .«loop_ends» ∷ []) rooms′ o → (r ≡ r′) × (rooms ≡ rooms′)
+  one-shell-loops g h =
+      let b = one-given refl g h in
+      (ap (λ xs. record { number = getD xs 0 0; place = getD xs 1 0; «loop_vertices» = getD xs 2 0; «loop_ends» = getD xs 3 0 }) (b .0), b .1)
 
   -- shell_check
   pub one-shell-check :

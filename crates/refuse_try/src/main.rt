@@ -5,6 +5,7 @@ ghost use Rattle.rules.specs.Refusal.{ok, no, decided};
 ghost use Rattle.refuse.specs.Verdicts.{checkOf};
 ghost use Rattle.repair_refusal.specs.Checks.{repair-list};
 ghost use Rattle.edges_refusal.specs.Checks.{edges-list};
+ghost use Rattle.loops_refusal.specs.Checks.{loops-list};
 ghost use Rattle.patches_refusal.specs.Checks.{patches-list};
 
 // The largest coordinate, 2^100.
@@ -65,19 +66,29 @@ fn repair(
     repair_refusal::repair_refusal(points, faces, s, options, rooms)
 }
 
-// The verdict on the edge call, with the lengths of its rooms: edges, the four others alike, work.
+// The verdict on the edge call, with the lengths of its rooms: edges, the two others alike, work.
 fn edges(points: &[f64], faces: &[u32], first: usize, others: usize, work: usize) -> Verdict
-    ensures { λ r. ⌜ checkOf r ≡ decided (edges-list (now (points .entry)) (now (faces .entry)) first others others others others work) ⌝ }
+    ensures { λ r. ⌜ checkOf r ≡ decided (edges-list (now (points .entry)) (now (faces .entry)) first others others work) ⌝ }
 {
     let rooms = edges_refusal::Rooms {
         edges: first,
         lengths: others,
         face_edges: others,
-        loop_vertices: others,
-        loop_ends: others,
         work: work,
     };
     edges_refusal::edges_refusal(points, faces, rooms)
+}
+
+// The verdict on the loop call, with the lengths of its rooms.
+fn loops(points: &[f64], faces: &[u32], first: usize, second: usize, work: usize) -> Verdict
+    ensures { λ r. ⌜ checkOf r ≡ decided (loops-list (now (points .entry)) (now (faces .entry)) first second work) ⌝ }
+{
+    let rooms = loops_refusal::Rooms {
+        loop_vertices: first,
+        loop_ends: second,
+        work: work,
+    };
+    loops_refusal::loops_refusal(points, faces, rooms)
 }
 
 // The verdict on the patch call for a number of patches, with the lengths of its four rooms.
@@ -154,7 +165,7 @@ fn corners() {
     refused(repair(&points, &stray, 0.0, 0, 0, 0, 0, 0), 5, 1);
 }
 
-// 6: rooms of a repair and of the edge call, one entry too short.
+// 6: rooms of a repair, of the edge call and of the loop call, one entry too short.
 fn rooms() {
     let points = [0.0, 0.0, 0.0, 0.0, 0.0, 0.0, 0.0, 0.0, 0.0];
     let faces = [0, 1, 2];
@@ -165,7 +176,11 @@ fn rooms() {
     accepted(edges(&points, &faces, 6, 3, 176));
     refused(edges(&points, &faces, 5, 2, 175), 6, 0);
     refused(edges(&points, &faces, 6, 2, 175), 6, 1);
-    refused(edges(&points, &faces, 6, 3, 175), 6, 5);
+    refused(edges(&points, &faces, 6, 3, 175), 6, 3);
+    accepted(loops(&points, &faces, 3, 3, 176));
+    refused(loops(&points, &faces, 2, 2, 175), 6, 0);
+    refused(loops(&points, &faces, 3, 2, 175), 6, 1);
+    refused(loops(&points, &faces, 3, 3, 175), 6, 2);
 }
 
 // 2 and 6 of the edge check: P is a number, and any may come.

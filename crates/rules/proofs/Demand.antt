@@ -18,7 +18,7 @@ use Rattle.rules.specs.Pass6.{used}
 use Rattle.rules.specs.Refusal.{ok}
 use Rattle.rules.specs.Edges.{boundary, loops}
 use Rattle.rules.specs.Repair.{repaired}
-use Rattle.rules.specs.Calls.{RepairRooms, repair-check, EdgesRooms, edges-check}
+use Rattle.rules.specs.Calls.{RepairRooms, repair-check, EdgesRooms, edges-check, LoopsRooms, loops-check}
 
 -- ---- one fan
 
@@ -71,13 +71,17 @@ at r c = getD r (place c) 0
 abbrev pub degenerate : List ℕ → ℕ
 degenerate r = at r repeateds + at r thins
 
--- ---- the edge call
+-- ---- the edge call and the loop call
 
 -- enough room for the edge call on P points and F faces
-pub record Rooms-enough (P F : ℕ) (r : EdgesRooms) : Type 0 where
+pub record Edges-enough (P F : ℕ) (r : EdgesRooms) : Type 0 where
   pub edges-fit : 6 * F ≤ length (r .edges)
   pub lengths-fit : 3 * F ≤ length (r .lengths)
   pub face-edges-fit : 3 * F ≤ length (r .face-edges)
+  pub work-fits : 16 * P + 64 * F + 64 ≤ length (r .work)
+
+-- enough room for the loop call
+pub record Loops-enough (P F : ℕ) (r : LoopsRooms) : Type 0 where
   pub loop-vertices-fit : 3 * F ≤ length (r .loop-vertices)
   pub loop-ends-fit : 3 * F ≤ length (r .loop-ends)
   pub work-fits : 16 * P + 64 * F + 64 ≤ length (r .work)
@@ -122,7 +126,9 @@ pub record Demand3 (ps : List Point) (fs : List Face) (m : State) : Type 0 where
   -- input points plus added equal output points plus isolated
   pub points-add-up : length ps + at (m .report) points-added ≡ length (m .points) + at (m .report) isolated
   -- given enough room, the edge call accepts that output
-  pub edges-accepted : (r : EdgesRooms) → Rooms-enough (length (m .points)) (length (m .faces)) r → edges-check (flatPoints (m .points)) (flatFaces (m .faces)) r ≡ ok
+  pub edges-accepted : (r : EdgesRooms) → Edges-enough (length (m .points)) (length (m .faces)) r → edges-check (flatPoints (m .points)) (flatFaces (m .faces)) r ≡ ok
+  -- so does the loop call
+  pub loops-accepted : (r : LoopsRooms) → Loops-enough (length (m .points)) (length (m .faces)) r → loops-check (flatPoints (m .points)) (flatFaces (m .faces)) r ≡ ok
   -- and each boundary edge is in exactly one loop
   pub is-looped : Looped (length (m .points)) (m .faces)
 

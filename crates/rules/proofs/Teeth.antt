@@ -94,11 +94,11 @@ pub one-fan-by-5 : (length (fans (pinched 63 .faces) 0) ≡ 1) × (length (fans 
 unfolding pinched legs every-rule
 one-fan-by-5 = (refl, refl)
 
--- what the edge call says of the boundary, with all six options, without pass 4 and without pass 5
-pub edges-accepted-by-4-and-5 :
+-- what the loop call says of the boundary, with all six options, without pass 4 and without pass 5
+pub loops-accepted-by-4-and-5 :
     (no8 4 (opposed 63 .faces) ≡ ok) × (no8 4 (opposed 47 .faces) ≡ no 8 0) × (no8 6 (pinched 63 .faces) ≡ ok) × (no8 5 (pinched 55 .faces) ≡ no 8 0)
 unfolding opposed pinched legs every-rule
-edges-accepted-by-4-and-5 = (refl, refl, refl, refl)
+loops-accepted-by-4-and-5 = (refl, refl, refl, refl)
 
 -- whether each point is used, with and without pass 6
 pub every-used-by-6 :

@@ -8,7 +8,7 @@ use lib.ListN.{length, replicate}
 use lib.Ieee.{Float, binary64, ofBits, toBits}
 use Rattle.rules.specs.Rooms.{Answer, accepted, refused, Outcome}
 use Rattle.rules.specs.Patches.{Limit, Filter}
-use Rattle.rules.specs.Calls.{RepairRooms, repair, EdgesRooms, find-edges, check, PatchesRooms, find-patches}
+use Rattle.rules.specs.Calls.{RepairRooms, repair, EdgesRooms, find-edges, LoopsRooms, find-loops, check, PatchesRooms, find-patches}
 use Rattle.rules.specs.Bench.{Row}
 
 -- one example: what a call gives, and what document 01 says
@@ -91,37 +91,47 @@ repaired-to P F points faces report =
 -- ---- edges
 
 -- the rooms of an edge call, of the given lengths
-unfoldable pub edges-lent : ℕ → ℕ → ℕ → ℕ → ℕ → ℕ → EdgesRooms
-edges-lent a b c d e f =
-    record {
-      edges = replicate a 7;
-      lengths = dirty b;
-      face-edges = replicate c 7;
-      loop-vertices = replicate d 7;
-      loop-ends = replicate e 7;
-      work = replicate f 7;
-    }
+unfoldable pub edges-lent : ℕ → ℕ → ℕ → ℕ → EdgesRooms
+edges-lent a b c d = record { edges = replicate a 7; lengths = dirty b; face-edges = replicate c 7; work = replicate d 7 }
 
 -- the answer and every room
 unfoldable pub edges-shown : Outcome EdgesRooms → List (List ℕ)
-edges-shown o =
-    said (o .answer) ∷ o .rooms .edges ∷ bits-of (o .rooms .lengths) ∷ o .rooms .face-edges
-    ∷ o .rooms .loop-vertices ∷ o .rooms .loop-ends ∷ o .rooms .work ∷ []
+edges-shown o = said (o .answer) ∷ o .rooms .edges ∷ bits-of (o .rooms .lengths) ∷ o .rooms .face-edges ∷ o .rooms .work ∷ []
 
 -- an edge call in rooms one entry too long
 unfoldable pub edging : List ℕ → List ℕ → List (List ℕ)
 edging points faces =
     let P = length points / 3 in
     let F = length faces / 3 in
-    edges-shown
-    (find-edges (floats points) faces
-    (edges-lent (6 * F + 1) (3 * F + 1) (3 * F + 1) (3 * F + 1) (3 * F + 1) (16 * P + 64 * F + 65)))
+    edges-shown (find-edges (floats points) faces (edges-lent (6 * F + 1) (3 * F + 1) (3 * F + 1) (16 * P + 64 * F + 65)))
 
 -- what an edge call for P points and F faces leaves there
-unfoldable pub edged-to : ℕ → ℕ → List ℕ → List ℕ → List ℕ → List ℕ → List ℕ → List (List ℕ)
-edged-to P F edges lengths face-edges loop-vertices loop-ends =
-    (length edges ∷ length lengths ∷ length face-edges ∷ length loop-vertices ∷ length loop-ends ∷ [])
-    ∷ left (6 * F) 7 edges ∷ left (3 * F) dirt lengths ∷ left (3 * F) 7 face-edges
+unfoldable pub edged-to : ℕ → ℕ → List ℕ → List ℕ → List ℕ → List (List ℕ)
+edged-to P F edges lengths face-edges =
+    (length edges ∷ length lengths ∷ length face-edges ∷ [])
+    ∷ left (6 * F) 7 edges ∷ left (3 * F) dirt lengths ∷ left (3 * F) 7 face-edges ∷ left (16 * P + 64 * F + 64) 7 [] ∷ []
+
+-- ---- loops
+
+-- the rooms of a loop call, of the given lengths
+unfoldable pub loops-lent : ℕ → ℕ → ℕ → LoopsRooms
+loops-lent a b c = record { loop-vertices = replicate a 7; loop-ends = replicate b 7; work = replicate c 7 }
+
+-- the answer and every room
+unfoldable pub loops-shown : Outcome LoopsRooms → List (List ℕ)
+loops-shown o = said (o .answer) ∷ o .rooms .loop-vertices ∷ o .rooms .loop-ends ∷ o .rooms .work ∷ []
+
+-- a loop call in rooms one entry too long
+unfoldable pub looping : List ℕ → List ℕ → List (List ℕ)
+looping points faces =
+    let P = length points / 3 in
+    let F = length faces / 3 in
+    loops-shown (find-loops (floats points) faces (loops-lent (3 * F + 1) (3 * F + 1) (16 * P + 64 * F + 65)))
+
+-- what a loop call for P points and F faces leaves there
+unfoldable pub looped-to : ℕ → ℕ → List ℕ → List ℕ → List (List ℕ)
+looped-to P F loop-vertices loop-ends =
+    (length loop-vertices ∷ length loop-ends ∷ [])
     ∷ left (3 * F) 7 loop-vertices ∷ left (3 * F) 7 loop-ends ∷ left (16 * P + 64 * F + 64) 7 [] ∷ []
 
 -- ---- edge check
@@ -187,6 +197,6 @@ askew =
 
 -- every definition of this file under one name
 unfoldable pub every-word : Unit {0}
-unfolding row same-list same-lists faults-from faults said floats bits-of dirty left repair-lent repair-shown repairing repaired-to edges-lent edges-shown edging edged-to check-shown checking
+unfolding row same-list same-lists faults-from faults said floats bits-of dirty left repair-lent repair-shown repairing repaired-to edges-lent edges-shown edging edged-to loops-lent loops-shown looping looped-to check-shown checking
     checked-to limits patches-lent patches-shown patching patched-to flagging legs high askew
 every-word = tt

@@ -14,7 +14,7 @@ use Rattle.rules.specs.Refusal.{no2, no3-threshold, no4, no-patch, most-
 use Rattle.rules.specs.Rooms.{Answer, accepted, refused, Outcome, work-room}
 use Rattle.rules.specs.Patches.{Limit, absent, limit, Filter}
 use Rattle.rules.specs.Line.{bytes}
-use Rattle.rules.specs.Calls.{RepairRooms, repair, EdgesRooms, find-edges, check, PatchesRooms, find-patches, write-line}
+use Rattle.rules.specs.Calls.{RepairRooms, repair, EdgesRooms, find-edges, LoopsRooms, find-loops, check, PatchesRooms, find-patches, write-line}
 use Rattle.rules.specs.Text.{meshfix}
 use Rattle.rules.specs.Open.{every-rule}
 use Rattle.rules.specs.Bench.{Row, legs, origins, mended, shown}
@@ -55,10 +55,17 @@ edging P faces =
       edges = replicate (6 * F) 0;
       lengths = replicate (3 * F) zero64;
       face-edges = replicate (3 * F) 0;
-      loop-vertices = replicate (3 * F) 0;
-      loop-ends = replicate (3 * F) 0;
       work = replicate (work-room P F) 0;
     }) .answer)
+    ∷ []
+
+-- a loop call there: its answer
+looping : ℕ → List ℕ → List (List ℕ)
+looping P faces =
+    let F = length faces / 3 in
+    answered
+    (find-loops (origins P) faces
+    (record { loop-vertices = replicate (3 * F) 0; loop-ends = replicate (3 * F) 0; work = replicate (work-room P F) 0 }) .answer)
     ∷ []
 
 -- an edge check with a work room as long as stated: its answer
@@ -134,14 +141,16 @@ not-starred =
     -- coordinate 2^100 passes; the next f64 is refused 4
     ∷ row (repairing (zero64 ∷ fin true 1 (pos 100) ∷ fin false 1 (pos 100) ∷ []) [] zero64 0) ((3 ∷ 0 ∷ 11 ∷ []) ∷ [])
     ∷ row (repairing (origins 1 ++ (fin false (2 ^ 52 + 1) (pos 48) ∷ zero64 ∷ zero64 ∷ [])) [] zero64 0) ((4 ∷ 1 ∷ []) ∷ [])
-    -- faces 0 1 2; 0 3 4: edge call refused 8. Three faces on one edge: refused 7
-    ∷ row (edging 5 (0 ∷ 1 ∷ 2 ∷ 0 ∷ 3 ∷ 4 ∷ [])) ((8 ∷ 0 ∷ []) ∷ [])
+    -- faces 0 1 2; 0 3 4: loop call refused 8, and the edge call accepts. Three faces on one edge: refused 7 by both
+    ∷ row (looping 5 (0 ∷ 1 ∷ 2 ∷ 0 ∷ 3 ∷ 4 ∷ [])) ((8 ∷ 0 ∷ []) ∷ [])
+    ∷ row (edging 5 (0 ∷ 1 ∷ 2 ∷ 0 ∷ 3 ∷ 4 ∷ [])) ((12 ∷ 6 ∷ 6 ∷ []) ∷ [])
+    ∷ row (looping 5 (0 ∷ 1 ∷ 2 ∷ 0 ∷ 1 ∷ 3 ∷ 0 ∷ 1 ∷ 4 ∷ [])) ((7 ∷ 0 ∷ []) ∷ [])
     ∷ row (edging 5 (0 ∷ 1 ∷ 2 ∷ 0 ∷ 1 ∷ 3 ∷ 0 ∷ 1 ∷ 4 ∷ [])) ((7 ∷ 0 ∷ []) ∷ [])
     ∷ []
 
 -- every one holds
 pub examples : map (λ r. r .found) not-starred ≡ map (λ r. r .stated) not-starred
-unfolding not-starred row answered bits repairing edging printing below-one64 legs origins mended shown every-rule
+unfolding not-starred row answered bits repairing edging looping printing below-one64 legs origins mended shown every-rule
 examples = refl
 
 -- ---- slips
@@ -202,9 +211,9 @@ refusals =
     ((6 ∷ 2 ∷ []) ∷ [])
     -- 7: the position among all sorted unique edges; 8: the lowest vertex at fault
     ∷ row (edging 5 (0 ∷ 1 ∷ 2 ∷ 1 ∷ 2 ∷ 3 ∷ 1 ∷ 2 ∷ 4 ∷ [])) ((7 ∷ 2 ∷ []) ∷ [])
-    ∷ row (edging 5 (0 ∷ 1 ∷ 2 ∷ 3 ∷ 4 ∷ 2 ∷ [])) ((8 ∷ 2 ∷ []) ∷ [])
+    ∷ row (looping 5 (0 ∷ 1 ∷ 2 ∷ 3 ∷ 4 ∷ 2 ∷ [])) ((8 ∷ 2 ∷ []) ∷ [])
     -- 8 also where as many edges begin as end at no vertex: two faces that walk their common edge the same way
-    ∷ row (edging 4 (0 ∷ 1 ∷ 2 ∷ 0 ∷ 1 ∷ 3 ∷ [])) ((8 ∷ 0 ∷ []) ∷ [])
+    ∷ row (looping 4 (0 ∷ 1 ∷ 2 ∷ 0 ∷ 1 ∷ 3 ∷ [])) ((8 ∷ 0 ∷ []) ∷ [])
     -- 9 in all labels given, before 10
     ∷ row (patching (origins 1) (0 ∷ 0 ∷ 0 ∷ []) (0 ∷ 1 ∷ []) 1 all-kept) ((9 ∷ 1 ∷ []) ∷ (0 ∷ []) ∷ replicate 7 0 ∷ (0 ∷ []) ∷ [])
     ∷ row (patching (origins 1) (0 ∷ 0 ∷ 0 ∷ []) (0 ∷ no-patch ∷ []) 1 all-kept) ((10 ∷ 0 ∷ []) ∷ (0 ∷ []) ∷ replicate 7 0 ∷ (0 ∷ []) ∷ [])
@@ -215,7 +224,7 @@ refusals =
 
 -- each has its number and place
 pub refused-so : map (λ r. r .found) refusals ≡ map (λ r. r .stated) refusals
-unfolding refusals row answered bits repairing edging checking patching all-kept lining printing minus-zero64 legs origins shown every-rule
+unfolding refusals row answered bits repairing edging looping checking patching all-kept lining printing minus-zero64 legs origins shown every-rule
 refused-so = refl
 
 -- ---- answers

@@ -10,8 +10,8 @@ use Rattle.rules.specs.Refusal.{no, decided, unless, no1, no2}
 use Rattle.rules.specs.Patches.{absent, limit}
 use Rattle.rules.specs.Line.{bytes}
 use Rattle.rules.specs.Stl.{facets, no12}
-use Rattle.rules.specs.Calls.{RepairRooms, repair, repair-check, EdgesRooms, find-edges, edges-check, check, check-check, PatchesRooms, find-patches, patches-check, write-line, StlRooms, stl-check}
-use Rattle.rules.specs.CallRows.{row, faults, floats, dirt, limits, repair-lent, repair-shown, edges-lent, edges-shown, check-shown, patches-lent, patches-shown, every-word}
+use Rattle.rules.specs.Calls.{RepairRooms, repair, repair-check, EdgesRooms, find-edges, edges-check, LoopsRooms, find-loops, loops-check, check, check-check, PatchesRooms, find-patches, patches-check, write-line, StlRooms, stl-check}
+use Rattle.rules.specs.CallRows.{row, faults, floats, dirt, limits, repair-lent, repair-shown, edges-lent, edges-shown, loops-lent, loops-shown, check-shown, patches-lent, patches-shown, every-word}
 use Rattle.rules.specs.Open.{every-rule}
 use Rattle.rules.specs.Bench.{Row}
 
@@ -24,13 +24,20 @@ repair-kept : ℕ → ℕ → ℕ → ℕ → ℕ → ℕ → List (List ℕ)
 repair-kept n p a b c d = (n ∷ p ∷ []) ∷ replicate a dirt ∷ replicate b 7 ∷ replicate c 7 ∷ replicate d 7 ∷ []
 
 -- an edge call in rooms of the given lengths
-edges-at : List ℕ → List ℕ → ℕ → ℕ → ℕ → ℕ → ℕ → ℕ → List (List ℕ)
-edges-at points faces a b c d e f = edges-shown (find-edges (floats points) faces (edges-lent a b c d e f))
+edges-at : List ℕ → List ℕ → ℕ → ℕ → ℕ → ℕ → List (List ℕ)
+edges-at points faces a b c d = edges-shown (find-edges (floats points) faces (edges-lent a b c d))
 
 -- number n with place p, and those rooms as they were
-edges-kept : ℕ → ℕ → ℕ → ℕ → ℕ → ℕ → ℕ → ℕ → List (List ℕ)
-edges-kept n p a b c d e f =
-    (n ∷ p ∷ []) ∷ replicate a 7 ∷ replicate b dirt ∷ replicate c 7 ∷ replicate d 7 ∷ replicate e 7 ∷ replicate f 7 ∷ []
+edges-kept : ℕ → ℕ → ℕ → ℕ → ℕ → ℕ → List (List ℕ)
+edges-kept n p a b c d = (n ∷ p ∷ []) ∷ replicate a 7 ∷ replicate b dirt ∷ replicate c 7 ∷ replicate d 7 ∷ []
+
+-- a loop call in rooms of the given lengths
+loops-at : List ℕ → List ℕ → ℕ → ℕ → ℕ → List (List ℕ)
+loops-at points faces a b c = loops-shown (find-loops (floats points) faces (loops-lent a b c))
+
+-- number n with place p, and those rooms as they were
+loops-kept : ℕ → ℕ → ℕ → ℕ → ℕ → List (List ℕ)
+loops-kept n p a b c = (n ∷ p ∷ []) ∷ replicate a 7 ∷ replicate b 7 ∷ replicate c 7 ∷ []
 
 -- a patch call without limits, in rooms of the given lengths
 patches-at : List ℕ → List ℕ → List ℕ → ℕ → ℕ → ℕ → ℕ → ℕ → List (List ℕ)
@@ -88,29 +95,53 @@ repairs-refused = refl
 pub edges-refusals : List Row
 edges-refusals =
     -- rooms exactly as long as stated for three points and one face, and each of them one short
-    row (edges-at (replicate 9 0) (0 ∷ 1 ∷ 2 ∷ []) 6 3 3 3 3 176) ((6 ∷ 3 ∷ 3 ∷ 3 ∷ 1 ∷ []) ∷ (0 ∷ 1 ∷ 0 ∷ 2 ∷ 1 ∷ 2 ∷ []) ∷ replicate 3 0 ∷ (2 ∷ 1 ∷ 0 ∷ []) ∷ (2 ∷ 1 ∷ 0 ∷ []) ∷ (3 ∷ 0 ∷ 0 ∷ []) ∷ replicate 176 0 ∷ [])
-    ∷ row (edges-at (replicate 9 0) (0 ∷ 1 ∷ 2 ∷ []) 5 3 3 3 3 176) (edges-kept 6 0 5 3 3 3 3 176)
-    ∷ row (edges-at (replicate 9 0) (0 ∷ 1 ∷ 2 ∷ []) 6 2 3 3 3 176) (edges-kept 6 1 6 2 3 3 3 176)
-    ∷ row (edges-at (replicate 9 0) (0 ∷ 1 ∷ 2 ∷ []) 6 3 2 3 3 176) (edges-kept 6 2 6 3 2 3 3 176)
-    ∷ row (edges-at (replicate 9 0) (0 ∷ 1 ∷ 2 ∷ []) 6 3 3 2 3 176) (edges-kept 6 3 6 3 3 2 3 176)
-    ∷ row (edges-at (replicate 9 0) (0 ∷ 1 ∷ 2 ∷ []) 6 3 3 3 2 176) (edges-kept 6 4 6 3 3 3 2 176)
-    ∷ row (edges-at (replicate 9 0) (0 ∷ 1 ∷ 2 ∷ []) 6 3 3 3 3 175) (edges-kept 6 5 6 3 3 3 3 175)
-    -- two faults in one input: 1 and 1, 1 and 4, 4 and 5, 5 and 6, 6 and 7, 6 and 8, 7 and 8
-    ∷ row (edges-at (0 ∷ 0 ∷ []) (0 ∷ []) 0 0 0 0 0 0) (edges-kept 1 0 0 0 0 0 0 0)
-    ∷ row (edges-at (0x7ff8_0000_0000_0000 ∷ 0 ∷ 0 ∷ []) (0 ∷ []) 0 0 0 0 0 0) (edges-kept 1 1 0 0 0 0 0 0)
-    ∷ row (edges-at (0x7ff8_0000_0000_0000 ∷ 0 ∷ 0 ∷ []) (0 ∷ 0 ∷ 1 ∷ []) 0 0 0 0 0 0) (edges-kept 4 0 0 0 0 0 0 0)
-    ∷ row (edges-at (0 ∷ 0 ∷ 0 ∷ []) (0 ∷ 0 ∷ 1 ∷ []) 0 0 0 0 0 0) (edges-kept 5 0 0 0 0 0 0 0)
-    ∷ row (edges-at (replicate 15 0) (0 ∷ 2 ∷ 3 ∷ 1 ∷ 2 ∷ 3 ∷ 2 ∷ 3 ∷ 4 ∷ []) 18 9 9 9 9 335) (edges-kept 6 5 18 9 9 9 9 335)
-    ∷ row (edges-at (replicate 15 0) (0 ∷ 1 ∷ 2 ∷ 0 ∷ 3 ∷ 4 ∷ []) 12 6 6 6 6 271) (edges-kept 6 5 12 6 6 6 6 271)
-    ∷ row (edges-at (replicate 15 0) (0 ∷ 2 ∷ 3 ∷ 1 ∷ 2 ∷ 3 ∷ 2 ∷ 3 ∷ 4 ∷ []) 18 9 9 9 9 336) (edges-kept 7 4 18 9 9 9 9 336)
-    -- 8 at the lowest vertex
-    ∷ row (edges-at (replicate 18 0) (0 ∷ 1 ∷ 2 ∷ 2 ∷ 3 ∷ 4 ∷ 4 ∷ 5 ∷ 1 ∷ []) 18 9 9 9 9 352) (edges-kept 8 1 18 9 9 9 9 352)
+    row (edges-at (replicate 9 0) (0 ∷ 1 ∷ 2 ∷ []) 6 3 3 176) ((6 ∷ 3 ∷ 3 ∷ []) ∷ (0 ∷ 1 ∷ 0 ∷ 2 ∷ 1 ∷ 2 ∷ []) ∷ replicate 3 0 ∷ (2 ∷ 1 ∷ 0 ∷ []) ∷ replicate 176 0 ∷ [])
+    ∷ row (edges-at (replicate 9 0) (0 ∷ 1 ∷ 2 ∷ []) 5 3 3 176) (edges-kept 6 0 5 3 3 176)
+    ∷ row (edges-at (replicate 9 0) (0 ∷ 1 ∷ 2 ∷ []) 6 2 3 176) (edges-kept 6 1 6 2 3 176)
+    ∷ row (edges-at (replicate 9 0) (0 ∷ 1 ∷ 2 ∷ []) 6 3 2 176) (edges-kept 6 2 6 3 2 176)
+    ∷ row (edges-at (replicate 9 0) (0 ∷ 1 ∷ 2 ∷ []) 6 3 3 175) (edges-kept 6 3 6 3 3 175)
+    -- two faults in one input: 1 and 1, 1 and 4, 4 and 5, 5 and 6, 6 and 7
+    ∷ row (edges-at (0 ∷ 0 ∷ []) (0 ∷ []) 0 0 0 0) (edges-kept 1 0 0 0 0 0)
+    ∷ row (edges-at (0x7ff8_0000_0000_0000 ∷ 0 ∷ 0 ∷ []) (0 ∷ []) 0 0 0 0) (edges-kept 1 1 0 0 0 0)
+    ∷ row (edges-at (0x7ff8_0000_0000_0000 ∷ 0 ∷ 0 ∷ []) (0 ∷ 0 ∷ 1 ∷ []) 0 0 0 0) (edges-kept 4 0 0 0 0 0)
+    ∷ row (edges-at (0 ∷ 0 ∷ 0 ∷ []) (0 ∷ 0 ∷ 1 ∷ []) 0 0 0 0) (edges-kept 5 0 0 0 0 0)
+    ∷ row (edges-at (replicate 15 0) (0 ∷ 2 ∷ 3 ∷ 1 ∷ 2 ∷ 3 ∷ 2 ∷ 3 ∷ 4 ∷ []) 18 9 9 335) (edges-kept 6 3 18 9 9 335)
+    -- 7 at the position among all edges; one face three times on one edge of its own
+    ∷ row (edges-at (replicate 15 0) (0 ∷ 2 ∷ 3 ∷ 1 ∷ 2 ∷ 3 ∷ 2 ∷ 3 ∷ 4 ∷ []) 18 9 9 336) (edges-kept 7 4 18 9 9 336)
+    ∷ row (edges-at (replicate 3 0) (0 ∷ 0 ∷ 0 ∷ []) 6 3 3 144) (edges-kept 7 0 6 3 3 144)
     ∷ []
 
 -- every row holds
 pub edges-refused : faults edges-refusals ≡ []
 unfolding edges-refusals edges-at edges-kept every-word every-rule
 edges-refused = refl
+
+-- of loop calls
+pub loops-refusals : List Row
+loops-refusals =
+    -- rooms exactly as long as stated for three points and one face, and each of them one short
+    row (loops-at (replicate 9 0) (0 ∷ 1 ∷ 2 ∷ []) 3 3 176) ((3 ∷ 1 ∷ []) ∷ (2 ∷ 1 ∷ 0 ∷ []) ∷ (3 ∷ 0 ∷ 0 ∷ []) ∷ replicate 176 0 ∷ [])
+    ∷ row (loops-at (replicate 9 0) (0 ∷ 1 ∷ 2 ∷ []) 2 3 176) (loops-kept 6 0 2 3 176)
+    ∷ row (loops-at (replicate 9 0) (0 ∷ 1 ∷ 2 ∷ []) 3 2 176) (loops-kept 6 1 3 2 176)
+    ∷ row (loops-at (replicate 9 0) (0 ∷ 1 ∷ 2 ∷ []) 3 3 175) (loops-kept 6 2 3 3 175)
+    -- two faults in one input: 1 and 1, 1 and 4, 4 and 5, 5 and 6, 6 and 7, 6 and 8, 7 and 8
+    ∷ row (loops-at (0 ∷ 0 ∷ []) (0 ∷ []) 0 0 0) (loops-kept 1 0 0 0 0)
+    ∷ row (loops-at (0x7ff8_0000_0000_0000 ∷ 0 ∷ 0 ∷ []) (0 ∷ []) 0 0 0) (loops-kept 1 1 0 0 0)
+    ∷ row (loops-at (0x7ff8_0000_0000_0000 ∷ 0 ∷ 0 ∷ []) (0 ∷ 0 ∷ 1 ∷ []) 0 0 0) (loops-kept 4 0 0 0 0)
+    ∷ row (loops-at (0 ∷ 0 ∷ 0 ∷ []) (0 ∷ 0 ∷ 1 ∷ []) 0 0 0) (loops-kept 5 0 0 0 0)
+    ∷ row (loops-at (replicate 15 0) (0 ∷ 2 ∷ 3 ∷ 1 ∷ 2 ∷ 3 ∷ 2 ∷ 3 ∷ 4 ∷ []) 9 9 335) (loops-kept 6 2 9 9 335)
+    ∷ row (loops-at (replicate 15 0) (0 ∷ 1 ∷ 2 ∷ 0 ∷ 3 ∷ 4 ∷ []) 6 6 271) (loops-kept 6 2 6 6 271)
+    ∷ row (loops-at (replicate 15 0) (0 ∷ 2 ∷ 3 ∷ 1 ∷ 2 ∷ 3 ∷ 2 ∷ 3 ∷ 4 ∷ []) 9 9 336) (loops-kept 7 4 9 9 336)
+    -- a point that no face uses is looked at too
+    ∷ row (loops-at (0x7ff8_0000_0000_0000 ∷ 0 ∷ 0 ∷ []) [] 0 0 80) (loops-kept 4 0 0 0 80)
+    -- 8 at the lowest vertex
+    ∷ row (loops-at (replicate 18 0) (0 ∷ 1 ∷ 2 ∷ 2 ∷ 3 ∷ 4 ∷ 4 ∷ 5 ∷ 1 ∷ []) 9 9 352) (loops-kept 8 1 9 9 352)
+    ∷ []
+
+-- every row holds
+pub loops-refused : faults loops-refusals ≡ []
+unfolding loops-refusals loops-at loops-kept every-word every-rule
+loops-refused = refl
 
 -- of edge checks
 pub check-refusals : List Row
@@ -209,6 +240,19 @@ pub edges-faces : (points : List Float) (faces : List ℕ) (r : EdgesRooms) → 
     edges-check points faces r ≡ no 2 1
 unfolding edges-check decided unless no1 no2
 edges-faces points faces r p f few many = rw (p, f, few, many)
+
+-- a loop call for more than 4,194,304 points
+pub loops-points : (points : List Float) (faces : List ℕ) (r : LoopsRooms) → eqb (length points % 3) 0 ≡ true →
+    eqb (length faces % 3) 0 ≡ true → leb (length points / 3) 4194304 ≡ false → loops-check points faces r ≡ no 2 0
+unfolding loops-check decided unless no1 no2
+loops-points points faces r p f many = rw (p, f, many)
+
+-- a loop call for more than 1,048,576 faces
+pub loops-faces : (points : List Float) (faces : List ℕ) (r : LoopsRooms) → eqb (length points % 3) 0 ≡ true →
+    eqb (length faces % 3) 0 ≡ true → leb (length points / 3) 4194304 ≡ true → leb (length faces / 3) 1048576 ≡ false →
+    loops-check points faces r ≡ no 2 1
+unfolding loops-check decided unless no1 no2
+loops-faces points faces r p f few many = rw (p, f, few, many)
 
 -- an edge check of more than 1,048,576 faces
 pub check-faces : (P : ℕ) (faces work : List ℕ) → eqb (length faces % 3) 0 ≡ true → leb P 4194304 ≡ true →

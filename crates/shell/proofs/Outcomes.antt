@@ -6,9 +6,9 @@ use lib.Ieee.{Float}
 use lib.ListN.{length, replicate, length-replicate}
 use Rattle.rules.specs.Refusal.{Check, ok, no}
 use Rattle.rules.specs.Rooms.{Answer, accepted, refused, Outcome, outcome}
-use Rattle.rules.specs.Calls.{RepairRooms, repair-check, repair, EdgesRooms, edges-check, find-edges, check-check, check, line-check, write-line}
+use Rattle.rules.specs.Calls.{RepairRooms, repair-check, repair, EdgesRooms, edges-check, find-edges, LoopsRooms, loops-check, find-loops, check-check, check, line-check, write-line}
 use Rattle.shell.specs.Told.{told, Given}
-use Rattle.shell.proofs.Places.{Near, repair-near, edges-near, check-near, line-near}
+use Rattle.shell.proofs.Places.{Near, repair-near, edges-near, loops-near, check-near, line-near}
 
 module _ {R : Type 0} {rooms : R} {o : Outcome R} where
   -- accepted: 0 and 0, and the entries
@@ -48,6 +48,12 @@ pub edges-place :
     (points : List Float) (faces : List ℕ) (r : EdgesRooms) {n p : ℕ} {rooms : EdgesRooms} → record { answer = refused n p; rooms = rooms } ≡ find-edges points faces r → p < 2 ^ 32
 unfolding find-edges
 edges-place points faces r e = refused-near (outcome-near (edges-check points faces r) _ _ _ (edges-near points faces r)) e
+
+-- the loop call's too
+pub loops-place :
+    (points : List Float) (faces : List ℕ) (r : LoopsRooms) {n p : ℕ} {rooms : LoopsRooms} → record { answer = refused n p; rooms = rooms } ≡ find-loops points faces r → p < 2 ^ 32
+unfolding find-loops
+loops-place points faces r e = refused-near (outcome-near (loops-check points faces r) _ _ _ (loops-near points faces r)) e
 
 -- the edge check's too
 pub check-place : (P : ℕ) (faces work : List ℕ) {n p : ℕ} {rooms : List ℕ} → record { answer = refused n p; rooms = rooms } ≡ check P faces work → p < 2 ^ 32

@@ -1,27 +1,21 @@
 -- The place of a refusal is below 2^32, as C's struct holds it. Assumes nothing.
-use mathlib.Core.Path.{_≡_, refl, ap, _∙_}
+use mathlib.Core.Path.{_≡_, refl}
 use mathlib.Core.Bool.{Bool, true, false, not, cond}
-use mathlib.Core.List.{List, [], _∷_, map, List·Memᴰ, Memᴰ·map, Memᴰ·cast}
-use Prim.Native.Nat.{ℕ, suc, _*_, _/_, _≤_, _<_, _^_}
+use mathlib.Core.List.{List, [], _∷_}
+use Prim.Native.Nat.{ℕ, suc, _/_, _≤_, _<_, _^_}
 use native.Mathlib.Omega.{arith}
-use lib.ListN.{length, getD, length-map}
+use lib.ListN.{length, getD}
 use lib.Dec.{leb, ltb}
 use lib.Ieee.{Float}
 use Rattle.rules.specs.Lists.{below, any, all, first}
-use Rattle.rules.specs.Mesh.{Face, facesOf, pointsOf, corners}
-use Rattle.rules.specs.Steps.{edge, same, entries, pairs, edges}
+use Rattle.rules.specs.Mesh.{facesOf, pointsOf, corners}
+use Rattle.rules.specs.Steps.{edges}
 use Rattle.rules.specs.Refusal.{no3-threshold, no3-options, Check, ok, no, decided, unless, at-first, no1, no1-counts, no2, no4, no5, no6, most-points, most-faces}
 use Rattle.rules.specs.Edges.{no7, no8}
-use Rattle.rules.specs.Calls.{repair-rooms, RepairRooms, repair-check, edges-rooms, EdgesRooms, edges-check, check-rooms, check-check, line-rooms, line-check}
+use Rattle.rules.specs.Calls.{repair-rooms, RepairRooms, repair-check, edges-rooms, EdgesRooms, edges-check, loops-rooms, LoopsRooms, loops-check, check-rooms, check-check, line-rooms, line-check}
 use Rattle.rules.proofs.Flat.{length-faces, length-points}
 use Rattle.rules.proofs.Lists.{length-below}
-use Rattle.rules.proofs.Rising.{All, all-at}
-use Rattle.rules.proofs.Members.{in-all, any-mem, mem-left}
-use Rattle.rules.proofs.Once.{same-is}
-use Rattle.rules.proofs.Pigeons.{fewer}
-use Rattle.table.proofs.Ids.{entryAt, entries-ids, edges-keys}
-use Rattle.table.proofs.Rows.{keys-rise, rise-at, less-not}
-use Rattle.table.proofs.Places.{none}
+use Rattle.rules.proofs.Fits.{few-edges}
 use Rattle.refuse.proofs.Singles.{no2-fine}
 
 -- what a check finds has its place below 2^32
@@ -63,26 +57,6 @@ unfolding no6
 no6-near stated given l =
     at-first-near 6 (λ k. ltb (getD given k 0) (getD stated k 0)) (below (length stated)) (omega (arith, length-below (length stated)))
 
--- ---- 7: no more unique edges than steps of faces
-
--- every unique edge is that of some step
-edge-used : (P : ℕ) (fs : List Face) → All (λ e. List·Memᴰ e (map (λ n. edge (n .along)) (entries fs))) (edges P fs)
-unfolding edges
-edge-used P fs =
-    in-all (λ e. List·Memᴰ e (map (λ n. edge (n .along)) (entries fs))) (edges P fs)
-    (λ e m.
-    let w = any-mem (λ n. same e (edge (n .along))) (entries fs) (mem-left (λ x. any (λ n. same x (edge (n .along))) (entries fs)) e (pairs P) m .1) in
-    Memᴰ·cast (same-is e (edge (w .0 .along)) (w .2)) (Memᴰ·map (λ n. edge (n .along)) (w .1)))
-
--- and no two are the same, as they rise
-edges-few : (P : ℕ) (fs : List Face) → length (edges P fs) ≤ 3 * length fs
-edges-few P fs =
-    let l : length (map (λ n. edge (n .along)) (entries fs)) ≡ 3 * length fs = length-map (entries fs) (λ n. edge (n .along)) ∙ ap length (entries-ids fs) ∙ length-map (below (3 * length fs)) (entryAt fs) ∙ length-below (3 * length fs) in
-    rw l at
-    (fewer (λ k. getD (edges P fs) k none) (length (edges P fs)) (map (λ n. edge (n .along)) (entries fs))
-    (λ k h. all-at (λ e. List·Memᴰ e (map (λ n. edge (n .along)) (entries fs))) (edges P fs) none k (edge-used P fs) h)
-    (λ k j h i. less-not (rise-at none (edges P fs) (rw (edges-keys P fs) at (keys-rise false P fs)) k j h i)))
-
 -- ---- the checks of a call
 
 -- a check decides, or it finds nothing and the next ones decide
@@ -113,10 +87,15 @@ repair-near points faces s options r =
     (λ _. step _ _ (no6-near (repair-rooms P F) _ (omega arith))
     (λ _. end)))))))))
 
--- of the edge call: 2 comes before 4, 5, 7 and 8, so P and F are not too large
-pub edges-near : (points : List Float) (faces : List ℕ) (r : EdgesRooms) → Near (edges-check points faces r)
-unfolding edges-check edges-rooms no1 no2 no4 no7 no8
-edges-near points faces r =
+-- of what the edge call and the loop call check before their rooms: 2 comes before 4, 5, 7 and 8, so P and F are not too large
+input-near :
+    (points : List Float) (faces : List ℕ) (rest : List Check) → (length points / 3 ≤ most-points → length faces / 3 ≤ most-faces → Near (decided rest))
+    → Near
+    (decided
+    (no1 0 (length points) ∷ no1 1 (length faces) ∷ no2 0 (length points / 3) most-points ∷ no2 1 (length faces / 3) most-faces
+    ∷ no4 (pointsOf points) ∷ no5 (length points / 3) (facesOf faces) ∷ rest))
+unfolding no1 no2 no4
+input-near points faces rest h =
     let P = length points / 3 in
     let F = length faces / 3 in
     step _ _ (unless-near 1 0 _ (omega arith))
@@ -125,10 +104,29 @@ edges-near points faces r =
     (λ p. step _ _ (unless-near 2 1 _ (omega arith))
     (λ f. step _ _ (at-first-near 4 _ (pointsOf points) (omega (arith, no2-fine 0 P most-points p, length-points points)))
     (λ _. step _ _ (no5-near P faces (no2-fine 1 F most-faces f))
-    (λ _. step _ _ (no6-near (edges-rooms P F) _ (omega arith))
-    (λ _. step _ _ (at-first-near 7 _ (edges P (facesOf faces)) (omega (arith, no2-fine 1 F most-faces f, length-faces faces, edges-few P (facesOf faces))))
-    (λ _. step _ _ (at-first-near 8 _ (below P) (omega (arith, no2-fine 0 P most-points p, length-below P)))
-    (λ _. end)))))))))
+    (λ _. h (no2-fine 0 P most-points p) (no2-fine 1 F most-faces f)))))))
+
+-- 7: no more unique edges than steps of faces
+no7-near : (P : ℕ) (faces : List ℕ) → length faces / 3 ≤ most-faces → Near (no7 P (facesOf faces))
+unfolding no7
+no7-near P faces l = at-first-near 7 _ (edges P (facesOf faces)) (omega (arith, length-faces faces, few-edges P (facesOf faces)))
+
+-- of the edge call
+pub edges-near : (points : List Float) (faces : List ℕ) (r : EdgesRooms) → Near (edges-check points faces r)
+unfolding edges-check edges-rooms
+edges-near points faces r =
+    let P = length points / 3 in
+    input-near points faces _
+    (λ p f. step _ _ (no6-near (edges-rooms P (length faces / 3)) _ (omega arith)) (λ _. step _ _ (no7-near P faces f) (λ _. end)))
+
+-- of the loop call
+pub loops-near : (points : List Float) (faces : List ℕ) (r : LoopsRooms) → Near (loops-check points faces r)
+unfolding loops-check loops-rooms no8
+loops-near points faces r =
+    let P = length points / 3 in
+    input-near points faces _
+    (λ p f. step _ _ (no6-near (loops-rooms P (length faces / 3)) _ (omega arith))
+    (λ _. step _ _ (no7-near P faces f) (λ _. step _ _ (at-first-near 8 _ (below P) (omega (arith, length-below P))) (λ _. end))))
 
 -- of the edge check: 2 comes before 5, so F is not too large
 pub check-near : (P : ℕ) (faces work : List ℕ) → Near (check-check P faces work)

@@ -1,4 +1,5 @@
 // The calls of document 01 and of the requests after it for C. Each gives back a number and a place (0 and 0 if it is accepted), and how many entries stand in each answer room.
+use boundary_loops::Looped;
 use edge_check::Checked;
 use edges::Found;
 use line::Lined;
@@ -11,6 +12,7 @@ ghost use Rattle.rules.specs.Calls as rule;
 ghost use Rattle.rules.specs.Stl as rule-stl;
 ghost use Rattle.repair.specs.Answers as repaired;
 ghost use Rattle.edges.specs.Answers as edged;
+ghost use Rattle.boundary_loops.specs.Answers as looped;
 ghost use Rattle.read_stl.specs.Answers as stl;
 ghost use Rattle.patches.specs.Answers.{roomsOf};
 ghost use Rattle.patch_mask.specs.Mask.{masked};
@@ -75,7 +77,7 @@ pub extern "C" fn shell_repair(
     }
 }
 
-// What the edge call gives back: how many entries stand in the rooms of edges, lengths, face edges, loop vertices and loop ends.
+// What the edge call gives back: how many entries stand in the rooms of edges, lengths and face edges.
 #[repr(C)]
 pub struct ShellEdges {
     pub number: u32,
@@ -83,11 +85,9 @@ pub struct ShellEdges {
     pub edges: u64,
     pub lengths: u64,
     pub face_edges: u64,
-    pub loop_vertices: u64,
-    pub loop_ends: u64,
 }
 
-// The edge call: unique edges, their lengths, the edges of each face, and the boundary loops with their ends.
+// The edge call: unique edges, their lengths, and the edges of each face.
 #[no_mangle]
 pub extern "C" fn shell_edges(
     points: &[f64],
@@ -95,35 +95,22 @@ pub extern "C" fn shell_edges(
     edges: &mut [u32],
     lengths: &mut [f64],
     face_edges: &mut [u32],
-    loop_vertices: &mut [u32],
-    loop_ends: &mut [u32],
     work: &mut [u32],
 ) -> ShellEdges
     ensures { λ r. ⌜
-        (let before = edged.roomsOf (now (edges .entry)) (now (lengths .entry)) (now («face_edges» .entry)) (now («loop_vertices» .entry)) (now («loop_ends» .entry)) (now (work .entry)) in
-        let after = edged.roomsOf (now (edges .exit)) (now (lengths .exit)) (now («face_edges» .exit)) (now («loop_vertices» .exit)) (now («loop_ends» .exit)) (now (work .exit)) in
-        let entries = r .edges ∷ r .lengths ∷ r .«face_edges» ∷ r .«loop_vertices» ∷ r .«loop_ends» ∷ [] in
+        (let before = edged.roomsOf (now (edges .entry)) (now (lengths .entry)) (now («face_edges» .entry)) (now (work .entry)) in
+        let after = edged.roomsOf (now (edges .exit)) (now (lengths .exit)) (now («face_edges» .exit)) (now (work .exit)) in
+        let entries = r .edges ∷ r .lengths ∷ r .«face_edges» ∷ [] in
         Given (r .number) (r .place) entries after (rule.find-edges (now (points .entry)) (now (faces .entry)) before))
         ⌝ }
 {
-    match edges::find_edges(
-        points,
-        faces,
-        edges,
-        lengths,
-        face_edges,
-        loop_vertices,
-        loop_ends,
-        work,
-    ) {
-        Found::Done(a, b, c, d, e) => ShellEdges {
+    match edges::find_edges(points, faces, edges, lengths, face_edges, work) {
+        Found::Done(a, b, c) => ShellEdges {
             number: 0,
             place: 0,
             edges: a as u64,
             lengths: b as u64,
             face_edges: c as u64,
-            loop_vertices: d as u64,
-            loop_ends: e as u64,
         },
         Found::Refused(number, at) => {
             let place = at as u32;
@@ -133,6 +120,48 @@ pub extern "C" fn shell_edges(
                 edges: 0,
                 lengths: 0,
                 face_edges: 0,
+            }
+        }
+    }
+}
+
+// What the loop call gives back: how many entries stand in the rooms of loop vertices and loop ends.
+#[repr(C)]
+pub struct ShellLoops {
+    pub number: u32,
+    pub place: u32,
+    pub loop_vertices: u64,
+    pub loop_ends: u64,
+}
+
+// The loop call: the boundary loops and their ends.
+#[no_mangle]
+pub extern "C" fn shell_loops(
+    points: &[f64],
+    faces: &[u32],
+    loop_vertices: &mut [u32],
+    loop_ends: &mut [u32],
+    work: &mut [u32],
+) -> ShellLoops
+    ensures { λ r. ⌜
+        (let before = looped.roomsOf (now («loop_vertices» .entry)) (now («loop_ends» .entry)) (now (work .entry)) in
+        let after = looped.roomsOf (now («loop_vertices» .exit)) (now («loop_ends» .exit)) (now (work .exit)) in
+        let entries = r .«loop_vertices» ∷ r .«loop_ends» ∷ [] in
+        Given (r .number) (r .place) entries after (rule.find-loops (now (points .entry)) (now (faces .entry)) before))
+        ⌝ }
+{
+    match boundary_loops::find_loops(points, faces, loop_vertices, loop_ends, work) {
+        Looped::Done(a, b) => ShellLoops {
+            number: 0,
+            place: 0,
+            loop_vertices: a as u64,
+            loop_ends: b as u64,
+        },
+        Looped::Refused(number, at) => {
+            let place = at as u32;
+            ShellLoops {
+                number: number,
+                place: place,
                 loop_vertices: 0,
                 loop_ends: 0,
             }

@@ -129,20 +129,16 @@ fn fans() {
 }
 
 // The edge call, of at most 3 faces, in a work room that holds this number; the lengths must be these.
-fn edges(points: &[f64], faces: &[u32], fill: u32, loop_ends: &mut [u32], long: &[f64]) {
+fn edges(points: &[f64], faces: &[u32], fill: u32, face_edges: &mut [u32], long: &[f64]) {
     let mut edges = [7u32; 19];
     let mut lengths = [7.0; 10];
-    let mut face_edges = [7u32; 10];
-    let mut loop_vertices = [7u32; 10];
     let mut work = [fill; 360];
     let r = shell::shell_edges(
         points,
         faces,
         &mut edges,
         &mut lengths,
-        &mut face_edges,
-        &mut loop_vertices,
-        loop_ends,
+        face_edges,
         &mut work,
     );
     io::write_all(1, b"edges ");
@@ -150,55 +146,68 @@ fn edges(points: &[f64], faces: &[u32], fill: u32, loop_ends: &mut [u32], long: 
     show::number(r.edges);
     show::number(r.lengths);
     show::number(r.face_edges);
-    show::number(r.loop_vertices);
-    show::number(r.loop_ends);
     show::end_line();
     show::row(&edges, edges.len());
     floats(&lengths, long);
-    show::row(&face_edges, face_edges.len());
+    show::row(face_edges, face_edges.len());
+    runs(&work);
+}
+
+// The loop call, of at most 3 faces, in a work room that holds this number.
+fn loops(points: &[f64], faces: &[u32], fill: u32, loop_ends: &mut [u32]) {
+    let mut loop_vertices = [7u32; 10];
+    let mut work = [fill; 360];
+    let r = shell::shell_loops(points, faces, &mut loop_vertices, loop_ends, &mut work);
+    io::write_all(1, b"loops ");
+    show::numbers(&[r.number, r.place], 2);
+    show::number(r.loop_vertices);
+    show::number(r.loop_ends);
+    show::end_line();
     show::row(&loop_vertices, loop_vertices.len());
     show::row(loop_ends, loop_ends.len());
     runs(&work);
 }
 
+// Both calls.
+fn both(points: &[f64], faces: &[u32], fill: u32, long: &[f64]) {
+    let mut face_edges = [7u32; 10];
+    edges(points, faces, fill, &mut face_edges, long);
+    let mut loop_ends = [7u32; 10];
+    loops(points, faces, fill, &mut loop_ends);
+}
+
 // A face with sides 3, 4 and 5; that one with a neighbour; and with one apart, which are two loops.
-fn loops(points: &[f64], fill: u32) {
-    let mut one = [7u32; 10];
-    edges(points, &[0, 1, 2], fill, &mut one, &[3.0, 4.0, 5.0]);
-    let mut joined = [7u32; 10];
-    edges(
+fn simple(points: &[f64], fill: u32) {
+    both(points, &[0, 1, 2], fill, &[3.0, 4.0, 5.0]);
+    both(
         points,
         &[0, 1, 2, 2, 1, 3],
         fill,
-        &mut joined,
         &[3.0, 4.0, 5.0, 4.0, 3.0],
     );
-    let mut apart = [7u32; 10];
-    edges(
+    both(
         points,
         &[0, 1, 2, 3, 4, 5],
         fill,
-        &mut apart,
         &[3.0, 4.0, 5.0, 6.0, 8.0, 10.0],
     );
 }
 
-// A boundary that is not simple, an edge with three faces, and a room of loop ends that is too short.
-fn no_loops(points: &[f64], fill: u32) {
-    let mut ends = [7u32; 10];
-    edges(points, &[1, 0, 2, 1, 3, 4], fill, &mut ends, &[7.0; 10]);
-    edges(
+// A boundary that is not simple, an edge with three faces, and a room of face edges and one of loop ends that are too short.
+fn not_simple(points: &[f64], fill: u32) {
+    both(
         points,
-        &[1, 2, 0, 1, 2, 3, 1, 2, 4],
+        &[1, 0, 2, 1, 3, 4],
         fill,
-        &mut ends,
-        &[7.0; 10],
+        &[3.0, 4.0, 5.0, 4.0, 7.211102550927978, 6.0],
     );
+    both(points, &[1, 2, 0, 1, 2, 3, 1, 2, 4], fill, &[7.0; 10]);
     let mut short = [7u32; 5];
     edges(points, &[0, 1, 2, 3, 4, 5], fill, &mut short, &[7.0; 10]);
+    loops(points, &[0, 1, 2, 3, 4, 5], fill, &mut short);
 }
 
-// The edge call over six points, in a work room that holds something, and in one that is zero.
+// The two calls over six points, in a work room that holds something, and in one that is zero.
 fn edge_calls() {
     let points = [
         0.0,
@@ -220,10 +229,10 @@ fn edge_calls() {
         12.0,
         0.0,
     ];
-    loops(&points, 7);
-    loops(&points, 0);
-    no_loops(&points, 7);
-    no_loops(&points, 0);
+    simple(&points, 7);
+    simple(&points, 0);
+    not_simple(&points, 7);
+    not_simple(&points, 0);
 }
 
 // The edge check, of at most 2 faces.

@@ -1,4 +1,4 @@
-// Runs real values through both ways to the verdict of the edge call. A line has the verdict from the faces, the verdict from the table, and the
+// Runs real values through both ways to the verdict of 7 and 8. A line has the verdict from the faces, the verdict from the table, and the
 // third row as it then stands: where it is fine, the vertex to which the boundary goes on from each, and the number of points where it does not. Of
 // more than 4096 faces, which are taken a window of vertices at a time, it has the verdict from the faces alone.
 use refuse::Verdict;
@@ -24,7 +24,7 @@ fn show(found: Verdict) {
 fn both(count: usize, faces: &[u32], work: &mut [u32])
     requires { ⌜ CheckAccepted count (now faces) (length (now work)) ⌝ }
 {
-    show(verdict::edge_verdict(count, faces));
+    show(verdict::loop_verdict(count, faces));
     let m = table::table(work, faces, count, false, 0);
     let row = 5 * faces.len() + 1 + count;
     show(boundary::boundary(work, faces, count, 0, m, row));
@@ -76,7 +76,7 @@ fn split_ones() {
 fn from_faces(count: usize, faces: &[u32]) {
     match edge_check_refusal::edge_check_refusal(count, faces, 4294967295) {
         Verdict::Fine => {
-            show(verdict::edge_verdict(count, faces));
+            show(verdict::loop_verdict(count, faces));
             show::end_line();
         }
         Verdict::Refused(_, _) => {

@@ -1,28 +1,28 @@
--- `boundary::boundary` meets its contract: 7 by the runs, then the rows are made, and 8 by the rows. Assumes nothing.
-use Rattle.boundary.proofs.Ending.{starts-fit, refused-seven, trace-asks, refused-eight, fine}
+-- `boundary::boundary` meets its contract: 7, then the rows are made, and 8 by the rows. Assumes nothing.
+use Rattle.boundary.proofs.Ending.{crowd-asks, refused-seven, trace-asks, refused-eight, fine}
 use borrow.Author.Needs.{needs}
 use Rattle.boundary.proofs.boundary.Statement.{statement}
 use Rattle.boundary.proofs.boundary.Tie as tie
 
-mul-crowded : tie.Need-mul-crowded
-mul-crowded c = search needs
-
-add-crowded : tie.Need-add-crowded
-add-crowded c = search needs
-
-crowded-requires : tie.Need-crowded-requires
-crowded-requires c κs =
+crowd-requires : tie.Need-crowd-requires
+crowd-requires c κs =
     let start = c .before .before .before in
-    starts-fit (start .pre)
+    crowd-asks (start .pre)
+
+enum-told : tie.Need-enum-told
+enum-told c = search needs
+
+enum-told-2 : tie.Need-enum-told-2
+enum-told-2 c = search needs
 
 same-length : tie.Need-same-length
 same-length c = search needs
 
 returns : tie.Need-returns
 returns c =
-    let at-crowded = c .before in
-    let start = at-crowded .before .before .before .before in
-    refused-seven (start .pre) (at-crowded .crowded .ensures) (c .if1 .taken)
+    let at-crowd = c .before .before in
+    let start = at-crowd .before .before .before .before in
+    refused-seven (start .pre) (at-crowd .crowd .ensures) _ _ (c .enum-told2 .given .1)
 
 mul-clear : tie.Need-mul-clear
 mul-clear c = search needs
@@ -46,12 +46,13 @@ trace-requires : tie.Need-trace-requires
 trace-requires c κs =
     let at-fill = c .before .before .before in
     let at-clear = at-fill .before .before .before .before in
-    let at-crowded = at-clear .before .before .before in
-    let start = at-crowded .before .before .before .before in
-    let test = at-clear .before .before .if1 .left in
+    let told = at-clear .before .before in
+    let at-crowd = told .before .before in
+    let start = at-crowd .before .before .before .before in
+    let test = told .enum-told .given .1 in
     let cleared = at-clear .clear .ensures in
     let filled = at-fill .fill .ensures in
-    trace-asks (start .pre) (at-crowded .crowded .ensures) test (cleared .0) (cleared .1) (filled .0) (filled .1)
+    trace-asks (start .pre) (at-crowd .crowd .ensures) test (cleared .0) (cleared .1) (filled .0) (filled .1)
 
 uneven-requires : tie.Need-uneven-requires
 uneven-requires c κs = search needs
@@ -65,12 +66,13 @@ returns-2 c =
     let at-trace = at-uneven .before .before .before .before in
     let at-fill = at-trace .before .before .before .before in
     let at-clear = at-fill .before .before .before .before in
-    let at-crowded = at-clear .before .before .before in
-    let start = at-crowded .before .before .before .before in
-    let test = at-clear .before .before .if1 .left in
+    let told = at-clear .before .before in
+    let at-crowd = told .before .before in
+    let start = at-crowd .before .before .before .before in
+    let test = told .enum-told .given .1 in
     let cleared = at-clear .clear .ensures in
     let filled = at-fill .fill .ensures in
-    refused-eight (start .pre) (at-crowded .crowded .ensures) test (cleared .0) (cleared .1) (filled .0) (filled .1) (at-trace .trace .ensures) (at-uneven .uneven .ensures) (c .if2 .taken)
+    refused-eight (start .pre) (at-crowd .crowd .ensures) test (cleared .0) (cleared .1) (filled .0) (filled .1) (at-trace .trace .ensures) (at-uneven .uneven .ensures) (c .if1 .taken)
 
 same-length-3 : tie.Need-same-length-3
 same-length-3 c = search needs
@@ -81,20 +83,21 @@ returns-3 c =
     let at-trace = at-uneven .before .before .before .before in
     let at-fill = at-trace .before .before .before .before in
     let at-clear = at-fill .before .before .before .before in
-    let at-crowded = at-clear .before .before .before in
-    let start = at-crowded .before .before .before .before in
-    let test = at-clear .before .before .if1 .left in
+    let told = at-clear .before .before in
+    let at-crowd = told .before .before in
+    let start = at-crowd .before .before .before .before in
+    let test = told .enum-told .given .1 in
     let cleared = at-clear .clear .ensures in
     let filled = at-fill .fill .ensures in
-    fine (start .pre) (at-crowded .crowded .ensures) test (cleared .0) (cleared .1) (filled .0) (filled .1) (at-trace .trace .ensures) (at-uneven .uneven .ensures) (c .if2 .left)
+    fine (start .pre) (at-crowd .crowd .ensures) test (cleared .0) (cleared .1) (filled .0) (filled .1) (at-trace .trace .ensures) (at-uneven .uneven .ensures) (c .if1 .left)
 
 pub boundary-spec : {M : Type 1} → statement M
 boundary-spec =
     tie.close
     (tie.spec
-    mul-crowded
-    add-crowded
-    crowded-requires
+    crowd-requires
+    enum-told
+    enum-told-2
     same-length
     returns
     mul-clear

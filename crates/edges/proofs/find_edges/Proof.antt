@@ -1,4 +1,4 @@
--- `edges::find_edges` meets its contract: the checks refuse, 7 or 8 does, or every room is written. Assumes nothing.
+-- `edges::find_edges` meets its contract: the checks refuse, 7 does, or every room is written. Assumes nothing.
 use native.Mathlib.Omega.{arith}
 use Rattle.edges.specs.Answers.{roomsOf}
 use Rattle.edges.proofs.Writing.{sizes, few-edges}
@@ -18,37 +18,41 @@ enum-known-number c = search needs
 
 returns : tie.Need-returns
 returns c =
-    let k = c .before .before .before in
-    let s = k .before .before .before .before .before .before .before .before .before .args in
-    let r = roomsOf (s .edges .now) (s .lengths .now) (s .face-edges .now) (s .loop-vertices .now) (s .loop-ends .now) (s .work .now) in
-    is-refused (s .points .now) (s .faces .now) r _ (k .edges-refusal .ensures) _ _ (c .before .number .given .1)
+    let at-edges-refusal = c .before .before .before in
+    let start = at-edges-refusal .before .before .before .before .before .before .before in
+    let s = start .args in
+    let r = roomsOf (s .edges .now) (s .lengths .now) (s .face-edges .now) (s .work .now) in
+    is-refused (s .points .now) (s .faces .now) r _ (at-edges-refusal .edges-refusal .ensures) _ _ (c .before .number .given .1)
 
 prepare-requires : tie.Need-prepare-requires
 prepare-requires c κs =
-    let k = c .before .before .before in
-    let s = k .before .before .before .before .before .before .before .before .before .args in
-    let r = roomsOf (s .edges .now) (s .lengths .now) (s .face-edges .now) (s .loop-vertices .now) (s .loop-ends .now) (s .work .now) in
-    draw-asks (s .points .now) (s .faces .now) r _ (k .edges-refusal .ensures) (c .before .enum-told .given .1)
+    let at-edges-refusal = c .before .before .before in
+    let start = at-edges-refusal .before .before .before .before .before .before .before in
+    let s = start .args in
+    let r = roomsOf (s .edges .now) (s .lengths .now) (s .face-edges .now) (s .work .now) in
+    draw-asks (s .points .now) (s .faces .now) r _ (at-edges-refusal .edges-refusal .ensures) (c .before .enum-told .given .1)
 
 enum-known-m : tie.Need-enum-known-m
 enum-known-m c = search needs
 
 list-requires : tie.Need-list-requires
 list-requires c κs =
-    let p = c .before .before .before .before .before .before .before .before .before .before .before in
-    let k = p .before .before .before .before in
-    let s = k .before .before .before .before .before .before .before .before .before .args in
-    let r = roomsOf (s .edges .now) (s .lengths .now) (s .face-edges .now) (s .loop-vertices .now) (s .loop-ends .now) (s .work .now) in
-    list-asks (s .points .now) (s .faces .now) r _ (k .edges-refusal .ensures) (p .before .before .enum-told .given .1) (p .prepare .ensures) _ (c .before .before .before .before .before .before .before .m .given .1)
+    let at-prepare = c .before .before .before .before .before .before .before .before .before in
+    let at-edges-refusal = at-prepare .before .before .before .before in
+    let start = at-edges-refusal .before .before .before .before .before .before .before in
+    let s = start .args in
+    let r = roomsOf (s .edges .now) (s .lengths .now) (s .face-edges .now) (s .work .now) in
+    list-asks (s .points .now) (s .faces .now) r _ (at-edges-refusal .edges-refusal .ensures) (at-prepare .before .before .enum-told .given .1) (at-prepare .prepare .ensures) _ (c .before .before .before .before .before .m .given .1)
 
-mul-t39 : tie.Need-mul-t39
-mul-t39 c =
-    let l = c .before .before .before .before .before .before .before .before .before .before .before .before in
-    let p = l .before .before .before .before .before .before .before .before .before .before .before .before in
-    let k = p .before .before .before .before in
-    let s = k .before .before .before .before .before .before .before .before .before .args in
-    let r = roomsOf (s .edges .now) (s .lengths .now) (s .face-edges .now) (s .loop-vertices .now) (s .loop-ends .now) (s .work .now) in
-    let a = list-asks (s .points .now) (s .faces .now) r _ (k .edges-refusal .ensures) (p .before .before .enum-told .given .1) (p .prepare .ensures) _ (l .before .before .before .before .before .before .before .before .m .given .1) in
+mul-t31 : tie.Need-mul-t31
+mul-t31 c =
+    let at-list = c .before .before .before .before .before .before .before .before in
+    let at-prepare = at-list .before .before .before .before .before .before .before .before .before .before in
+    let at-edges-refusal = at-prepare .before .before .before .before in
+    let start = at-edges-refusal .before .before .before .before .before .before .before in
+    let s = start .args in
+    let r = roomsOf (s .edges .now) (s .lengths .now) (s .face-edges .now) (s .work .now) in
+    let a = list-asks (s .points .now) (s .faces .now) r _ (at-edges-refusal .edges-refusal .ensures) (at-prepare .before .before .enum-told .given .1) (at-prepare .prepare .ensures) _ (at-list .before .before .before .before .before .before .m .given .1) in
     omega (arith, few-edges a, sizes a)
 
 enum-known-number-2 : tie.Need-enum-known-number-2
@@ -66,31 +70,27 @@ same-length-3 c = search needs
 same-length-4 : tie.Need-same-length-4
 same-length-4 c = search needs
 
+returns-2 : tie.Need-returns-2
+returns-2 c =
+    let at-list = c .before .before .before .before .before .before .before .before in
+    let at-prepare = at-list .before .before .before .before .before .before .before .before .before .before in
+    let at-edges-refusal = at-prepare .before .before .before .before in
+    let start = at-edges-refusal .before .before .before .before .before .before .before in
+    let s = start .args in
+    let r = roomsOf (s .edges .now) (s .lengths .now) (s .face-edges .now) (s .work .now) in
+    is-done (s .points .now) (s .faces .now) r _ (at-edges-refusal .edges-refusal .ensures) (at-prepare .before .before .enum-told .given .1) (at-prepare .prepare .ensures) _ (at-list .before .before .before .before .before .before .m .given .1) (at-list .list .ensures)
+
 same-length-5 : tie.Need-same-length-5
 same-length-5 c = search needs
 
-same-length-6 : tie.Need-same-length-6
-same-length-6 c = search needs
-
-returns-2 : tie.Need-returns-2
-returns-2 c =
-    let l = c .before .before .before .before .before .before .before .before .before .before .before .before in
-    let p = l .before .before .before .before .before .before .before .before .before .before .before .before in
-    let k = p .before .before .before .before in
-    let s = k .before .before .before .before .before .before .before .before .before .args in
-    let r = roomsOf (s .edges .now) (s .lengths .now) (s .face-edges .now) (s .loop-vertices .now) (s .loop-ends .now) (s .work .now) in
-    is-done (s .points .now) (s .faces .now) r _ (k .edges-refusal .ensures) (p .before .before .enum-told .given .1) (p .prepare .ensures) _ (l .before .before .before .before .before .before .before .before .m .given .1) (l .list .ensures)
-
-same-length-7 : tie.Need-same-length-7
-same-length-7 c = search needs
-
 returns-3 : tie.Need-returns-3
 returns-3 c =
-    let p = c .before .before .before .before .before in
-    let k = p .before .before .before .before in
-    let s = k .before .before .before .before .before .before .before .before .before .args in
-    let r = roomsOf (s .edges .now) (s .lengths .now) (s .face-edges .now) (s .loop-vertices .now) (s .loop-ends .now) (s .work .now) in
-    is-judged (s .points .now) (s .faces .now) r _ (k .edges-refusal .ensures) (p .before .before .enum-told .given .1) (p .prepare .ensures) _ _ (c .before .number2 .given .1)
+    let at-prepare = c .before .before .before .before .before in
+    let at-edges-refusal = at-prepare .before .before .before .before in
+    let start = at-edges-refusal .before .before .before .before .before .before .before in
+    let s = start .args in
+    let r = roomsOf (s .edges .now) (s .lengths .now) (s .face-edges .now) (s .work .now) in
+    is-judged (s .points .now) (s .faces .now) r _ (at-edges-refusal .edges-refusal .ensures) (at-prepare .before .before .enum-told .given .1) (at-prepare .prepare .ensures) _ _ (c .before .number2 .given .1)
 
 pub find-edges-spec : {M : Type 1} → statement M
 find-edges-spec =
@@ -103,14 +103,12 @@ find-edges-spec =
     prepare-requires
     enum-known-m
     list-requires
-    mul-t39
+    mul-t31
     enum-known-number-2
     same-length
     same-length-2
     same-length-3
     same-length-4
-    same-length-5
-    same-length-6
     returns-2
-    same-length-7
+    same-length-5
     returns-3)

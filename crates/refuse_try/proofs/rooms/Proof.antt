@@ -108,6 +108,58 @@ refused-requires-7 : tie.Need-refused-requires-7
 unfolding every-rule
 refused-requires-7 c κs = c .edges4 .ensures
 
+slice-aggregate-loops : tie.Need-slice-aggregate-loops
+slice-aggregate-loops c = search needs
+
+slice-aggregate-loops-2 : tie.Need-slice-aggregate-loops-2
+slice-aggregate-loops-2 c = search needs
+
+loops-requires : tie.Need-loops-requires
+loops-requires c κs = search needs
+
+accepted-requires-2 : tie.Need-accepted-requires-2
+unfolding every-rule
+accepted-requires-2 c κs = c .loops .ensures
+
+slice-aggregate-loops-3 : tie.Need-slice-aggregate-loops-3
+slice-aggregate-loops-3 c = search needs
+
+slice-aggregate-loops-4 : tie.Need-slice-aggregate-loops-4
+slice-aggregate-loops-4 c = search needs
+
+loops-requires-2 : tie.Need-loops-requires-2
+loops-requires-2 c κs = search needs
+
+refused-requires-8 : tie.Need-refused-requires-8
+unfolding every-rule
+refused-requires-8 c κs = c .loops2 .ensures
+
+slice-aggregate-loops-5 : tie.Need-slice-aggregate-loops-5
+slice-aggregate-loops-5 c = search needs
+
+slice-aggregate-loops-6 : tie.Need-slice-aggregate-loops-6
+slice-aggregate-loops-6 c = search needs
+
+loops-requires-3 : tie.Need-loops-requires-3
+loops-requires-3 c κs = search needs
+
+refused-requires-9 : tie.Need-refused-requires-9
+unfolding every-rule
+refused-requires-9 c κs = c .loops3 .ensures
+
+slice-aggregate-loops-7 : tie.Need-slice-aggregate-loops-7
+slice-aggregate-loops-7 c = search needs
+
+slice-aggregate-loops-8 : tie.Need-slice-aggregate-loops-8
+slice-aggregate-loops-8 c = search needs
+
+loops-requires-4 : tie.Need-loops-requires-4
+loops-requires-4 c κs = search needs
+
+refused-requires-10 : tie.Need-refused-requires-10
+unfolding every-rule
+refused-requires-10 c κs = c .loops4 .ensures
+
 returns : tie.Need-returns
 returns c = search needs
 
@@ -147,4 +199,20 @@ rooms-spec =
     slice-aggregate-edges-8
     edges-requires-4
     refused-requires-7
+    slice-aggregate-loops
+    slice-aggregate-loops-2
+    loops-requires
+    accepted-requires-2
+    slice-aggregate-loops-3
+    slice-aggregate-loops-4
+    loops-requires-2
+    refused-requires-8
+    slice-aggregate-loops-5
+    slice-aggregate-loops-6
+    loops-requires-3
+    refused-requires-9
+    slice-aggregate-loops-7
+    slice-aggregate-loops-8
+    loops-requires-4
+    refused-requires-10
     returns)

@@ -6,8 +6,8 @@ use borrow.Author.Needs.{needs}
 use Rattle.verdict_try.proofs.both.Statement.{statement}
 use Rattle.verdict_try.proofs.both.Tie as tie
 
-edge-verdict-requires : tie.Need-edge-verdict-requires
-edge-verdict-requires c κs = search needs
+loop-verdict-requires : tie.Need-loop-verdict-requires
+loop-verdict-requires c κs = search needs
 
 show-requires : tie.Need-show-requires
 show-requires c κs = search needs
@@ -67,7 +67,7 @@ pub both-spec : {M : Type 1} → statement M
 both-spec =
     tie.close
     (tie.spec
-    edge-verdict-requires
+    loop-verdict-requires
     show-requires
     table-requires
     mul-row

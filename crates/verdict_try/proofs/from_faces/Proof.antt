@@ -12,8 +12,8 @@ edge-check-refusal-requires c κs = search needs
 enum-told : tie.Need-enum-told
 enum-told c = search needs
 
-edge-verdict-requires : tie.Need-edge-verdict-requires
-edge-verdict-requires c κs = check-accepted _ _ 4294967295 (sym (c .before .before .edge-check-refusal .ensures) ∙ ap checkOf (c .enum-told .given .1)) .input
+loop-verdict-requires : tie.Need-loop-verdict-requires
+loop-verdict-requires c κs = check-accepted _ _ 4294967295 (sym (c .before .before .edge-check-refusal .ensures) ∙ ap checkOf (c .enum-told .given .1)) .input
 
 show-requires : tie.Need-show-requires
 show-requires c κs = search needs
@@ -42,7 +42,7 @@ from-faces-spec =
     (tie.spec
     edge-check-refusal-requires
     enum-told
-    edge-verdict-requires
+    loop-verdict-requires
     show-requires
     end-line-requires
     enum-told-2

@@ -2,7 +2,8 @@
 """Times the calls against the Rust and prints the tables in Markdown: table.py FOLDER [--short] [--only CALL,...] [--shapes SHAPE,...].
 
 FOLDER is bench/run.sh's: the oracle, the leaves' times, and CGAL's program where CGAL is. Each figure is the median of five runs in processor time, in a
-process of its own. What does not end within its limit is said to be over it."""
+process of its own. What does not end within its limit is said to be over it. CALL is repair, edges, loops, both (edges and then loops), check, patches, line
+or others."""
 import os
 import re
 import resource
@@ -15,7 +16,7 @@ words = sys.argv[1:]
 folder = os.path.abspath(words.pop(0))
 oracle = os.path.join(folder, "oracle")
 short = "--short" in words
-only = words[words.index("--only") + 1].split(",") if "--only" in words else ["repair", "edges", "check", "patches", "line", "others"]
+only = words[words.index("--only") + 1].split(",") if "--only" in words else ["repair", "edges", "loops", "both", "check", "patches", "line", "others"]
 sizes = [10_000, 100_000] if short else [10_000, 100_000, 1_000_000]
 top = sizes[-1]
 shapes = [line.split("\t") for line in subprocess.run([oracle, "--shapes"], capture_output=True, text=True, check=True).stdout.splitlines()]
@@ -24,6 +25,11 @@ if "--shapes" in words:
 plain = [shape for shape in shapes if shape[0] in ("grid", "scan", "numbered")]
 crowded = [shape for shape in shapes if shape[0] in ("edge", "same", "equal")]
 WAYS = ["reused", "fresh", "dirty"]
+TITLES = {
+    "edges": "Edges, against the Rust's one call for edges and loops",
+    "loops": "Loops, against the same",
+    "both": "Edges and then loops in the same work room, against the same",
+}
 
 
 def limit(call):
@@ -39,6 +45,8 @@ figures = {}
 
 def figure(call, shape, size, way):
     """One figure: milliseconds, runs, megabytes and number. Where there is no answer milliseconds are None; beyond the limit, 'over' and the limit."""
+    if way == "rust" and call in TITLES:
+        call = "edges"  # the Rust's one call is timed once
     key = (call, shape, size, way)
     if key in figures:
         return figures[key]
@@ -116,7 +124,8 @@ def grows(call, shape, way):
 
 def growth():
     print(f"### How time grows: time of a face at {top:,} faces over that at {sizes[0]:,}\n")
-    kinds = [(call, way) for call in ("repair", "edges", "check") for way in ("reused", "dirty", "rust") if call in only and (call, way) != ("check", "rust")]
+    without = (("loops", "rust"), ("check", "rust"))
+    kinds = [(call, way) for call in ("repair", "edges", "loops", "check") for way in ("reused", "dirty", "rust") if call in only and (call, way) not in without]
     shown = lambda call, shape, way: "—" if grows(call, shape, way) is None else f"{grows(call, shape, way):.2f}"
     table(["mesh"] + [f"{call}, {way}" for call, way in kinds], [[what] + [shown(call, shape, way) for call, way in kinds] for shape, what in shapes])
 
@@ -137,14 +146,17 @@ def targets():
     names = dict(map(tuple, shapes))
     rows = []
     share = lambda call, shape, size, way: ratio(figure(call, shape, size, way), figure(call, shape, size, "rust"))
-    for call in [call for call in ("repair", "edges") if call in only]:
+    for call in [call for call in ("repair", "edges", "loops") if call in only]:
         for shape in [shape for shape in ("scan", "numbered") if shape in names]:
             for way in WAYS if call == "repair" else ["reused", "fresh"]:
                 target(rows, f"{call}, {names[shape]}, {top:,} faces, rooms {way}: a tenth of the Rust's time", 0.1, [(share(call, shape, top, way), "")])
         for way in WAYS:
             every = [(share(call, shape, size, way), f"{what}, {size:,}") for shape, what in shapes for size in sizes]
             target(rows, f"{call}, rooms {way}, any mesh: half of the Rust's time", 0.5, every)
-    for call, way in [(call, way) for call in ("repair", "edges", "check") for way in ("reused", "dirty") if call in only]:
+    for shape, way in [(shape, way) for shape in ("scan", "numbered") if shape in names for way in WAYS if "both" in only]:
+        seen = share("both", shape, top, way)
+        rows.append([f"edges and then loops, {names[shape]}, {top:,} faces, rooms {way}: part of the Rust's time", "—", "—" if seen is None else f"{seen:.3f}", "reported"])
+    for call, way in [(call, way) for call in ("repair", "edges", "loops", "check") for way in ("reused", "dirty") if call in only]:
         grown = [(grows(call, shape, way), what) for shape, what in shapes]
         if call == "repair":
             grown += [(grows(alone, shape, way), f"{what}, {pass_name}") for alone, pass_name in (("repair8", "pass 5 alone"), ("repair16", "pass 4 alone")) for shape, what in crowded]
@@ -197,8 +209,9 @@ if "repair" in only:
     against("Repair, options 16: pass 4 alone on crowded edges", "repair16", crowded)
     against("Repair, options 8: pass 5 alone on crowded points", "repair8", crowded)
     against("Repair, options 0", "repair0", plain)
-if "edges" in only:
-    against("Edges", "edges", shapes)
+for call, title in TITLES.items():
+    if call in only:
+        against(title, call, shapes)
 if "check" in only:
     against("Edge check, which the Rust does not have", "check", shapes)
 if "patches" in only:

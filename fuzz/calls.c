@@ -1,5 +1,6 @@
-/* A fuzz target: bytes become an input of one of the five calls and rooms for it. Number, place, counts and every entry of every room must be document
- * 01's (document.c, passes.c); and of what a repair with all six options gives, demand 3 must hold, the check must say yes, and the edge call accept. */
+/* A fuzz target: bytes become an input of one of the calls and rooms for it; one of the edge call is asked of the loop call too. Number, place, counts and
+ * every entry of every room must be document 01's (document.c, passes.c); and of what a repair with all six options gives, demand 3 must hold, the check must
+ * say yes, and the edge call and the loop call accept. */
 #define _DEFAULT_SOURCE
 #include "blocks.h"
 #include "document.h"
@@ -11,6 +12,9 @@
 #include <sys/mman.h>
 
 enum { FEW = 600, MANY = 6000, MOST = 40000, SHORT = 1000, POINTS = 6, FACES, LABELS, COUNTS };
+
+/* The calls that bytes may ask for; the loop call, behind them, is asked whatever the edge call is. */
+enum { KINDS = LINE + 1 };
 
 typedef struct {
     const uint8_t *at, *end;
@@ -25,7 +29,7 @@ typedef struct {
 } Look;
 
 static void wrong(const Asked *a, const char *what) {
-    static const char *const names[] = {"repair", "edges", "check", "patches", "line"};
+    static const char *const names[] = {"repair", "edges", "check", "patches", "line", "loops"};
     fprintf(stderr, "%s: %s; P = %lu, %zu corners, options %u, threshold %a\n", names[a->call], what, (unsigned long)a->P, a->faces_len, a->options, a->s);
     abort();
 }
@@ -133,7 +137,7 @@ static void make_huge(Asked *a, uint8_t which) {
 
 static void read_asked(Asked *a, Bytes *b, Look *look) {
     uint8_t call = take(b), how = take(b), special = take(b), odd = take(b), by = take(b);
-    a->call = call % CALLS;
+    a->call = call % KINDS;
     *look = (Look){how % DIRTS, how >> 3 & 1, odd, (int8_t)by, how >> 4 & 1, special};
     if (a->call == LINE) {
         a->counts_len = take(b) % 14;
@@ -179,9 +183,11 @@ static Given call(const Asked *a, void **r) {
                                        r[3], a->room[3]);
         g = (Given){x.number, x.place, {x.points, x.faces, x.counts}};
     } else if (a->call == EDGES) {
-        ShellEdges x = shell_edges(a->points, a->points_len, a->faces, a->faces_len, r[0], a->room[0], r[1], a->room[1], r[2], a->room[2], r[3], a->room[3], r[4],
-                                   a->room[4], r[5], a->room[5]);
-        g = (Given){x.number, x.place, {x.edges, x.lengths, x.face_edges, x.loop_vertices, x.loop_ends}};
+        ShellEdges x = shell_edges(a->points, a->points_len, a->faces, a->faces_len, r[0], a->room[0], r[1], a->room[1], r[2], a->room[2], r[3], a->room[3]);
+        g = (Given){x.number, x.place, {x.edges, x.lengths, x.face_edges}};
+    } else if (a->call == LOOPS) {
+        ShellLoops x = shell_loops(a->points, a->points_len, a->faces, a->faces_len, r[0], a->room[0], r[1], a->room[1], r[2], a->room[2]);
+        g = (Given){x.number, x.place, {x.loop_vertices, x.loop_ends}};
     } else if (a->call == CHECK) {
         ShellCheck x = shell_check(a->P, a->faces, a->faces_len, r[0], a->room[0]);
         g = (Given){x.number, x.place, {x.yes}};
@@ -197,18 +203,22 @@ static Given call(const Asked *a, void **r) {
     return g;
 }
 
+/* Where a call's room stands among those that its input speaks of: edges, lengths, face edges, loop vertices, loop ends and work are one list. */
+static int listed(int call, int k) { return call == LOOPS ? k + 3 : call == EDGES && k == 3 ? 5 : k; }
+
 /* Lends the rooms as they are to look. None is longer than its pages; a shorter one is refused. */
 static int lend_rooms(Asked *a, const Look *look, void **r) {
     size_t size[6];
     uint64_t stated[6];
     int rooms = document_rooms(a, size, stated), huge = a->P > SHELL_MOST_POINTS || a->faces_len / 3 > SHELL_MOST_FACES;
+    int all = listed(a->call, rooms - 1) + 1;
     for (int k = 0; k < rooms; k++) {
         uint64_t n = huge || stated[k] > LONGEST / size[k] ? SHORT : stated[k];
-        if (look->odd % rooms == k)
+        if (look->odd % all == listed(a->call, k))
             n = look->by < 0 && n < (uint64_t)-look->by ? 0 : n + look->by;
         a->room[k] = n;
         r[k] = lend(k, n, size[k], look->front);
-        soil(k, look->dirt, look->seed + k);
+        soil(k, look->dirt, look->seed + listed(a->call, k));
         keep(k);
         if (n == 0 && look->null)
             r[k] = NULL;
@@ -254,12 +264,15 @@ static void after_repair(const Asked *a, const Look *look, const Given *g, void 
     if (what != NULL)
         wrong(a, what);
     Asked check = {.call = CHECK, .P = P, .faces = faces, .faces_len = 3 * F};
-    Asked edges = {.call = EDGES, .P = P, .faces = faces, .faces_len = 3 * F, .points = points, .points_len = 3 * P};
+    Asked edges = {.call = EDGES, .P = P, .faces = faces, .faces_len = 3 * F, .points = points, .points_len = 3 * P}, loops = edges;
+    loops.call = LOOPS;
     Look exact = {look->dirt, look->front, 0, 0, 0, look->seed};
     if (try(&check, &exact, r).entries[0] != 1)
         wrong(a, "the check says no to what came out");
     if (try(&edges, &exact, r).number != 0)
         wrong(a, "the edge call refuses what came out");
+    if (try(&loops, &exact, r).number != 0)
+        wrong(a, "the loop call refuses what came out");
     free(points);
     free(faces);
 }
@@ -279,6 +292,11 @@ int LLVMFuzzerTestOneInput(const uint8_t *data, size_t size) {
     Given g = try(&a, &look, r);
     if (a.call == REPAIR && g.number == 0 && a.options == 63)
         after_repair(&a, &look, &g, r);
+    if (a.call == EDGES) {
+        Asked loops = a;
+        loops.call = LOOPS;
+        try(&loops, &look, r);
+    }
     for (int k = POINTS; k <= COUNTS; k++)
         if (!holds(k, NULL, 0, 0))
             wrong(&a, "the input is changed");

@@ -7,9 +7,9 @@
 
 int document_rooms(const Asked *a, size_t size[6], uint64_t stated[6]) {
     uint64_t P = a->P, F = a->faces_len / 3, C = a->patches, work = 16 * P + 64 * F + 64;
-    static const size_t sizes[CALLS][6] = {{8, 4, 4, 4}, {4, 8, 4, 4, 4, 4}, {4}, {4, 8, 4, 4}, {1}};
-    static const int rooms[CALLS] = {4, 6, 1, 4, 1};
-    const uint64_t all[CALLS][6] = {{3 * (P + 3 * F), 3 * F, 11, work}, {6 * F, 3 * F, 3 * F, 3 * F, 3 * F, work}, {work}, {C, 7 * C, C, 4 * C}, {512}};
+    static const size_t sizes[CALLS][6] = {{8, 4, 4, 4}, {4, 8, 4, 4}, {4}, {4, 8, 4, 4}, {1}, {4, 4, 4}};
+    static const int rooms[CALLS] = {4, 4, 1, 4, 1, 3};
+    const uint64_t all[CALLS][6] = {{3 * (P + 3 * F), 3 * F, 11, work}, {6 * F, 3 * F, 3 * F, work}, {work}, {C, 7 * C, C, 4 * C}, {512}, {3 * F, 3 * F, work}};
     memcpy(size, sizes[a->call], sizeof sizes[0]);
     memcpy(stated, all[a->call], sizeof all[0]);
     return rooms[a->call];
@@ -23,7 +23,7 @@ static int refused(Wanted *w, uint32_t number, uint64_t place) {
 
 /* Refusals 1 and 2; then 3, 4, 5, 9 and 10; then 6: document 01's order. */
 static int sizes_refused(const Asked *a, Wanted *w) {
-    int has_points = a->call == REPAIR || a->call == EDGES || a->call == PATCHES;
+    int has_points = a->call == REPAIR || a->call == EDGES || a->call == LOOPS || a->call == PATCHES;
     if (a->call == LINE)
         return a->counts_len != 11 && refused(w, 1, 2);
     if (has_points && a->points_len % 3 != 0)
@@ -66,21 +66,62 @@ static int rooms_refused(const Asked *a, Wanted *w) {
 
 static double distance(const double *to, const double *from) { return norm(to[0] - from[0], to[1] - from[1], to[2] - from[2]); }
 
+/* Where the uses of the edge end that begin at i. */
+static size_t run_end(const Use *all, size_t n, size_t i) {
+    size_t j = i;
+    while (j < n && same_edge(all[i], all[j]))
+        j++;
+    return j;
+}
+
+/* Refusal 7: the position among the edges of the first that occurs more than twice. */
+static int crowded(const Use *all, size_t n, Wanted *w) {
+    size_t count = 0;
+    for (size_t i = 0, j; i < n; i = j, count++) {
+        j = run_end(all, n, i);
+        if (j - i > 2)
+            return refused(w, 7, count);
+    }
+    return 0;
+}
+
+/* Refusal 7, and else the edge call's three rows. */
+static void answer_edges(const Asked *a, Wanted *w) {
+    size_t n = a->faces_len, count = 0;
+    uint32_t *edges = w->row[0] = row(2 * n, 4), *face_edges = w->row[2] = row(n, 4);
+    double *lengths = w->row[1] = row(n, 8);
+    Use *all = uses(a->faces, n, 0);
+    for (size_t i = 0, j; i < n; i = j, count++) {
+        j = run_end(all, n, i);
+        for (size_t k = i; k < j; k++)
+            face_edges[all[k].entry] = count;
+        edges[2 * count] = all[i].low;
+        edges[2 * count + 1] = all[i].high;
+        lengths[count] = distance(a->points + 3 * all[i].high, a->points + 3 * all[i].low);
+    }
+    if (!crowded(all, n, w)) {
+        w->entries[0] = 2 * count;
+        w->entries[1] = count;
+        w->entries[2] = n;
+    }
+    free(all);
+}
+
 /* Each boundary loop from its lowest vertex, listed against its walk. `next` holds P where no boundary edge begins. */
 static void loops(uint32_t *next, size_t P, Wanted *w) {
-    uint32_t *vertices = w->row[3], *loop_ends = w->row[4];
+    uint32_t *vertices = w->row[0], *loop_ends = w->row[1];
     for (uint32_t v = 0; v < P; v++) {
-        size_t first = w->entries[3];
+        size_t first = w->entries[0];
         for (uint32_t at = v; next[at] != P;) {
             uint32_t to = next[at];
-            vertices[w->entries[3]++] = at;
+            vertices[w->entries[0]++] = at;
             next[at] = P;
             at = to;
         }
-        size_t last = w->entries[3];
+        size_t last = w->entries[0];
         if (last == first)
             continue;
-        loop_ends[w->entries[4]++] = last;
+        loop_ends[w->entries[1]++] = last;
         for (; first + 1 < last; first++) {
             uint32_t held = vertices[first];
             vertices[first] = vertices[--last];
@@ -89,45 +130,27 @@ static void loops(uint32_t *next, size_t P, Wanted *w) {
     }
 }
 
-/* Refusals 7 and 8, and else the edge call's five rows. */
-static void answer_edges(const Asked *a, Wanted *w) {
-    size_t n = a->faces_len, P = a->P;
-    uint32_t *edges = w->row[0] = row(2 * n, 4), *next = row(P, 4), *begun = row(P, 4), *ended = row(P, 4);
-    double *lengths = w->row[1] = row(n, 8);
-    uint32_t *face_edges = w->row[2] = row(n, 4);
-    w->row[3] = row(n, 4);
-    w->row[4] = row(n, 4);
+/* Refusals 7 and 8, and else the loop call's two rows. */
+static void answer_loops(const Asked *a, Wanted *w) {
+    size_t n = a->faces_len, P = a->P, fault = 0;
+    uint32_t *next = row(P, 4), *begun = row(P, 4), *ended = row(P, 4);
+    w->row[0] = row(n, 4);
+    w->row[1] = row(n, 4);
     Use *all = uses(a->faces, n, 0);
     for (size_t v = 0; v < P; v++)
         next[v] = P;
-    size_t count = 0, crowded = n;
-    for (size_t i = 0, j; i < n; i = j, count++) {
-        for (j = i; j < n && same_edge(all[i], all[j]); j++)
-            face_edges[all[j].entry] = count;
-        edges[2 * count] = all[i].low;
-        edges[2 * count + 1] = all[i].high;
-        lengths[count] = distance(a->points + 3 * all[i].high, a->points + 3 * all[i].low);
-        if (j - i > 2 && crowded == n)
-            crowded = count;
+    for (size_t i = 0, j; i < n; i = j) {
+        j = run_end(all, n, i);
         if (j - i == 1) {
             begun[begins(a->faces, all[i].entry)]++;
             ended[ends(a->faces, all[i].entry)]++;
             next[begins(a->faces, all[i].entry)] = ends(a->faces, all[i].entry);
         }
     }
-    size_t fault = 0;
     while (fault < P && begun[fault] == ended[fault] && begun[fault] <= 1)
         fault++;
-    if (crowded < n)
-        refused(w, 7, crowded);
-    else if (fault < P)
-        refused(w, 8, fault);
-    else {
-        w->entries[0] = 2 * count;
-        w->entries[1] = count;
-        w->entries[2] = n;
+    if (!crowded(all, n, w) && !(fault < P && refused(w, 8, fault)))
         loops(next, P, w);
-    }
     free(all);
     free(next);
     free(begun);
@@ -227,6 +250,8 @@ Wanted document_answer(const Asked *a) {
         document_repair(a, &w);
     if (a->call == EDGES)
         answer_edges(a, &w);
+    if (a->call == LOOPS)
+        answer_loops(a, &w);
     if (a->call == CHECK)
         w.entries[0] = sound(a->faces, a->faces_len);
     if (a->call == PATCHES)

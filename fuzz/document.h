@@ -1,11 +1,11 @@
-/* What document 01, with item 2 of document 02, says that a call must answer, in plain C and from the documents alone, so that it shares nothing with the
- * library. */
+/* What document 01, with items 2 and 3 of document 02, says that a call must answer, in plain C and from the documents alone, so that it shares nothing with
+ * the library. */
 #ifndef JOGASMUN_DOCUMENT_H
 #define JOGASMUN_DOCUMENT_H
 
 #include "shell.h"
 
-enum { REPAIR, EDGES, CHECK, PATCHES, LINE, CALLS };
+enum { REPAIR, EDGES, CHECK, PATCHES, LINE, LOOPS, CALLS };
 
 /* The input of every call in one record, and the lengths of the rooms; a call reads its own part. */
 typedef struct {
@@ -35,7 +35,7 @@ void document_free(Wanted *w);
 /* The rows of an accepted repair. */
 void document_repair(const Asked *a, Wanted *w);
 
-/* What differs from demand 3 in what a repair with all six options gives, or NULL. Its boundary is looked at by the edge call's answer. */
+/* What differs from demand 3 in what a repair with all six options gives, or NULL. Its boundary is looked at by the loop call's answer. */
 const char *document_demand(const Asked *a, const double *points, size_t P, const uint32_t *faces, size_t F, const uint32_t *report);
 
 #endif

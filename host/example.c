@@ -1,10 +1,11 @@
-/* The panel builder's way to call the library: mend a shell, say what was done, check it, list its edges and its boundary, and sort its patches. */
+/* The panel builder's way to call the library: mend a shell, say what was done, check it, list its edges and its boundary, and sort its patches. Edges are
+ * listed of a shell that is not mended too, where the loops are refused. */
 #include "shell.h"
 #include <stdio.h>
 
-/* The places of a report are those of the header's edition. */
-#if SHELL_VERSION != 2
-#error "written for edition 2 of shell.h"
+/* The calls, their rooms and the places of a report are those of the header's edition. */
+#if SHELL_VERSION != 3
+#error "written for edition 3 of shell.h"
 #endif
 
 /* Rooms for shells of up to 5 points and 5 faces. A repair may add 3 points a face, so the calls after it want a work room for that many. */
@@ -19,16 +20,27 @@ static int refused(const char *call, uint32_t number, uint32_t place) {
     return 1;
 }
 
-/* Edges with their lengths, and the boundary loops, each against its walk. */
+/* Edges with their lengths. */
 static int list_edges(const double *points, size_t points_len, const uint32_t *faces, size_t faces_len) {
-    ShellEdges found = shell_edges(points, points_len, faces, faces_len, ROOM(edges), ROOM(lengths), ROOM(face_edges), ROOM(loop_vertices), ROOM(loop_ends),
-                                   ROOM(work));
+    ShellEdges found = shell_edges(points, points_len, faces, faces_len, ROOM(edges), ROOM(lengths), ROOM(face_edges), ROOM(work));
     if (found.number != SHELL_ACCEPTED)
         return refused("edges", found.number, found.place);
     printf("  edges");
     for (size_t i = 0; i < found.lengths; i++)
         printf("%s %u-%u %.3f", i == 0 ? "" : ",", edges[2 * i], edges[2 * i + 1], lengths[i]);
     printf("\n");
+    return 0;
+}
+
+/* The boundary loops, each against its walk; or at which vertex the boundary is not simple, so that it has none. */
+static int list_loops(const double *points, size_t points_len, const uint32_t *faces, size_t faces_len) {
+    ShellLoops found = shell_loops(points, points_len, faces, faces_len, ROOM(loop_vertices), ROOM(loop_ends), ROOM(work));
+    if (found.number == SHELL_BAD_BOUNDARY) {
+        printf("  no loops: the boundary is not simple at vertex %u\n", found.place);
+        return 0;
+    }
+    if (found.number != SHELL_ACCEPTED)
+        return refused("loops", found.number, found.place);
     for (size_t i = 0, k = 0; i < found.loop_ends; i++) {
         printf("  loop");
         for (; k < loop_ends[i]; k++)
@@ -36,6 +48,17 @@ static int list_edges(const double *points, size_t points_len, const uint32_t *f
         printf("\n");
     }
     return 0;
+}
+
+/* Edges and loops of a shell, mended or not. */
+static int list(const double *points, size_t points_len, const uint32_t *faces, size_t faces_len) {
+    return list_edges(points, points_len, faces, faces_len) || list_loops(points, points_len, faces, faces_len);
+}
+
+/* A shell as it is scanned: its lengths are wanted, also where its boundary is not simple. */
+static int measure(const char *name, const double *points, size_t points_len, const uint32_t *faces, size_t faces_len) {
+    printf("%s, not mended\n", name);
+    return list(points, points_len, faces, faces_len);
 }
 
 /* A repair with every pass, its report as a line, and the calls that want a mended shell. */
@@ -59,7 +82,7 @@ static int mend(const char *name, const double *points, size_t points_len, const
     if (sound.number != SHELL_ACCEPTED)
         return refused("check", sound.number, sound.place);
     printf("  sound: %s\n", sound.yes ? "yes" : "no");
-    return sound.yes != 1 || list_edges(mended, repaired.points, triples, repaired.faces);
+    return sound.yes != 1 || list(mended, repaired.points, triples, repaired.faces);
 }
 
 /* Two patches of two faces, a square of side 1 and one of side 3: which of them is the part, by area? */
@@ -83,5 +106,6 @@ int main(void) {
     const uint32_t bowtie[] = {0, 1, 2, 0, 3, 4}, crowded[] = {0, 1, 2, 0, 1, 3, 0, 1, 4}, moebius[] = {0, 1, 2, 1, 2, 3, 2, 3, 4, 3, 4, 0, 4, 0, 1},
                    crumbs[] = {0, 1, 4, 0, 0, 1, 0, 1, 2, 0, 2, 3, 1, 2, 3};
     return mend("bowtie", ROOM(cross), ROOM(bowtie)) || mend("three faces on an edge", ROOM(legs), ROOM(crowded)) ||
-           mend("Moebius strip", ROOM(cube), ROOM(moebius)) || mend("crumbs", ROOM(row), ROOM(crumbs)) || patches();
+           mend("Moebius strip", ROOM(cube), ROOM(moebius)) || mend("crumbs", ROOM(row), ROOM(crumbs)) || measure("bowtie", ROOM(cross), ROOM(bowtie)) ||
+           patches();
 }

@@ -1,11 +1,16 @@
 /* Replays recorded answers through the library: `replay CASES ANSWERS`. The word form is told in tests/cases/FORMAT.md. Every room is lent filled with
  * 0xff, which makes each float a NaN with a payload; accepted, it must hold the answer, then zero up to the stated room, then 0xff; refused, 0xff
- * everywhere. Repair and edges are called once more with a work room of zeros.
+ * everywhere. Repair, edges and loops are called once more with a work room of zeros.
  *
  * The recorded reports are document 01's and have one count of degenerate faces where the library has two. Of a repair their sum must be that count, and the
  * first of them the number of input faces that repeat a corner, as it is counted here; the report room is lent one entry longer. A line gets the count in
- * two parts. */
+ * two parts.
+ *
+ * A recorded answer of call 2 has edges and loops together, in six rooms, and is asked of both calls: rooms 0, 1, 2, 5 of the edge call, 3, 4, 5 of the loop
+ * call. 6 is that of the call that has the room, 8 that of the loop call; what the other call must then give, the record does not say, and it is found here by
+ * document 01's rule. */
 #include "shell.h"
+#include <math.h>
 #include <stdio.h>
 #include <stdlib.h>
 #include <string.h>
@@ -196,20 +201,181 @@ static int replay_repair(Words *w, Recorded want, int zero) {
     return returned(want, 4, size, length, stated, entries, room, zero) && got.number == want.number && got.place == want.place;
 }
 
-static int replay_edges(Words *w, Recorded want, int zero) {
-    Row points = array(w), faces = array(w);
-    uint64_t length[6], F = faces.count / 3, stated[6] = {6 * F, 3 * F, 3 * F, 3 * F, 3 * F, SHELL_WORK_ROOM(points.count / 3, F)};
-    const size_t size[6] = {4, 8, 4, 4, 4, 4};
-    void *room[6];
-    lend(array(w), 6, size, length, room, zero);
+/* A use of an edge: its ends, the lower first, and its entry, 3i for step (1,2) of face i, 3i + 1 for (2,0), 3i + 2 for (0,1). */
+typedef struct {
+    uint64_t low, high, entry;
+} Use;
+
+static int by_ends(const void *one, const void *other) {
+    const Use *x = one, *y = other;
+    return x->low != y->low ? (x->low < y->low ? -1 : 1) : (x->high > y->high) - (x->high < y->high);
+}
+
+/* Where the step of an entry begins, and where it ends. */
+static uint64_t begins(Row faces, uint64_t e) { return entry(faces, e - e % 3 + (e + 1) % 3); }
+static uint64_t ends(Row faces, uint64_t e) { return entry(faces, e - e % 3 + (e + 2) % 3); }
+
+/* The bits of the distance between two points. */
+static uint64_t distance(Row points, uint64_t from, uint64_t to) {
+    double step[3], length;
+    uint64_t bits;
+    for (int k = 0; k < 3; k++) {
+        double at[2];
+        bits = entry(points, 3 * from + k);
+        memcpy(at, &bits, 8);
+        bits = entry(points, 3 * to + k);
+        memcpy(at + 1, &bits, 8);
+        step[k] = at[1] - at[0];
+    }
+    length = sqrt((step[0] * step[0] + step[1] * step[1]) + step[2] * step[2]);
+    memcpy(&bits, &length, 8);
+    return bits;
+}
+
+/* What document 01 says of good points and faces: the answers of the edge call and of the loop call, and the words of their rows. */
+typedef struct {
+    Recorded answer[2];
+    uint64_t *edges, *lengths, *face_edges, *times, *vertices, *loop_ends;
+} Rule;
+
+/* So many words of zero. */
+static uint64_t *zeros(uint64_t n) {
+    uint64_t *out = calloc(n + 1, sizeof *out);
+    if (out == NULL)
+        exit(2);
+    return out;
+}
+
+/* The unique edges and how often each occurs, and by them the edge call's answer. */
+static void rule_edges(Rule *rule, Row points, Row faces) {
+    uint64_t n = faces.count, count = 0;
+    Use *all = (Use *)zeros(3 * n);
+    for (uint64_t e = 0; e < n; e++) {
+        uint64_t a = begins(faces, e), b = ends(faces, e);
+        all[e] = (Use){a < b ? a : b, a < b ? b : a, e};
+    }
+    qsort(all, n, sizeof *all, by_ends);
+    for (uint64_t i = 0; i < n; i++) {
+        uint64_t k = i > 0 && by_ends(all + i - 1, all + i) == 0 ? count - 1 : count++;
+        rule->edges[2 * k] = all[i].low;
+        rule->edges[2 * k + 1] = all[i].high;
+        rule->lengths[k] = distance(points, all[i].low, all[i].high);
+        rule->face_edges[all[i].entry] = k;
+        rule->times[k]++;
+    }
+    free(all);
+    rule->answer[0] = (Recorded){0, 0, 3, {{2 * count, 0, rule->edges}, {count, 0, rule->lengths}, {n, 0, rule->face_edges}}};
+    for (uint64_t k = count; k-- > 0;)
+        if (rule->times[k] > 2)
+            rule->answer[0] = (Recorded){SHELL_CROWDED_EDGE, k, 0, {NOTHING}};
+}
+
+/* The loops of the edges that occur once, each from its lowest vertex and against its walk, and by them the loop call's answer. */
+static void rule_loops(Rule *rule, uint64_t P, Row faces) {
+    uint64_t *begun = zeros(P), *ended = zeros(P), *before = zeros(P), n = 0, loops = 0;
+    for (uint64_t e = 0; e < faces.count; e++)
+        if (rule->times[rule->face_edges[e]] == 1) {
+            begun[begins(faces, e)]++;
+            ended[ends(faces, e)]++;
+            before[ends(faces, e)] = begins(faces, e);
+        }
+    uint64_t fault = 0;
+    while (fault < P && begun[fault] == ended[fault] && begun[fault] <= 1)
+        fault++;
+    for (uint64_t v = 0; v < P && fault == P; v++) {
+        uint64_t first = n;
+        for (uint64_t at = v; ended[at] > 0; at = before[at]) {
+            ended[at] = 0;
+            rule->vertices[n++] = before[at];
+        }
+        if (n > first)
+            rule->loop_ends[loops++] = n;
+    }
+    if (rule->answer[0].number == SHELL_CROWDED_EDGE)
+        rule->answer[1] = rule->answer[0];
+    else if (fault < P)
+        rule->answer[1] = (Recorded){SHELL_BAD_BOUNDARY, fault, 0, {NOTHING}};
+    else
+        rule->answer[1] = (Recorded){0, 0, 2, {{n, 0, rule->vertices}, {loops, 0, rule->loop_ends}}};
+    free(begun);
+    free(ended);
+    free(before);
+}
+
+static Rule by_rule(Row points, Row faces) {
+    uint64_t n = faces.count;
+    Rule rule = {{{0, 0, 0, {NOTHING}}, {0, 0, 0, {NOTHING}}}, zeros(2 * n), zeros(n), zeros(n), zeros(n), zeros(n), zeros(n)};
+    rule_edges(&rule, points, faces);
+    rule_loops(&rule, points.count / 3, faces);
+    return rule;
+}
+
+static void free_rule(Rule *rule) {
+    free(rule->edges);
+    free(rule->lengths);
+    free(rule->face_edges);
+    free(rule->times);
+    free(rule->vertices);
+    free(rule->loop_ends);
+}
+
+/* The rooms of the edge call and of the loop call: how many, which they are of the six of a record, and the bytes of an entry. */
+typedef struct {
+    int count, place[4];
+    size_t size[4];
+} Part;
+static const Part parts[2] = {{4, {0, 1, 2, 5}, {4, 8, 4, 4}}, {3, {3, 4, 5}, {4, 4, 4}}};
+
+/* What one of the two calls must give by a record of six rooms: what was recorded of it, or else its own refusal of a short room, or else the rule's answer. */
+static Recorded of_part(Recorded six, const Rule *rule, int call, const uint64_t *length, const uint64_t *stated) {
+    const Part *part = parts + call;
+    Recorded want = {six.number, six.place, six.rows == 0 ? 0 : (uint64_t)part->count - 1, {NOTHING}};
+    for (uint64_t k = 0; k < want.rows; k++)
+        want.row[k] = six.row[part->place[k]];
+    if (six.number == SHELL_BAD_BOUNDARY && call == 0)
+        return rule->answer[0];
+    if (six.number != SHELL_SHORT_ROOM)
+        return want;
+    for (want.place = 0; want.place < (uint64_t)part->count; want.place++)
+        if (part->place[want.place] == (int)six.place || length[want.place] < stated[want.place])
+            return want;
+    return rule->answer[call];
+}
+
+/* A record of six rooms asked of one of the two calls. */
+static int replay_part(Row points, Row faces, Row rooms, Recorded six, const Rule *rule, int call, int zero) {
+    const Part *part = parts + call;
+    uint64_t F = faces.count / 3, six_stated[6] = {6 * F, 3 * F, 3 * F, 3 * F, 3 * F, SHELL_WORK_ROOM(points.count / 3, F)};
+    uint64_t lengths[4], length[4], stated[4], entries[3] = {0, 0, 0};
+    void *room[4];
+    for (int k = 0; k < part->count; k++) {
+        lengths[k] = entry(rooms, part->place[k]);
+        stated[k] = six_stated[part->place[k]];
+    }
+    lend((Row){4, 0, lengths}, part->count, part->size, length, room, zero);
+    Recorded want = of_part(six, rule, call, length, stated);
     double *coordinates = floats(points);
-    uint32_t *corners = numbers(faces);
-    ShellEdges got = shell_edges(coordinates, points.count, corners, faces.count, room[0], length[0], room[1], length[1], room[2], length[2], room[3],
-                                 length[3], room[4], length[4], room[5], length[5]);
-    uint64_t entries[5] = {got.edges, got.lengths, got.face_edges, got.loop_vertices, got.loop_ends};
+    uint32_t *corners = numbers(faces), number, place;
+    if (call == 0) {
+        ShellEdges got = shell_edges(coordinates, points.count, corners, faces.count, room[0], length[0], room[1], length[1], room[2], length[2], room[3],
+                                     length[3]);
+        number = got.number, place = got.place, entries[0] = got.edges, entries[1] = got.lengths, entries[2] = got.face_edges;
+    } else {
+        ShellLoops got = shell_loops(coordinates, points.count, corners, faces.count, room[0], length[0], room[1], length[1], room[2], length[2]);
+        number = got.number, place = got.place, entries[0] = got.loop_vertices, entries[1] = got.loop_ends;
+    }
     free(coordinates);
     free(corners);
-    return returned(want, 6, size, length, stated, entries, room, zero) && got.number == want.number && got.place == want.place;
+    return returned(want, part->count, part->size, length, stated, entries, room, zero) && number == want.number && place == want.place;
+}
+
+static int replay_edges(Words *w, Recorded six, int zero) {
+    Row points = array(w), faces = array(w), rooms = array(w);
+    int told = six.number != SHELL_SHORT_ROOM && six.number != SHELL_BAD_BOUNDARY;
+    Rule rule = by_rule(points, told ? NOTHING : faces);
+    int edges = replay_part(points, faces, rooms, six, &rule, 0, zero), loops = replay_part(points, faces, rooms, six, &rule, 1, zero);
+    free_rule(&rule);
+    return edges && loops;
 }
 
 /* With a work room as it is lent, and all zero: the calls may go two ways. */
@@ -350,7 +516,7 @@ int main(int count, char **names) {
     }
     free(cases.words);
     free(answers.words);
-    printf("replay: as recorded repair %lu, edges %lu, check %lu, patches %lu, line %lu; different %lu\n", same[1], same[2], same[3], same[4], same[5],
+    printf("replay: as recorded repair %lu, edges and loops %lu, check %lu, patches %lu, line %lu; different %lu\n", same[1], same[2], same[3], same[4], same[5],
            different);
     return different != 0 || !(same[1] && same[2] && same[3] && same[4] && same[5]);
 }

@@ -21,9 +21,10 @@ extern "C" {
 #endif
 
 /* The edition of this header: a higher number where a call, a room or a report is another, so that a program can tell whether it was written for it. In
- * edition 2 a report has eleven counts; where no edition is defined it has ten, and a program that was built for those and lends ten is refused,
- * SHELL_SHORT_ROOM at place 2. */
-#define SHELL_VERSION 2
+ * edition 3 shell_edges lists the edges and shell_loops the boundary loops, each in rooms of its own; in edition 2 shell_edges has the rooms and the answers
+ * of both. A report has eleven counts in either; where no edition is defined it has ten, and a program that was built for those and lends ten is refused,
+ * SHELL_SHORT_ROOM at place 2. An object file that was compiled against another edition must not be linked: it hands over other rooms. */
+#define SHELL_VERSION 3
 
 /* The numbers a call may give back, and what `place` then is. */
 enum {
@@ -34,8 +35,8 @@ enum {
     SHELL_BAD_POINT = 4,    /* a coordinate outside its domain: the first such point; of an STL file, the first such corner, counted through the file */
     SHELL_BAD_CORNER = 5,   /* a corner that is no point: the first such face */
     SHELL_SHORT_ROOM = 6,   /* a room too short: its place in the call's list of rooms, from 0 */
-    SHELL_CROWDED_EDGE = 7, /* an edge that occurs more than twice: the position of the first such among the sorted unique edges */
-    SHELL_BAD_BOUNDARY = 8, /* the boundary is not simple: the lowest vertex at fault */
+    SHELL_CROWDED_EDGE = 7, /* edge call and loop call: an edge that occurs more than twice: the position of the first such among the sorted unique edges */
+    SHELL_BAD_BOUNDARY = 8, /* loop call alone: the boundary is not simple: the lowest vertex at fault */
     SHELL_BAD_LABEL = 9,    /* a label that is neither SHELL_NO_PATCH nor a patch: the first such face */
     SHELL_LABEL_COUNT = 10, /* as many labels as faces are wanted: 0 */
     SHELL_BAD_FILE = 12     /* an STL file whose length is not 84 plus 50 times its count: 0 */
@@ -99,8 +100,9 @@ enum {
 };
 
 /* The repair, for a degeneracy threshold 0 <= s <= 1 and options: the mended points, the mended faces, and the eleven counts of the report. With all
- * options no face that comes out repeats a corner and no directed edge is walked twice, so the edge check says yes; and the edge call accepts it. What
- * comes out may have up to P + 3F points. Rooms, in this order: SHELL_POINTS_ROOM(P, F), SHELL_FACES_ROOM(F), SHELL_REPORT_ROOM, SHELL_WORK_ROOM(P, F). */
+ * options no face that comes out repeats a corner and no directed edge is walked twice, so the edge check says yes; and the edge call and the loop call
+ * accept it. What comes out may have up to P + 3F points. Rooms, in this order: SHELL_POINTS_ROOM(P, F), SHELL_FACES_ROOM(F), SHELL_REPORT_ROOM,
+ * SHELL_WORK_ROOM(P, F). */
 typedef struct {
     uint32_t number, place;
     uint64_t points, faces, counts;
@@ -111,16 +113,26 @@ ShellRepaired shell_repair(const double *points, size_t points_len, const uint32
                            uint32_t *work, size_t work_len);
 
 /* The edge call. Edges: two ends each, the lower first, sorted; lengths: one for each edge; face edges: for each face the positions of its edges (1,2),
- * (2,0), (0,1) among them; loop vertices: each boundary loop against its walk; loop ends: where each loop ends, as running totals. Rooms, in this order:
- * SHELL_EDGES_ROOM(F), SHELL_LENGTHS_ROOM(F), SHELL_FACE_EDGES_ROOM(F), SHELL_LOOP_VERTICES_ROOM(F), SHELL_LOOP_ENDS_ROOM(F), SHELL_WORK_ROOM(P, F). A
- * work room of zeros, as every accepted call leaves it, is served fastest. */
+ * (2,0), (0,1) among them. The boundary does not matter: bowties too are accepted. Rooms, in this order: SHELL_EDGES_ROOM(F), SHELL_LENGTHS_ROOM(F),
+ * SHELL_FACE_EDGES_ROOM(F), SHELL_WORK_ROOM(P, F). A work room of zeros, as every accepted call leaves it, is served fastest. */
 typedef struct {
     uint32_t number, place;
-    uint64_t edges, lengths, face_edges, loop_vertices, loop_ends;
+    uint64_t edges, lengths, face_edges;
 } ShellEdges;
 
 ShellEdges shell_edges(const double *points, size_t points_len, const uint32_t *faces, size_t faces_len, uint32_t *edges, size_t edges_len, double *lengths,
-                       size_t lengths_len, uint32_t *face_edges, size_t face_edges_len, uint32_t *loop_vertices, size_t loop_vertices_len,
+                       size_t lengths_len, uint32_t *face_edges, size_t face_edges_len, uint32_t *work, size_t work_len);
+
+/* The loop call, from the same points and faces. Loop vertices: each boundary loop against its walk; loop ends: where each loop ends, as running totals. A
+ * boundary edge occurs once. The boundary must be simple: each vertex begins as many boundary edges as it ends, none or one. The points are checked as in
+ * every call, though the loops do not depend on where they lie. Rooms, in this order: SHELL_LOOP_VERTICES_ROOM(F), SHELL_LOOP_ENDS_ROOM(F),
+ * SHELL_WORK_ROOM(P, F). A work room of zeros is served fastest here too. */
+typedef struct {
+    uint32_t number, place;
+    uint64_t loop_vertices, loop_ends;
+} ShellLoops;
+
+ShellLoops shell_loops(const double *points, size_t points_len, const uint32_t *faces, size_t faces_len, uint32_t *loop_vertices, size_t loop_vertices_len,
                        uint32_t *loop_ends, size_t loop_ends_len, uint32_t *work, size_t work_len);
 
 /* The edge check: `yes` is 1 exactly when no face repeats a corner and every directed edge is used at most once. Room: SHELL_WORK_ROOM(P, F). */

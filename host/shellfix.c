@@ -2,9 +2,9 @@
  *
  * Reads a binary STL file, repairs it with all options, checks it, and prints what was mended and how many edges and boundary loops it has then. Where
  * degenerate faces were removed it says how many of them repeat a corner and how many are thin: a scanner is adjusted by that. THRESHOLD is the sine, from 0
- * to 1, of the angle at a face's first corner up to which the face is thin. A refusal is printed in words with its number and place. For a large file each
- * stage is told on standard error. Exit status: 0; 1 for a refusal, or for a shell that the check does not pass; 2 if the words or the threshold are not
- * understood, the file cannot be read or memory runs out. */
+ * to 1, of the angle at a face's first corner up to which the face is thin. A refusal is printed in words with its number and place; where only the loops are
+ * refused, after the number of edges and with the place of the vertex at fault. For a large file each stage is told on standard error. Exit status: 0; 1 for a
+ * refusal, or for a shell that the check does not pass; 2 if the words or the threshold are not understood, the file cannot be read or memory runs out. */
 #include "shell.h"
 #include <ctype.h>
 #include <errno.h>
@@ -144,20 +144,44 @@ static int check(const Mesh *mesh, uint32_t *work, size_t work_length) {
     return sound.yes == 1;
 }
 
-/* How many edges and boundary loops there are. */
-static int count_edges(const Mesh *mesh, uint32_t *work, size_t work_length) {
+/* The edge call's answer, without what it lists. */
+static ShellEdges find_edges(const Mesh *mesh, uint32_t *work, size_t work_length) {
     size_t f = mesh->face_count;
     uint32_t *edges = room(SHELL_EDGES_ROOM(f), sizeof *edges), *face_edges = room(SHELL_FACE_EDGES_ROOM(f), sizeof *face_edges);
-    uint32_t *loop_vertices = room(SHELL_LOOP_VERTICES_ROOM(f), sizeof *loop_vertices), *loop_ends = room(SHELL_LOOP_ENDS_ROOM(f), sizeof *loop_ends);
     double *lengths = room(SHELL_LENGTHS_ROOM(f), sizeof *lengths);
     ShellEdges found = shell_edges(mesh->points, 3 * mesh->point_count, mesh->faces, 3 * f, edges, SHELL_EDGES_ROOM(f), lengths, SHELL_LENGTHS_ROOM(f),
-                                   face_edges, SHELL_FACE_EDGES_ROOM(f), loop_vertices, SHELL_LOOP_VERTICES_ROOM(f), loop_ends, SHELL_LOOP_ENDS_ROOM(f),
-                                   work, work_length);
-    free(edges), free(face_edges), free(loop_vertices), free(loop_ends), free(lengths);
-    if (!accepted("edges", found.number, found.place))
+                                   face_edges, SHELL_FACE_EDGES_ROOM(f), work, work_length);
+    free(edges), free(face_edges), free(lengths);
+    return found;
+}
+
+/* The loop call's answer, without what it lists. */
+static ShellLoops find_loops(const Mesh *mesh, uint32_t *work, size_t work_length) {
+    size_t f = mesh->face_count;
+    uint32_t *loop_vertices = room(SHELL_LOOP_VERTICES_ROOM(f), sizeof *loop_vertices), *loop_ends = room(SHELL_LOOP_ENDS_ROOM(f), sizeof *loop_ends);
+    ShellLoops found = shell_loops(mesh->points, 3 * mesh->point_count, mesh->faces, 3 * f, loop_vertices, SHELL_LOOP_VERTICES_ROOM(f), loop_ends,
+                                   SHELL_LOOP_ENDS_ROOM(f), work, work_length);
+    free(loop_vertices), free(loop_ends);
+    return found;
+}
+
+/* How many edges and boundary loops there are; where the loops are refused, the edges all the same, why, and where the vertex at fault lies. */
+static int count_edges(const Mesh *mesh, uint32_t *work, size_t work_length) {
+    ShellEdges edges = find_edges(mesh, work, work_length);
+    if (!accepted("edges", edges.number, edges.place))
         return 0;
-    printf("%llu edges, %llu boundary loops\n", (unsigned long long)found.lengths, (unsigned long long)found.loop_ends);
-    return 1;
+    ShellLoops loops = find_loops(mesh, work, work_length);
+    if (loops.number == SHELL_ACCEPTED) {
+        printf("%llu edges, %llu boundary loops\n", (unsigned long long)edges.lengths, (unsigned long long)loops.loop_ends);
+        return 1;
+    }
+    printf("%llu edges\n", (unsigned long long)edges.lengths);
+    accepted("loops", loops.number, loops.place);
+    if (loops.number == SHELL_BAD_BOUNDARY) {
+        const double *at = mesh->points + 3 * (size_t)loops.place;
+        printf("vertex %u lies at %.9g %.9g %.9g: several boundary edges begin there, or not as many as end there\n", loops.place, at[0], at[1], at[2]);
+    }
+    return 0;
 }
 
 /* What is said of a mended mesh: the report, the check's answer, and the counts of edges and loops. */
@@ -168,7 +192,7 @@ static int describe(const Mesh *mended, const uint32_t *report, const char *thre
     int good = print_report(report, threshold);
     stage(mended, "checking");
     good = good && check(mended, work, work_length);
-    stage(mended, "listing the edges of");
+    stage(mended, "listing the edges and loops of");
     good = good && count_edges(mended, work, work_length);
     free(work);
     return good;

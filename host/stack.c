@@ -9,8 +9,8 @@
 #include <sys/mman.h>
 #include <ucontext.h>
 
-enum { REPAIR, EDGES, CHECK, PATCHES, LINE, CALLS };
-static const char *const names[CALLS] = {"repair", "edges", "check", "patches", "line"};
+enum { REPAIR, EDGES, LOOPS, CHECK, PATCHES, LINE, CALLS };
+static const char *const names[CALLS] = {"repair", "edges", "loops", "check", "patches", "line"};
 
 enum { DEEP = 8 << 20, PATCH_COUNT = 100 };
 static const uint64_t PAINT = 0xa5c3f00d5eed1e55;
@@ -26,7 +26,7 @@ static uint32_t below(uint32_t n) {
 }
 
 static struct {
-    uint32_t *faces, *labels, *work, *row[5], report[SHELL_REPORT_ROOM], options, number;
+    uint32_t *faces, *labels, *work, *row[3], report[SHELL_REPORT_ROOM], options, number;
     double *points, *mended, *lengths;
     size_t P, F;
     uint8_t line[SHELL_LINE_ROOM];
@@ -137,7 +137,11 @@ static void run(void) {
                          .number;
     if (job.call == EDGES)
         job.number = shell_edges(job.points, 3 * P, job.faces, 3 * F, job.row[1], SHELL_EDGES_ROOM(F), job.lengths, SHELL_LENGTHS_ROOM(F), job.row[2],
-                                 SHELL_FACE_EDGES_ROOM(F), job.row[3], SHELL_LOOP_VERTICES_ROOM(F), job.row[4], SHELL_LOOP_ENDS_ROOM(F), job.work, work)
+                                 SHELL_FACE_EDGES_ROOM(F), job.work, work)
+                         .number;
+    if (job.call == LOOPS)
+        job.number = shell_loops(job.points, 3 * P, job.faces, 3 * F, job.row[1], SHELL_LOOP_VERTICES_ROOM(F), job.row[2], SHELL_LOOP_ENDS_ROOM(F), job.work,
+                                 work)
                          .number;
     if (job.call == CHECK)
         job.number = shell_check(P, job.faces, 3 * F, job.work, work).number;
@@ -240,7 +244,7 @@ static void of_size(size_t F, size_t first) {
     job.faces = room(3 * F, 4);
     job.labels = room(F, 4);
     job.lengths = room(SHELL_LENGTHS_ROOM(F) + SHELL_NUMBERS_ROOM(PATCH_COUNT), 8);
-    for (int k = 0; k < 5; k++)
+    for (int k = 0; k < 3; k++)
         job.row[k] = room(SHELL_EDGES_ROOM(F) + PATCH_COUNT, 4);
     for (size_t i = 0; i < F; i++)
         job.labels[i] = (uint32_t)(i % PATCH_COUNT);
@@ -253,7 +257,7 @@ static void of_size(size_t F, size_t first) {
     free(job.faces);
     free(job.labels);
     free(job.lengths);
-    for (int k = 0; k < 5; k++)
+    for (int k = 0; k < 3; k++)
         free(job.row[k]);
 }
 

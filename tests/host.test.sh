@@ -1,8 +1,8 @@
 #!/usr/bin/env bash
 # The library in a C program: the example prints what it must, the header is good for C++, recorded answers come out through the calls with every
-# room as it must be, degenerate faces are counted by kind and their sums printed up to the limits, damaged meshes are after a repair what is proved of them,
-# what fuzzing found worth keeping comes out as the documents say, and a call takes no memory but its rooms and no more stack than is promised; a sample under
-# valgrind too, so that nothing outside a room is touched.
+# room as it must be, degenerate faces are counted by kind and their sums printed up to the limits, the edges of bowties are listed though their loops are
+# refused, in work rooms of every kind, damaged meshes are after a repair what is proved of them, what fuzzing found worth keeping comes out as the documents
+# say, and a call takes no memory but its rooms and no more stack than is promised; a sample under valgrind too, so that nothing outside a room is touched.
 set -u
 here=$(cd "$(dirname "${BASH_SOURCE[0]}")/.." && pwd)
 room=$(mktemp -d) || exit 1
@@ -10,8 +10,8 @@ trap 'rm -rf "$room"' EXIT
 bash "$here/host/build.sh" "$room" || exit 1
 cd "$room" || exit 1
 flags=(-std=c11 -Wall -Wextra -Wpedantic -Werror -O2 -g -ffp-contract=off -I.)
-for program in example kinds replay chain stack; do
-    gcc "${flags[@]}" -o "$program" "$here/host/$program.c" libshell.a || exit 1
+for program in example kinds bowties replay chain stack; do
+    gcc "${flags[@]}" -o "$program" "$here/host/$program.c" libshell.a -lm || exit 1
 done
 g++ -std=c++17 -Wall -Werror -fsyntax-only -x c++ shell.h || exit 1
 # A call takes no memory but its rooms and the stack, and keeps nothing: the library names no function of the system but these, and has no data of its own.
@@ -22,6 +22,22 @@ fi
 ./example >found || exit 1
 diff found "$here/host/example.out" || exit 1
 ./kinds || exit 1
+./bowties || exit 1
+# A program that hands the edge call the rooms of the loops too, as edition 2 has it, does not compile; and one that asks for that edition is told so.
+cat >both.c <<'END'
+#include "shell.h"
+#ifdef ASKS
+#if SHELL_VERSION != 2
+#error "written for edition 2 of shell.h"
+#endif
+#endif
+uint64_t loops(double *points, uint32_t *faces, double *lengths, uint32_t *room);
+uint64_t loops(double *points, uint32_t *faces, double *lengths, uint32_t *room) {
+    return shell_edges(points, 9, faces, 3, room, 6, lengths, 3, room + 6, 3, room + 9, 3, room + 12, 3, room + 15, 176).loop_ends;
+}
+END
+! gcc "${flags[@]}" -fsyntax-only both.c 2>told && grep -q 'too many arguments' told || exit 1
+! gcc "${flags[@]}" -DASKS -fsyntax-only both.c 2>told && grep -q 'written for edition 2' told || exit 1
 # A program that was built for ten counts is told so by its compiler, if it asks, and by the library.
 sed '/^#define SHELL_VERSION /d; s/^#define SHELL_REPORT_ROOM .*/#define SHELL_REPORT_ROOM ((size_t)10)/' shell.h >old.h
 sed 's/"shell.h"/"old.h"/' "$here/host/example.c" >old.c
@@ -54,6 +70,7 @@ if command -v valgrind >/dev/null; then
     "${watched[@]}" ./example >found || exit 1
     diff found "$here/host/example.out" || exit 1
     "${watched[@]}" ./kinds || exit 1
+    "${watched[@]}" ./bowties || exit 1
     "${watched[@]}" ./replay "$here/tests/cases/lib.cases.bin" "$here/tests/cases/lib.answers.bin" || exit 1
     "${watched[@]}" ./chain 300 || exit 1
     "${watched[@]}" "$here/target/bin/meshfix" <"$here/examples/shell.txt" >found || exit 1

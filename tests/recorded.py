@@ -7,8 +7,14 @@ CASES has the recorded cases (texts NAME.txt with NAME.out, there or in text/, a
 and every EVERY-th case that is small enough for antt is taken.
 
 The recorded reports are document 01's and have one count of degenerate faces, where the rules have two. Of these the first must be the number of input faces
-that repeat a corner, as it is counted here, and their sum the recorded count; the report room is lent one entry longer. A line gets the count in two parts."""
+that repeat a corner, as it is counted here, and their sum the recorded count; the report room is lent one entry longer. A line gets the count in two parts.
+
+A recorded answer of call 2 has edges and loops together, in six rooms, and is asked of both calls in one claim: rooms 0, 1, 2, 5 of the edge call, 3, 4, 5 of
+the loop call. 6 is that of the call that has the room, 8 that of the loop call; what the other call must then give, the record does not say, and it is found
+here by document 01's rule."""
+import collections
 import glob
+import math
 import os
 import struct
 import sys
@@ -30,7 +36,7 @@ use lib.Ieee.{Float, binary64, ofBits, toBits}
 use Rattle.rules.specs.Rooms.{Answer, accepted, refused, Outcome}
 use Rattle.rules.specs.Patches.{Limit, absent, limit, Filter}
 use Rattle.rules.specs.Line.{bytes}
-use Rattle.rules.specs.Calls.{RepairRooms, repair, EdgesRooms, find-edges, check, PatchesRooms, find-patches, write-line}
+use Rattle.rules.specs.Calls.{RepairRooms, repair, EdgesRooms, find-edges, LoopsRooms, find-loops, check, PatchesRooms, find-patches, write-line}
 use Rattle.rules.specs.Text.{meshfix}
 use Rattle.rules.specs.Open.{every-rule}
 
@@ -51,10 +57,12 @@ repairing points faces s options r =
     let o = repair points faces s options r in
     told (o .answer) ∷ bits (o .rooms .out-points) ∷ o .rooms .out-faces ∷ o .rooms .report ∷ o .rooms .work ∷ []
 
-edging : List Float → List ℕ → EdgesRooms → List (List ℕ)
-edging points faces r =
+listing : List Float → List ℕ → EdgesRooms → LoopsRooms → List (List ℕ)
+listing points faces r s =
     let o = find-edges points faces r in
-    told (o .answer) ∷ o .rooms .edges ∷ bits (o .rooms .lengths) ∷ o .rooms .face-edges ∷ o .rooms .loop-vertices ∷ o .rooms .loop-ends ∷ o .rooms .work ∷ []
+    let l = find-loops points faces s in
+    told (o .answer) ∷ o .rooms .edges ∷ bits (o .rooms .lengths) ∷ o .rooms .face-edges ∷ o .rooms .work
+    ∷ told (l .answer) ∷ l .rooms .loop-vertices ∷ l .rooms .loop-ends ∷ l .rooms .work ∷ []
 
 checking : ℕ → List ℕ → List ℕ → List (List ℕ)
 checking P faces work = let o = check P faces work in told (o .answer) ∷ o .rooms ∷ []
@@ -69,7 +77,7 @@ lining counts r = let o = write-line counts r in told (o .answer) ∷ o .rooms �
 
 """
 CLAIM = """claim{n} : {found} ≡ {stated}
-unfolding floats bits told repairing edging checking patching lining every-rule
+unfolding floats bits told repairing listing checking patching lining every-rule
 claim{n} = refl
 
 """
@@ -174,10 +182,11 @@ def held(lengths, kinds):
 
 
 def outcome(number, place, answers, entries, stated, lengths, kinds):
+    """What is given back and what the rooms then hold."""
     if number:
-        return rows([[number, place]] + held(lengths, kinds))
+        return [[number, place]] + held(lengths, kinds)
     filled = [room(a, s, n, k) for a, s, n, k in zip(answers + [[]], stated, lengths, kinds)]
-    return rows([[0, 0] + entries] + filled)
+    return [[0, 0] + entries] + filled
 
 
 def rooms(fields, lengths, kinds):
@@ -205,6 +214,70 @@ def turned(vertices, ends):
     return [v for loop in loops for v in loop], totals
 
 
+def distance(points, low, high):
+    """The bits of the length of an edge."""
+    x, y, z = (struct.unpack("<d", struct.pack("<Q", points[3 * high + k]))[0] - struct.unpack("<d", struct.pack("<Q", points[3 * low + k]))[0] for k in range(3))
+    return struct.unpack("<Q", struct.pack("<d", math.sqrt((x * x + y * y) + z * z)))[0]
+
+
+def ruled(points, faces):
+    """What document 01 says of good points and faces: number, place and rows of the edge call and of the loop call."""
+    steps = [step for a, b, c in zip(*[iter(faces)] * 3) for step in ((b, c), (c, a), (a, b))]
+    times = collections.Counter(tuple(sorted(step)) for step in steps)
+    unique = sorted(times)
+    crowded = [k for k, edge in enumerate(unique) if times[edge] > 2]
+    if crowded:
+        return [(7, crowded[0], [])] * 2
+    position = {edge: k for k, edge in enumerate(unique)}
+    edges = [[v for edge in unique for v in edge], [distance(points, *edge) for edge in unique], [position[tuple(sorted(step))] for step in steps]]
+    boundary = [step for step in steps if times[tuple(sorted(step))] == 1]
+    begun, ended = (collections.Counter(step[k] for step in boundary) for k in (0, 1))
+    faults = [v for v in range(len(points) // 3) if begun[v] != ended[v] or begun[v] > 1]
+    if faults:
+        return [(0, 0, edges), (8, faults[0], [])]
+    after, vertices, ends = dict(boundary), [], []
+    for v in sorted(after):
+        walk = []
+        while v in after:
+            walk.append(v)
+            v = after.pop(v)
+        vertices += walk[::-1]
+        ends += [len(vertices)] if walk else []
+    return [(0, 0, edges), (0, 0, [vertices, ends])]
+
+
+def of_call(own, by_rule, number, place, answers, stated, lengths):
+    """What a call with these of six rooms must give by a record of all six: what was recorded of it, or else its own refusal of a short room, or else the
+    rule's answer."""
+    if number == 0:
+        return 0, 0, [answers[k] for k in own[:-1]]
+    if number == 8 and 0 in own:
+        return by_rule
+    if number != 6:
+        return number, place, []
+    short = [i for i, k in enumerate(own) if k == place or lengths[k] < stated[k]]
+    return (6, short[0], []) if short else by_rule
+
+
+def both(points, faces, lengths, number, place, answers):
+    """A record of six rooms asked of the edge call and of the loop call."""
+    P, F = len(points) // 3, len(faces) // 3
+    kinds = [DIRTY32, DIRTY64, DIRTY32, DIRTY32, DIRTY32, DIRTY32]
+    stated = [6 * F, 3 * F, 3 * F, 3 * F, 3 * F, 16 * P + 64 * F + 64]
+    fields = ["edges", "lengths", "face-edges", "loop-vertices", "loop-ends", "work"]
+    if sum(lengths) > MOST_ENTRIES:
+        raise Long
+    if number == 0:
+        answers[3:5] = turned(answers[3], answers[4])
+    found, wanted = "listing (floats %s) %s" % (listed(points), listed(faces)), []
+    for own, by_rule in zip(([0, 1, 2, 5], [3, 4, 5]), ruled(points, faces) if number in (6, 8) else (None, None)):
+        part = lambda row: [row[k] for k in own]
+        found += " " + rooms(part(fields), part(lengths), part(kinds))
+        *told, given = of_call(own, by_rule, number, place, answers, stated, lengths)
+        wanted += outcome(*told, given, [len(row) for row in given], part(stated), part(lengths), part(kinds))
+    return found, rows(wanted)
+
+
 def claim(call, case, answer, turn):
     """One of the library's cases: the call's outcome by the rules, and what was recorded, with every room. The turn says how a line's count is parted."""
     w, a = Words(case), Words(answer)
@@ -223,14 +296,7 @@ def claim(call, case, answer, turn):
         lent = rooms(["out-points", "out-faces", "report", "work"], lengths, kinds)
         found = "repairing (floats %s) %s (ofBits binary64 %d) %d %s" % (listed(points), listed(faces), s, options, lent)
     elif call == 2:
-        points, faces, lengths = w.array(), w.array(), w.array()
-        P, F = len(points) // 3, len(faces) // 3
-        kinds = [DIRTY32, DIRTY64, DIRTY32, DIRTY32, DIRTY32, DIRTY32]
-        stated = [6 * F, 3 * F, 3 * F, 3 * F, 3 * F, 16 * P + 64 * F + 64]
-        lent = rooms(["edges", "lengths", "face-edges", "loop-vertices", "loop-ends", "work"], lengths, kinds)
-        found = "edging (floats %s) %s %s" % (listed(points), listed(faces), lent)
-        if number == 0:
-            answers[3:5] = turned(answers[3], answers[4])
+        return both(w.array(), w.array(), w.array(), number, place, answers)
     elif call == 3:
         P, faces, lengths = w.one(), w.array(), w.array()
         kinds, stated = [DIRTY32], [16 * P + 64 * (len(faces) // 3) + 64]
@@ -256,7 +322,7 @@ def claim(call, case, answer, turn):
             return found, rows([[0, 0, entries[0]], rest])
     if sum(lengths) > MOST_ENTRIES:
         raise Long
-    return found, outcome(number, place, answers, entries, stated, lengths, kinds)
+    return found, rows(outcome(number, place, answers, entries, stated, lengths, kinds))
 
 
 def calls(cases):

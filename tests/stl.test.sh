@@ -1,6 +1,7 @@
 #!/usr/bin/env bash
 # Binary STL: what the call reads of files at the limits, of random ones and of files that other programs wrote is what a reader in Python finds, corner by
-# corner, with every room as it must be; and shellfix mends such a file from disk, and says of its degenerate faces how many there were of each kind.
+# corner, with every room as it must be; and shellfix mends such a file from disk, says of its degenerate faces how many there were of each kind, and says how
+# many edges there are also where the loops are refused.
 set -u
 here=$(cd "$(dirname "${BASH_SOURCE[0]}")/.." && pwd)
 room=$(mktemp -d) || exit 1
@@ -46,6 +47,34 @@ puzzled() {
     [ $? -eq 2 ] && [ ! -s printed ] && grep -q '^usage: shellfix' said || echo "another answer to $*"
     head -n 1 said
 }
+# What shellfix says of meshes whose loops are refused: none comes out of its repair, so they are given to the function that counts edges and loops.
+cat >untied.c <<'END'
+#define main shellfix
+#include "shellfix.c"
+#undef main
+
+/* Counts the edges and loops of so many of the points and faces in a dirty work room, and says whether that was good. */
+static void untied(const char *what, size_t points, const uint32_t *faces, size_t count) {
+    static double at[] = {0, 0, 0, 1, 0, 0, 0, 1, 0, -1, 0, 0.1f, 0, -1, 0};
+    uint32_t corners[12], work[SHELL_WORK_ROOM(5, 4)];
+    memcpy(corners, faces, 12 * count);
+    memset(work, 0x5a, sizeof work);
+    Mesh mesh = {at, corners, points, count, 0};
+    printf("%s\n", what);
+    printf("good: %d\n", count_edges(&mesh, work, SHELL_WORK_ROOM(points, count)));
+}
+
+int main(void) {
+    untied("a bowtie", 5, (const uint32_t[]){0, 1, 2, 0, 3, 4}, 2);
+    untied("a bowtie at vertex 3", 5, (const uint32_t[]){0, 1, 3, 3, 4, 2}, 2);
+    untied("an edge walked twice the same way", 4, (const uint32_t[]){0, 1, 2, 0, 1, 3}, 2);
+    untied("three faces on an edge", 5, (const uint32_t[]){0, 1, 2, 0, 1, 3, 0, 1, 4}, 3);
+    untied("two faces on an edge", 4, (const uint32_t[]){0, 1, 2, 0, 3, 1}, 2);
+    untied("a closed shell", 4, (const uint32_t[]){0, 2, 1, 0, 1, 3, 1, 2, 3, 2, 0, 3}, 4);
+    return 0;
+}
+END
+gcc -std=c11 -Wall -Wextra -Wpedantic -Werror -O2 -g -I. "-I$here/host" -o untied untied.c libshell.a || exit 1
 {
     fixed made/by-admesh.stl
     fixed made/by-assimp.stl
@@ -63,6 +92,7 @@ puzzled() {
     puzzled made/kinds.stl -s
     puzzled -t 0.5 made/kinds.stl
     puzzled made/kinds.stl made/none.stl
+    ./untied
 } >found
 diff found "$here/tests/cases/stl/shellfix.out" || exit 1
 
@@ -70,6 +100,7 @@ if command -v valgrind >/dev/null; then
     valgrind -q --error-exitcode=9 ./corners made/random-1*.stl made/zeros.stl made/subnormals.stl made/payload-*.stl >/dev/null || exit 1
     valgrind -q --error-exitcode=9 --leak-check=full --errors-for-leak-kinds=definite ./shellfix -s 0.001 made/kinds.stl >/dev/null || exit 1
     valgrind -q --error-exitcode=9 --leak-check=full --errors-for-leak-kinds=definite ./shellfix made/by-admesh.stl >/dev/null || exit 1
+    valgrind -q --error-exitcode=9 --leak-check=full --errors-for-leak-kinds=definite ./untied >/dev/null || exit 1
 else
     echo "stl: no valgrind here, so the rooms' neighbours are not watched"
 fi

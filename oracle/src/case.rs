@@ -4,24 +4,26 @@
 pub enum Call {
     Repair,
     Edges,
+    Loops,
     Check,
     Patches,
     Line,
 }
 
-pub const CALLS: [Call; 5] = [Call::Repair, Call::Edges, Call::Check, Call::Patches, Call::Line];
+pub const CALLS: [Call; 6] = [Call::Repair, Call::Edges, Call::Loops, Call::Check, Call::Patches, Call::Line];
 
 impl Call {
     /// The call's name in the library, after `shell_`.
     pub fn name(self) -> &'static str {
-        ["repair", "edges", "check", "patches", "line"][self as usize]
+        ["repair", "edges", "loops", "check", "patches", "line"][self as usize]
     }
 
     /// The names of the call's rooms, in checking order.
     pub fn rooms(self) -> &'static [&'static str] {
         match self {
             Call::Repair => &["points", "faces", "report", "work"],
-            Call::Edges => &["edges", "lengths", "face edges", "loop vertices", "loop ends", "work"],
+            Call::Edges => &["edges", "lengths", "face edges", "work"],
+            Call::Loops => &["loop vertices", "loop ends", "work"],
             Call::Check => &["work"],
             Call::Patches => &["face counts", "numbers", "flags", "work"],
             Call::Line => &["line"],
@@ -46,16 +48,18 @@ pub struct Filter {
     pub keep_largest_n: u64,
 }
 
-/// A room: how many entries it has more than stated (fewer, if negative) but at most, and the seed of what it holds; 0 is clean.
+/// A room: how many entries it has more than stated (fewer, if negative) but at most, the seed of what it holds, and how many entries in front are zero
+/// before that begins; with seed 0 all that are stated are.
 #[derive(Clone, Copy)]
 pub struct Room {
     pub extra: i128,
     pub most: usize,
     pub dirt: u64,
+    pub front: u64,
 }
 
 /// A room that is exact and clean. A harness has no endless memory: no room is longer than 2^27.
-pub const EXACT: Room = Room { extra: 0, most: 1 << 27, dirt: 0 };
+pub const EXACT: Room = Room { extra: 0, most: 1 << 27, dirt: 0, front: 0 };
 
 /// The input of every call in one record; a call reads its own part of it.
 #[derive(Clone)]
@@ -117,11 +121,18 @@ impl Case {
         let work = (4, 16 * p + 64 * f + 64);
         match self.call {
             Call::Repair => vec![(8, 3 * (p + 3 * f)), (4, 3 * f), (4, REPORT as u128), work],
-            Call::Edges => vec![(4, 6 * f), (8, 3 * f), (4, 3 * f), (4, 3 * f), (4, 3 * f), work],
+            Call::Edges => vec![(4, 6 * f), (8, 3 * f), (4, 3 * f), work],
+            Call::Loops => vec![(4, 3 * f), (4, 3 * f), work],
             Call::Check => vec![work],
             Call::Patches => vec![(4, c), (8, 7 * c), (4, c), (4, 4 * c)],
             Call::Line => vec![(1, 512)],
         }
+    }
+
+    /// How many entries of each room are zero in front.
+    pub fn clean(&self) -> Vec<u128> {
+        let clean = |((_, stated), room): ((usize, u128), &Room)| if room.dirt == 0 { stated } else { room.front as u128 };
+        self.stated().into_iter().zip(&self.rooms).map(clean).collect()
     }
 
     /// How many entries each room has.

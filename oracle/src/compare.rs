@@ -4,13 +4,13 @@ use crate::case::{Call, Case};
 use crate::fault::{self, Fault};
 use crate::here::{self, Inputs, Reply};
 use crate::lent::Lent;
-use crate::there::{self, Outcome};
+use crate::there::Outcome;
 
 /// The rooms of a case as they are lent.
 pub fn rooms(case: &Case) -> Vec<Lent> {
-    let lengths = case.lengths();
-    let room = |k: usize, (size, stated): (usize, u128)| Lent::room(size, lengths[k], stated, case.rooms[k].dirt);
-    case.stated().into_iter().enumerate().map(|(k, entry)| room(k, entry)).collect()
+    let (lengths, clean) = (case.lengths(), case.clean());
+    let room = |(k, (size, _)): (usize, (usize, u128))| Lent::room(size, lengths[k], clean[k], case.rooms[k].dirt);
+    case.stated().into_iter().enumerate().map(room).collect()
 }
 
 /// What is wrong with the library's answer, if anything. A call that the library does not have has nothing wrong.
@@ -30,8 +30,8 @@ pub fn difference(case: &Case, wanted: &Outcome, fault: Option<Fault>) -> Option
 
 /// A reply with a fault. A call that is not there is played from the outcome, so that each fault can be tried for each call.
 fn faulty(case: &Case, wanted: &Outcome, fault: Fault, input: &mut Inputs, rooms: &mut [Lent]) -> Reply {
-    if let Some(other) = fault.other(case) {
-        return fault::play(case, &there::outcome(&other), rooms);
+    if let Some(other) = fault.other(case, wanted) {
+        return fault::play(case, &other, rooms);
     }
     let mut reply = here::run(case, input, rooms).unwrap_or_else(|| fault::play(case, wanted, rooms));
     fault.alter(case, &mut reply, input, rooms);

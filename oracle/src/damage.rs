@@ -8,7 +8,7 @@ use crate::random::Random;
 pub fn add(case: &mut Case, random: &mut Random) {
     let kinds: &[fn(&mut Case, &mut Random)] = match case.call {
         Call::Repair => &[lengths, coordinate, coordinate, corner, corner, threshold, options],
-        Call::Edges => &[lengths, coordinate, corner],
+        Call::Edges | Call::Loops => &[lengths, coordinate, corner],
         Call::Check => &[lengths, corner, point_count],
         Call::Patches => &[lengths, coordinate, corner, label, label, label_count, patch_count],
         Call::Line => &[counts],

@@ -3,11 +3,14 @@
 use crate::case::{Call, Case};
 use crate::here::{Inputs, Reply};
 use crate::lent::Lent;
-use crate::there::Outcome;
+use crate::refuse;
+use crate::there::{self, Outcome};
 
-/// What is wrong: something in the reply, in a room, behind a room; repeated and thin faces exchanged, or all counted as one of the two; or the
-/// whole answer is that of another input, without one bit of the options or limits, with the threshold's neighbour, without the second count, or with
-/// a sum of the first two that has lost its 33rd bit.
+/// What is wrong: something in the reply, in a room, behind a room; repeated and thin faces exchanged, or all counted as one of the two; a short room
+/// told by its place in a list of the rooms of edges and loops together; 8 told as 7, or before 7; a boundary that is not simple refused by the edge
+/// call, or only where its work room is dirty; dirt left behind zeros; loops listed as they are walked; or the whole answer is that of another input,
+/// without one bit of the options or limits, with the threshold's neighbour, without the second count, or with a sum of the first two that has lost its
+/// 33rd bit.
 #[derive(Clone, Copy, PartialEq, Debug)]
 pub enum Fault {
     None,
@@ -30,6 +33,13 @@ pub enum Fault {
     AllThin,
     SecondLeftOut,
     SumWraps,
+    RoomOfBoth,
+    BowtieRefused,
+    BowtieRefusedInDirt,
+    EightAsSeven,
+    EightFirst,
+    DirtLeft,
+    LoopsWalked,
 }
 
 /// The faults that a call can have. The edge check and the line have no room to be cleared beside the last one.
@@ -38,11 +48,13 @@ pub fn faults(call: Call) -> Vec<Fault> {
     let mut all = vec![Number, Place, Count, Answer, WorkLeft, BehindStated, BehindRoom, BeforeRoom, RefusalWrites, InputChanged];
     match call {
         Call::Repair => all.extend([AnswerOfTwoFaces, NotCleared, Threshold, KindsExchanged, AllRepeated, AllThin]),
-        Call::Edges | Call::Patches => all.extend([AnswerOfTwoFaces, NotCleared]),
+        Call::Edges => all.extend([AnswerOfTwoFaces, NotCleared, RoomOfBoth, DirtLeft, BowtieRefused, BowtieRefusedInDirt]),
+        Call::Loops => all.extend([AnswerOfTwoFaces, NotCleared, RoomOfBoth, DirtLeft, EightAsSeven, EightFirst, LoopsWalked]),
+        Call::Patches => all.extend([AnswerOfTwoFaces, NotCleared]),
         Call::Check => all.push(AnswerOfTwoFaces),
         Call::Line => all.extend([SecondLeftOut, SumWraps]),
     }
-    let bits = [6, 0, 0, 5, 0][call as usize];
+    let bits = [6, 0, 0, 0, 5, 0][call as usize];
     all.extend((0..bits).map(Without));
     all
 }
@@ -61,10 +73,29 @@ pub fn play(case: &Case, outcome: &Outcome, rooms: &mut [Lent]) -> Reply {
     Reply { number: outcome.number, place: outcome.place, counts: outcome.counts.clone() }
 }
 
+/// Refused 8 at the lowest vertex at which the boundary is not simple, if there is one.
+fn eight(case: &Case) -> Option<Outcome> {
+    refuse::fault(case).map(|v| there::refused(case.call, 8, v))
+}
+
+/// Lists each loop as it is walked.
+fn turn(reply: &Reply, rooms: &mut [Lent]) {
+    let ends = rooms[1].entries::<u32>(reply.counts[1] as usize).to_vec();
+    let mut vertices = rooms[0].entries::<u32>(reply.counts[0] as usize).to_vec();
+    let mut first = 0;
+    for end in ends {
+        vertices[first..end as usize].reverse();
+        first = end as usize;
+    }
+    let (bytes, start) = rooms[0].all_mut();
+    vertices.iter().enumerate().for_each(|(i, v)| bytes[start + 4 * i..start + 4 * i + 4].copy_from_slice(&v.to_ne_bytes()));
+}
+
 impl Fault {
-    /// The case whose answer is given for this one, if the fault is of that kind.
-    pub fn other(self, case: &Case) -> Option<Case> {
+    /// The outcome that is given for the wanted one, if the fault is of that kind: that of another case, or a refusal for the boundary.
+    pub fn other(self, case: &Case, wanted: &Outcome) -> Option<Outcome> {
         let mut other = case.clone();
+        let dirty = case.rooms.last().is_some_and(|work| work.dirt != 0);
         match self {
             Fault::Without(bit) => {
                 other.options &= !(1 << bit);
@@ -73,9 +104,12 @@ impl Fault {
             Fault::Threshold => other.threshold = if case.threshold < 1.0 { case.threshold.next_up() } else { case.threshold.next_down() },
             Fault::SecondLeftOut if case.counts.len() > 1 => other.counts[1] = 0,
             Fault::SumWraps if case.counts.len() > 1 => (other.counts[0], other.counts[1]) = (case.counts[0].wrapping_add(case.counts[1]), 0),
+            Fault::BowtieRefused if wanted.number == 0 => return eight(case),
+            Fault::BowtieRefusedInDirt if wanted.number == 0 && dirty => return eight(case),
+            Fault::EightFirst if wanted.number == 7 => return eight(case),
             _ => return None,
         }
-        Some(other)
+        Some(there::outcome(&other))
     }
 
     /// Alters a reply, an input or a room, where the case gives occasion.
@@ -85,6 +119,9 @@ impl Fault {
         let work = stated[last].1 as usize;
         if accepted && case.call == Call::Repair {
             self.recount(&mut rooms[2]);
+        }
+        if accepted && self == Fault::LoopsWalked {
+            turn(reply, rooms);
         }
         // Flips a bit of the last byte of entry i of room k.
         let mut flip = |k: usize, i: i64| {
@@ -102,6 +139,10 @@ impl Fault {
             Fault::BehindStated if accepted && lengths[last] > work => flip(last, work as i64),
             Fault::BehindRoom => flip(0, lengths[0] as i64),
             Fault::BeforeRoom => flip(last, -1),
+            Fault::DirtLeft if accepted && case.rooms[last].dirt != 0 && case.rooms[last].front > 0 => flip(last, work as i64 - 1),
+            Fault::RoomOfBoth if reply.number == 6 && case.call == Call::Loops => reply.place += 3,
+            Fault::RoomOfBoth if reply.number == 6 && reply.place as usize == last => reply.place = 5,
+            Fault::EightAsSeven if reply.number == 8 => reply.number = 7,
             Fault::RefusalWrites if !accepted && lengths[last] > 0 => flip(last, lengths[last] as i64 - 1),
             Fault::InputChanged => input.faces.all_mut().0[40] ^= 1,
             _ => {}

@@ -158,4 +158,17 @@ fn rooms(case: &mut Case, random: &mut Random) {
             room.most = 4096;
         }
     }
+    if case.call != Call::Line && random.one_in(3) {
+        let front = front(case, random);
+        case.rooms.last_mut().expect("a work room").front = front;
+    }
+}
+
+/// How many entries of a work room are zero in front: any number, or about as many as a table of edges takes, with one or four rows of a point each.
+fn front(case: &Case, random: &mut Random) -> u64 {
+    let (p, f) = (case.p(), case.f());
+    let any = random.below(1 + case.stated().last().expect("a work room").1.min(4096) as usize) as u64;
+    let table = 15u64.saturating_mul(f).saturating_add(p);
+    let rows = table.saturating_add(3u64.saturating_mul(p));
+    random.choose(&[any, table, table.saturating_add(1), rows, rows.saturating_add(1)])
 }

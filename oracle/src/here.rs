@@ -26,8 +26,9 @@ unsafe extern "C" {
     fn shell_repair(points: *const f64, _: usize, faces: *const u32, _: usize, s: f64, options: u32,
         out_points: *mut f64, _: usize, out_faces: *mut u32, _: usize, report: *mut u32, _: usize, work: *mut u32, _: usize) -> Given<3>;
     fn shell_edges(points: *const f64, _: usize, faces: *const u32, _: usize,
-        edges: *mut u32, _: usize, lengths: *mut f64, _: usize, face_edges: *mut u32, _: usize,
-        loop_vertices: *mut u32, _: usize, loop_ends: *mut u32, _: usize, work: *mut u32, _: usize) -> Given<5>;
+        edges: *mut u32, _: usize, lengths: *mut f64, _: usize, face_edges: *mut u32, _: usize, work: *mut u32, _: usize) -> Given<3>;
+    fn shell_loops(points: *const f64, _: usize, faces: *const u32, _: usize,
+        loop_vertices: *mut u32, _: usize, loop_ends: *mut u32, _: usize, work: *mut u32, _: usize) -> Given<2>;
     fn shell_check(point_count: u64, faces: *const u32, _: usize, work: *mut u32, _: usize) -> Given<1>;
     fn shell_patches(points: *const f64, _: usize, faces: *const u32, _: usize, labels: *const u32, _: usize, patch_count: u64,
         limits: u32, min_faces: u64, min_area: f64, min_aabb_diagonal: f64, min_area_fraction: f64, keep_largest_n: u64,
@@ -40,6 +41,7 @@ pub fn has(call: Call) -> bool {
     match call {
         Call::Repair => cfg!(has_repair),
         Call::Edges => cfg!(has_edges),
+        Call::Loops => cfg!(has_loops),
         Call::Check => cfg!(has_check),
         Call::Patches => cfg!(has_patches),
         Call::Line => cfg!(has_line),
@@ -77,6 +79,8 @@ pub fn run(case: &Case, input: &mut Inputs, rooms: &mut [Lent]) -> Option<Reply>
         Call::Repair => Some(repair(case, input, rooms)),
         #[cfg(has_edges)]
         Call::Edges => Some(edges(input, rooms)),
+        #[cfg(has_loops)]
+        Call::Loops => Some(loops(input, rooms)),
         #[cfg(has_check)]
         Call::Check => Some(check(case, input, rooms)),
         #[cfg(has_patches)]
@@ -121,11 +125,24 @@ fn repair(case: &Case, input: &mut Inputs, rooms: &mut [Lent]) -> Reply {
 #[rustfmt::skip]
 fn edges(input: &mut Inputs, rooms: &mut [Lent]) -> Reply {
     let Inputs { points, faces, .. } = input;
-    let [edges, lengths, face_edges, loop_vertices, loop_ends, work] = rooms else { unreachable!() };
+    let [edges, lengths, face_edges, work] = rooms else { unreachable!() };
     reply(unsafe {
         shell_edges(
             points.pointer(), points.length(), faces.pointer(), faces.length(),
             edges.pointer(), edges.length(), lengths.pointer(), lengths.length(), face_edges.pointer(), face_edges.length(),
+            work.pointer(), work.length(),
+        )
+    })
+}
+
+#[cfg(has_loops)]
+#[rustfmt::skip]
+fn loops(input: &mut Inputs, rooms: &mut [Lent]) -> Reply {
+    let Inputs { points, faces, .. } = input;
+    let [loop_vertices, loop_ends, work] = rooms else { unreachable!() };
+    reply(unsafe {
+        shell_loops(
+            points.pointer(), points.length(), faces.pointer(), faces.length(),
             loop_vertices.pointer(), loop_vertices.length(), loop_ends.pointer(), loop_ends.length(), work.pointer(), work.length(),
         )
     })

@@ -1,4 +1,4 @@
-//! One large mesh with the defects of a scan, through repair, edges, check and patches: every room compared once.
+//! One large mesh with the defects of a scan, through repair, edges, loops, check and patches: every room compared once.
 
 use crate::case::{Call, Case, Filter, Room};
 use crate::meshes::{self, Mesh};
@@ -49,19 +49,25 @@ pub fn asked(call: Call, points: &[f64], faces: &[u32], options: u32) -> Case {
     let last = case.rooms.len() - 1;
     for (k, room) in case.rooms.iter_mut().enumerate() {
         let dirt = if k == last && options % 2 == 1 { 0 } else { 7 + k as u64 };
-        *room = Room { extra: 5, most: 1 << 28, dirt };
+        *room = Room { extra: 5, most: 1 << 28, dirt, front: 0 };
     }
     case
 }
 
 /// Whether a case is the same in the library and in the Rust; says how large it was.
 fn same(case: &Case) -> bool {
-    let what = compare::difference(case, &there::outcome(case), None);
-    println!("{} with options {}, P = {}, F = {}: {}", case.call.name(), case.options, case.p(), case.f(), what.as_deref().unwrap_or("the same"));
+    let wanted = there::outcome(case);
+    let what = compare::difference(case, &wanted, None);
+    let end = if wanted.number == 0 { "accepted".to_string() } else { format!("refused {}", wanted.number) };
+    let (call, options, p, f) = (case.call.name(), case.options, case.p(), case.f());
+    println!("{call} with options {options}, P = {p}, F = {f}, {end}: {}", what.as_deref().unwrap_or("the same"));
     what.is_none()
 }
 
-/// The large mesh through each call that the library has; edges of the mended one, with a zero and with a dirty work room.
+/// Edges and loops, with a zero and with a dirty work room.
+const LISTED: [(Call, u32); 4] = [(Call::Edges, 1), (Call::Edges, 0), (Call::Loops, 1), (Call::Loops, 0)];
+
+/// The large mesh through each call that the library has; edges and loops of the mended one, and of one that keeps its bowties.
 pub fn run(faces: usize) -> ExitCode {
     let mesh = scanned(faces, &mut Random::new(1));
     let points: Vec<f64> = mesh.points.into_iter().flatten().collect();
@@ -70,10 +76,15 @@ pub fn run(faces: usize) -> ExitCode {
     for options in [63, 55, 0] {
         all &= same(&asked(Call::Repair, &points, &triples, options));
     }
+    let (tied_points, tied_triples, _) = there::mended(&asked(Call::Repair, &points, &triples, 55));
     let (points, triples, counts) = there::mended(&asked(Call::Repair, &points, &triples, 63));
     println!("report {counts:?}");
-    for (call, options) in [(Call::Edges, 1), (Call::Edges, 0), (Call::Check, 0), (Call::Patches, 0)] {
+    for (call, options) in LISTED.into_iter().chain([(Call::Check, 0), (Call::Patches, 0)]) {
         all &= !here::has(call) || same(&asked(call, &points, &triples, options));
+    }
+    println!("with its bowties");
+    for (call, options) in LISTED {
+        all &= !here::has(call) || same(&asked(call, &tied_points, &tied_triples, options));
     }
     if all { ExitCode::SUCCESS } else { ExitCode::from(1) }
 }

@@ -25,14 +25,12 @@ fn bytes_mut(words: &mut [u64]) -> &mut [u8] {
 }
 
 impl Lent {
-    /// A room of `length` entries of `size` bytes. With `dirt` 0 its stated entries are zero; whatever is behind them, and the margins, never are.
-    pub fn room(size: usize, length: usize, stated: u128, dirt: u64) -> Self {
+    /// A room of `length` entries of `size` bytes. Its first `clean` entries are zero; whatever is behind them, and the margins, never are.
+    pub fn room(size: usize, length: usize, clean: u128, dirt: u64) -> Self {
         let mut random = Random::new(dirt);
         let mut words: Vec<u64> = (0..2 * MARGIN + (size * length).div_ceil(8)).map(|_| random.next() | 0x0101_0101_0101_0101).collect();
-        if dirt == 0 {
-            let clean = size * (length as u128).min(stated) as usize;
-            bytes_mut(&mut words)[8 * MARGIN..8 * MARGIN + clean].fill(0);
-        }
+        let clean = size * (length as u128).min(clean) as usize;
+        bytes_mut(&mut words)[8 * MARGIN..8 * MARGIN + clean].fill(0);
         Lent { before: words.clone(), words, size, length, null: dirt & 1 == 1 }
     }
 

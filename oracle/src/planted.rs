@@ -1,7 +1,7 @@
-//! Meshes of more than 4,096 faces with a fault planted somewhere, through the edge call with a zero and with a dirty work room: number and place of
-//! the refusal, and every buffer.
+//! Meshes of more than 4,096 faces with a fault planted somewhere, through the edge call and the loop call with a zero work room, with a dirty one, and
+//! with two that are zero in front: number and place of the refusal, and every buffer.
 
-use crate::case::Call;
+use crate::case::{Call, Case};
 use crate::meshes::Mesh;
 use crate::random::Random;
 use crate::{compare, large, shapes, there};
@@ -35,27 +35,48 @@ fn planted(random: &mut Random) -> Mesh {
     if random.one_in(2) { shapes::anyhow(mesh, random) } else { mesh }
 }
 
-/// So many meshes; a run in which one of the three ends is never met fails too.
+/// The work rooms that a mesh is tried in, and what they are: zero, dirty, and zero in front, up to the end of the table or of the rows behind it, and one
+/// entry less, by turns.
+fn rooms(case: &Case, seed: u64) -> [(&'static str, u64, u64); 4] {
+    let (table, turn) = (15 * case.f() + case.p() + 1, seed % 2);
+    let rows = table + 3 * case.p();
+    [("zero", 0, 0), ("dirty", 7, 0), ("zero in front", 7, table - turn), ("further zero in front", 7, rows - 1 + turn)]
+}
+
+/// The case in each of its work rooms; what differs first.
+fn difference(mut case: Case, seed: u64, expected: &there::Outcome) -> Option<String> {
+    let last = case.rooms.len() - 1;
+    for (what, dirt, front) in rooms(&case, seed) {
+        (case.rooms[last].dirt, case.rooms[last].front) = (dirt, front);
+        if let Some(found) = compare::difference(&case, expected, None) {
+            return Some(format!("{}, {what} work room, F = {}: {found}", case.call.name(), case.f()));
+        }
+    }
+    None
+}
+
+/// So many meshes; a run in which one of the ends of either call is never met fails too.
 pub fn run(meshes: u64) -> ExitCode {
-    let mut ends: BTreeMap<u32, usize> = [(0, 0), (7, 0), (8, 0)].into();
+    let mut ends: BTreeMap<(&str, u32), usize> =
+        [(("edges", 0), 0), (("edges", 7), 0), (("loops", 0), 0), (("loops", 7), 0), (("loops", 8), 0)].into();
     for seed in 0..meshes {
         let mesh = planted(&mut Random::new(seed));
         let points: Vec<f64> = mesh.points.into_iter().flatten().collect();
         let triples: Vec<u32> = mesh.faces.into_iter().flatten().collect();
-        for options in [0, 1] {
-            let case = large::asked(Call::Edges, &points, &triples, options);
+        for call in [Call::Edges, Call::Loops] {
+            let case = large::asked(call, &points, &triples, 0);
             let expected = there::outcome(&case);
-            if let Some(what) = compare::difference(&case, &expected, None) {
-                println!("planted mesh {seed}, {} work room, F = {}: {what}", if options == 0 { "dirty" } else { "zero" }, case.f());
+            if let Some(what) = difference(case, seed, &expected) {
+                println!("planted mesh {seed}, {what}");
                 return ExitCode::from(1);
             }
-            *ends.entry(expected.number).or_default() += 1;
+            *ends.entry((call.name(), expected.number)).or_default() += 1;
         }
     }
     let told: Vec<String> = ends
         .iter()
-        .map(|(number, times)| format!("{times} {}", if *number == 0 { "accepted".into() } else { format!("refused {number}") }))
+        .map(|((call, number), times)| format!("{call} {times} {}", if *number == 0 { "accepted".into() } else { format!("refused {number}") }))
         .collect();
-    println!("planted meshes: {}; the same in each", told.join(", "));
+    println!("planted meshes: {}; the same in each work room", told.join(", "));
     if ends.values().all(|&times| times > 0) { ExitCode::SUCCESS } else { ExitCode::from(1) }
 }

@@ -40,7 +40,8 @@ pub fn shown(case: &Case) -> String {
         text += "  what is empty is NULL\n";
     }
     for (k, name) in case.call.rooms().iter().enumerate() {
-        let held = if case.rooms[k].dirt == 0 { "clean".to_string() } else { format!("dirty by {}", case.rooms[k].dirt) };
+        let behind = if case.rooms[k].front == 0 { String::new() } else { format!(" behind {} zeros", case.rooms[k].front) };
+        let held = if case.rooms[k].dirt == 0 { "clean".to_string() } else { format!("dirty by {}{behind}", case.rooms[k].dirt) };
         text += &format!("  room {name}: {} entries, {} stated, {held}\n", lengths[k], case.stated()[k].1);
     }
     if case.call == Call::Repair && case.points.len() % 3 == 0 && case.faces.len() % 3 == 0 {

@@ -1,8 +1,9 @@
 //! Recorded answers, in the word form of tests/cases/FORMAT.md, against what the harness expects: so its own refusals and its Rust are tested too.
 //! They are document 01's, with one count of degenerate faces: a report room is lent one entry longer, a line gets the count in two parts, and of a
-//! report the sum of the two is compared.
+//! report the sum of the two is compared. Edges and loops are one call there, of six rooms: a record of it is asked of both calls, as far as it speaks
+//! of each.
 
-use crate::case::{CALLS, Call, Case};
+use crate::case::{CALLS, Call, Case, EXACT, Room};
 use crate::{compare, print, there};
 use std::process::ExitCode;
 
@@ -54,8 +55,8 @@ fn in_parts(counts: Vec<u32>, turn: usize) -> Vec<u32> {
     [&[part, sum - part], rest].concat()
 }
 
-/// The case that a record holds; `turn` says how a line's count is parted.
-fn read(words: &mut Words, call: Call, turn: usize) -> Case {
+/// The cases that a record holds, one or for edges two; `turn` says how a line's count is parted.
+fn read(words: &mut Words, call: Call, turn: usize) -> Vec<Case> {
     let mut case = Case::new(call);
     match call {
         Call::Repair => {
@@ -63,7 +64,7 @@ fn read(words: &mut Words, call: Call, turn: usize) -> Case {
             case.threshold = f64::from_bits(words.one());
             (case.points, case.faces) = (words.floats(), words.numbers());
         }
-        Call::Edges => (case.points, case.faces) = (words.floats(), words.numbers()),
+        Call::Edges | Call::Loops => (case.points, case.faces) = (words.floats(), words.numbers()),
         Call::Check => (case.point_count, case.faces) = (words.one(), words.numbers()),
         Call::Patches => {
             (case.points, case.faces, case.labels, case.patch_count) = (words.floats(), words.numbers(), words.numbers(), words.one());
@@ -74,25 +75,72 @@ fn read(words: &mut Words, call: Call, turn: usize) -> Case {
         }
         Call::Line => case.counts = in_parts(words.numbers(), turn),
     }
-    let stated = case.stated();
-    for (k, length) in words.array().into_iter().enumerate() {
-        let longer = (call == Call::Repair && k == 2) as i128;
-        case.rooms[k].extra = length as i128 + longer - stated[k].1 as i128;
-        case.rooms[k].dirt = 0x5a;
+    let mut lengths = words.array();
+    if call == Call::Repair {
+        lengths[2] += 1;
     }
-    case
+    let mut cases = vec![case.clone()];
+    if call == Call::Edges {
+        cases.push(Case { call: Call::Loops, ..case });
+    }
+    cases.iter_mut().for_each(|case| lend(case, &lengths));
+    cases
 }
 
-/// A recorded answer with the harness's own: number, place and rows.
-fn as_recorded(case: &Case, answers: &mut Words) -> bool {
-    let outcome = there::outcome(case);
-    let (number, place, rows) = (answers.one(), answers.one(), answers.one());
-    let rows: Vec<Vec<u64>> = (0..rows)
-        .map(|_| {
+/// Which of the rooms of a record are a call's.
+fn own(call: Call) -> Vec<usize> {
+    match call {
+        Call::Edges => vec![0, 1, 2, 5],
+        Call::Loops => vec![3, 4, 5],
+        _ => (0..call.rooms().len()).collect(),
+    }
+}
+
+/// Gives a case its rooms of the recorded ones, dirty.
+fn lend(case: &mut Case, lengths: &[u64]) {
+    let lent = |((_, stated), k): ((usize, u128), usize)| Room { extra: lengths[k] as i128 - stated as i128, dirt: 0x5a, ..EXACT };
+    case.rooms = case.stated().into_iter().zip(own(case.call)).map(lent).collect();
+}
+
+/// A recorded answer: number, place and rows.
+#[derive(Clone)]
+struct Answer {
+    number: u64,
+    place: u64,
+    rows: Vec<Vec<u64>>,
+}
+
+impl Answer {
+    /// The answer of the next record.
+    fn read(answers: &mut Words) -> Self {
+        let (number, place, rows) = (answers.one(), answers.one(), answers.one());
+        let row = |_| {
             let count = answers.one();
             answers.row(count)
-        })
-        .collect();
+        };
+        Answer { number, place, rows: (0..rows).map(row).collect() }
+    }
+
+    /// What it says of a call, if it says anything. Of edges and loops, which are one call there, 6 speaks of the call that has the room, and 8 of the loop
+    /// call.
+    fn of(&self, call: Call) -> Option<Answer> {
+        let own = own(call);
+        let mut answer = self.clone();
+        match self.number {
+            0 if call == Call::Edges || call == Call::Loops => answer.rows = own[..own.len() - 1].iter().map(|&k| self.rows[k].clone()).collect(),
+            6 => answer.place = own.iter().position(|&k| k as u64 == self.place)? as u64,
+            8 if call == Call::Edges => return None,
+            _ => {}
+        }
+        Some(answer)
+    }
+}
+
+/// A recorded answer with the harness's own: number, place and rows. Where the record does not speak of the call there is nothing to compare, but that
+/// the edge call accepts where the record has 8.
+fn as_recorded(case: &Case, recorded: &Answer) -> bool {
+    let outcome = there::outcome(case);
+    let Some(Answer { number, place, rows }) = recorded.of(case.call) else { return recorded.number != 8 || outcome.number == 0 };
     if (number, place) != (outcome.number as u64, outcome.place as u64) {
         return false;
     }
@@ -112,20 +160,23 @@ fn as_recorded(case: &Case, answers: &mut Words) -> bool {
 /// Runs all records, and prints those that differ.
 pub fn run(cases: &str, answers: &str) -> ExitCode {
     let (mut cases, mut answers) = (Words::load(cases), Words::load(answers));
-    let (mut same, mut different) = ([0; 5], 0);
+    let (mut same, mut different) = ([0; CALLS.len()], 0);
     while cases.at < cases.words.len() {
         let call = [Call::Repair, Call::Edges, Call::Check, Call::Patches, Call::Line][cases.one() as usize - 1];
         let end = cases.one() as usize + cases.at;
         answers.one();
         let after = answers.one() as usize + answers.at;
-        let case = read(&mut cases, call, same[call as usize]);
-        let wrong =
-            if as_recorded(&case, &mut answers) { compare::difference(&case, &there::outcome(&case), None) } else { Some("not as recorded".into()) };
-        if let Some(what) = wrong {
-            println!("recorded: {what}\n{}", print::shown(&case));
-            different += 1;
-        } else {
-            same[call as usize] += 1;
+        let asked = read(&mut cases, call, same[call as usize]);
+        let answer = Answer::read(&mut answers);
+        for case in asked {
+            let wrong =
+                if as_recorded(&case, &answer) { compare::difference(&case, &there::outcome(&case), None) } else { Some("not as recorded".into()) };
+            if let Some(what) = wrong {
+                println!("recorded: {what}\n{}", print::shown(&case));
+                different += 1;
+            } else {
+                same[case.call as usize] += 1;
+            }
         }
         (cases.at, answers.at) = (end, after);
     }

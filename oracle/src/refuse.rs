@@ -1,5 +1,5 @@
-//! Document 01's refusals in plain words, with eleven counts as document 02 has them: the number and place that a call must give back, or nothing if
-//! it must accept. Written from the documents alone, so that it shares nothing with the library.
+//! Document 01's refusals in plain words, with eleven counts and with edges and loops in two calls, as document 02 has them: the number and place that
+//! a call must give back, or nothing if it must accept. Written from the documents alone, so that it shares nothing with the library.
 
 use crate::case::{Call, Case, MOST_FACES, MOST_PATCHES, MOST_POINTS, NO_PATCH, REPORT};
 use std::collections::BTreeMap;
@@ -95,19 +95,24 @@ fn occurrences(case: &Case) -> BTreeMap<(u32, u32), usize> {
     times
 }
 
-/// 7: the edge call, some edge occurs more than twice.
+/// 7: the edge call and the loop call, some edge occurs more than twice.
 fn crowded(case: &Case) -> Refusal {
-    if case.call != Call::Edges {
+    if case.call != Call::Edges && case.call != Call::Loops {
         return None;
     }
     occurrences(case).values().position(|&times| times > 2).map(|i| (7, i as u64))
 }
 
-/// 8: the edge call, some vertex does not begin as many boundary edges as it ends, or more than one.
+/// 8: the loop call alone, the boundary is not simple.
 fn boundary(case: &Case) -> Refusal {
-    if case.call != Call::Edges {
+    if case.call != Call::Loops {
         return None;
     }
+    fault(case).map(|v| (8, v))
+}
+
+/// The lowest vertex that does not begin as many boundary edges as it ends, or begins more than one; nothing where the boundary is simple.
+pub fn fault(case: &Case) -> Option<u64> {
     let times = occurrences(case);
     let mut ends: BTreeMap<u32, (usize, usize)> = BTreeMap::new();
     for (a, b) in case.triples().into_iter().flat_map(steps) {
@@ -116,5 +121,5 @@ fn boundary(case: &Case) -> Refusal {
             ends.entry(b).or_default().1 += 1;
         }
     }
-    ends.into_iter().find(|&(_, (begun, ended))| begun != ended || begun > 1).map(|(v, _)| (8, v as u64))
+    ends.into_iter().find(|&(_, (begun, ended))| begun != ended || begun > 1).map(|(v, _)| v as u64)
 }

@@ -35,7 +35,7 @@ fn seen(call: Call, fault: Fault) -> bool {
     };
     let faces = found.case.f();
     let small = match fault {
-        Fault::AnswerOfTwoFaces => faces == 2,
+        Fault::AnswerOfTwoFaces | Fault::BowtieRefused | Fault::BowtieRefusedInDirt | Fault::EightAsSeven | Fault::EightFirst => faces == 2,
         Fault::Without(_) => faces <= 3,
         _ => faces <= 1,
     };

@@ -143,9 +143,10 @@ impl Search<'_> {
     fn rooms(&mut self) -> bool {
         let mut found = false;
         for k in 0..self.case.rooms.len() {
-            let Room { extra, most, dirt } = self.case.rooms[k];
+            let Room { extra, most, dirt, front } = self.case.rooms[k];
             let whole = most == EXACT.most;
             found |= dirt != 0 && self.stays(|c| c.rooms[k].dirt = 0);
+            found |= [0, 1, front / 2].into_iter().any(|n| n < front && self.stays(|c| c.rooms[k].front = n));
             if self.case.stated()[k].1 < 1 << 20 {
                 found |= !whole && [0, -1].into_iter().any(|extra| self.stays(|c| c.rooms[k] = Room { extra, ..EXACT }));
                 found |= whole && [0, extra.signum(), extra / 2].into_iter().any(|n| n.abs() < extra.abs() && self.stays(|c| c.rooms[k].extra = n));

@@ -1,6 +1,7 @@
 //! How often each refusal and each part of an answer came up, so that a reader sees what was tried.
 
 use crate::case::{Call, Case, REPORT};
+use crate::refuse;
 use crate::there::Outcome;
 use std::cmp::Ordering;
 use std::collections::{BTreeMap, BTreeSet};
@@ -47,7 +48,12 @@ impl Tally {
                 Ordering::Greater => "longer",
             };
             *self.rooms.entry(size).or_default() += 1;
-            *self.rooms.entry(if room.dirt == 0 { "clean" } else { "dirty" }).or_default() += 1;
+            let held = match (room.dirt, room.front) {
+                (0, _) => "clean",
+                (_, 0) => "dirty",
+                _ => "dirty behind zeros",
+            };
+            *self.rooms.entry(held).or_default() += 1;
         }
         if outcome.number == 0 {
             self.answered(case, outcome);
@@ -66,9 +72,13 @@ impl Tally {
             }
             Call::Edges => {
                 count("some edge", counts[0] > 0);
-                count("one loop", counts[4] == 1);
-                count("several loops", counts[4] > 1);
-                count("a loop of one vertex", (0..counts[4] as usize).any(|i| number(&rows[4], i) == i as u32 + 1));
+                count("a boundary that is not simple", refuse::fault(case).is_some());
+            }
+            Call::Loops => {
+                count("no loop", counts[1] == 0);
+                count("one loop", counts[1] == 1);
+                count("several loops", counts[1] > 1);
+                count("a loop of one vertex", (0..counts[1] as usize).any(|i| number(&rows[1], i) == i as u32 + 1));
             }
             Call::Check => {
                 count("yes", counts[0] == 1);

@@ -3,7 +3,7 @@
 use crate::case::{Call, Case, REPORT};
 use crate::refuse;
 use crate::time::LINES;
-use engeom::edges::MeshEdges;
+use engeom::edges::{MeshEdges, edge_key, naive_edges, unique_edges};
 use engeom::normals::compute_face_normal;
 use engeom::patches::{PatchFilter, PatchLabels, PatchStats};
 use engeom::repair::{RepairOpts, RepairReport, repair_buffers};
@@ -23,12 +23,12 @@ pub struct Outcome {
 pub fn outcome(case: &Case) -> Outcome {
     if let Some((number, place)) = refuse::refusal(case) {
         agree(case, number, place);
-        let counts = vec![0; answer_counts(case.call)];
-        return Outcome { number, place: place as u32, counts, rows: vec![] };
+        return refused(case.call, number, place);
     }
     let (counts, rows) = match case.call {
         Call::Repair => repair(case),
         Call::Edges => edges(case),
+        Call::Loops => loops(case),
         Call::Check => (vec![sound(case) as u64], vec![]),
         Call::Patches => patches(case),
         Call::Line => line(case),
@@ -36,11 +36,16 @@ pub fn outcome(case: &Case) -> Outcome {
     Outcome { number: 0, place: 0, counts, rows }
 }
 
+/// The outcome of a refused call.
+pub fn refused(call: Call, number: u32, place: u64) -> Outcome {
+    Outcome { number, place: place as u32, counts: vec![0; answer_counts(call)], rows: vec![] }
+}
+
 /// How many counts a call gives back beside number and place.
 fn answer_counts(call: Call) -> usize {
     match call {
-        Call::Repair | Call::Patches => 3,
-        Call::Edges => 5,
+        Call::Repair | Call::Edges | Call::Patches => 3,
+        Call::Loops => 2,
         Call::Check | Call::Line => 1,
     }
 }
@@ -49,7 +54,7 @@ fn answer_counts(call: Call) -> usize {
 fn agree(case: &Case, number: u32, place: u64) {
     let text = match (case.call, number) {
         (Call::Repair, 5) => repair_buffers(&points(case), &case.triples(), &RepairOpts::none()).err(),
-        (Call::Edges, 7) => MeshEdges::new(&mesh(case)).err(),
+        (Call::Edges | Call::Loops, 7) => MeshEdges::new(&mesh(case)).err(),
         (Call::Patches, 9) => labels(case).err(),
         (Call::Patches, 10) => labels(case).unwrap().compute_stats(&mesh(case)).err(),
         _ => return,
@@ -146,24 +151,38 @@ fn in_order(mut loops: Vec<Vec<u32>>) -> Vec<Vec<u32>> {
     loops
 }
 
-/// `MeshEdges`: counts and rows.
+/// Edges, lengths and face edges by the Rust's `naive_edges` and `unique_edges`, which end also where the boundary is not simple: a face edge is its
+/// position among the unique ones.
+fn listed(mesh: &Mesh3) -> (Vec<[u32; 2]>, Vec<f64>, Vec<u32>) {
+    let all = naive_edges(mesh.faces());
+    let unique: Vec<[u32; 2]> = unique_edges(&all).into_iter().map(|(edge, _)| edge).collect();
+    let lengths = unique.iter().map(|edge| (mesh.points()[edge[1] as usize] - mesh.points()[edge[0] as usize]).norm()).collect();
+    let positions = all.iter().map(|edge| unique.binary_search(&edge_key(edge)).expect("an edge of a face") as u32).collect();
+    (unique, lengths, positions)
+}
+
+/// The edge call: counts and rows. Where `MeshEdges` may be asked too, it must list the same.
 fn edges(case: &Case) -> (Vec<u64>, Vec<Vec<u8>>) {
     let mesh = mesh(case);
-    let answer = MeshEdges::new(&mesh).expect("an accepted mesh");
-    let loops = in_order(answer.boundary_loops);
+    let (edges, lengths, positions) = listed(&mesh);
+    let rows = vec![numbers(edges.into_iter().flatten()), floats(lengths), numbers(positions)];
+    if refuse::fault(case).is_none() {
+        let answer = MeshEdges::new(&mesh).expect("an accepted mesh");
+        let same = [numbers(answer.edges.into_iter().flatten()), floats(answer.edge_lengths), numbers(answer.face_edges.into_iter().flatten())];
+        assert!(rows == same, "the Rust lists other edges by its parts");
+    }
+    (rows.iter().zip([4, 8, 4]).map(|(row, size)| (row.len() / size) as u64).collect(), rows)
+}
+
+/// The loop call, by `MeshEdges`: counts and rows.
+fn loops(case: &Case) -> (Vec<u64>, Vec<Vec<u8>>) {
+    let loops = in_order(MeshEdges::new(&mesh(case)).expect("an accepted mesh").boundary_loops);
     let ends = loops.iter().scan(0, |total, l| {
         *total += l.len() as u32;
         Some(*total)
     });
-    let rows = vec![
-        numbers(answer.edges.iter().flatten().copied()),
-        floats(answer.edge_lengths),
-        numbers(answer.face_edges.into_iter().flatten()),
-        numbers(loops.iter().flatten().copied()),
-        numbers(ends),
-    ];
-    let counts = rows.iter().zip([4, 8, 4, 4, 4]).map(|(row, size)| (row.len() / size) as u64).collect();
-    (counts, rows)
+    let rows = vec![numbers(loops.iter().flatten().copied()), numbers(ends)];
+    (rows.iter().map(|row| row.len() as u64 / 4).collect(), rows)
 }
 
 /// The edge check, which the Rust does not have: no face repeats a corner, and every directed edge is used at most once.
@@ -226,7 +245,7 @@ pub fn time<T>(case: &Case, median: impl FnOnce(&mut dyn FnMut()) -> T) -> T {
     let patches = || labels(case).unwrap().compute_stats(&mesh).map(|stats| filter.keep_flags(&stats));
     match case.call {
         Call::Repair => median(&mut || drop(repair_buffers(mesh.points(), mesh.faces(), &options))),
-        Call::Edges => median(&mut || drop(MeshEdges::new(&mesh))),
+        Call::Edges | Call::Loops => median(&mut || drop(MeshEdges::new(&mesh))),
         Call::Patches => median(&mut || drop(patches())),
         Call::Line => {
             let report = report(case);

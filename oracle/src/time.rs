@@ -2,7 +2,7 @@
 
 use crate::call_named;
 use crate::case::{Call, Case, Filter, REPORT};
-use crate::here::{self, Inputs, Reply};
+use crate::here::{self, Inputs};
 use crate::lent::Lent;
 use crate::meshes::Mesh;
 use crate::{generate, refuse, shapes, there};
@@ -86,17 +86,36 @@ fn asked(call: Call, mesh: Mesh) -> Case {
     case
 }
 
-/// Rooms of zeros, just large enough.
-fn rooms(case: &Case) -> Vec<Lent> {
-    case.stated().into_iter().map(|(size, stated)| Lent::bare(size, stated as usize)).collect()
+/// What is timed: a call, and for edges and loops together the loop call after it, in the same work room.
+struct Timed {
+    case: Case,
+    then: Option<Case>,
 }
 
-/// One call of the library; the report line many times.
-fn call(case: &Case, input: &mut Inputs, rooms: &mut [Lent]) -> Reply {
-    for _ in 1..if case.call == Call::Line { LINES } else { 1 } {
-        here::run(case, input, rooms);
+impl Timed {
+    /// Rooms of zeros, just large enough: those of the call, and those of the call after it but the work room.
+    fn rooms(&self) -> Vec<Lent> {
+        let more = self.then.iter().flat_map(|then| then.stated().into_iter().take(2));
+        self.case.stated().into_iter().chain(more).map(|(size, stated)| Lent::bare(size, stated as usize)).collect()
     }
-    here::run(case, input, rooms).expect("the library has the call")
+
+    /// One call of the library, and the one after it; the report line many times.
+    fn call(&self, input: &mut Inputs, rooms: &mut [Lent]) {
+        let own = self.case.rooms.len();
+        for _ in 0..if self.case.call == Call::Line { LINES } else { 1 } {
+            here::run(&self.case, input, &mut rooms[..own]).expect("the library has the call");
+        }
+        if let Some(then) = &self.then {
+            rooms[own - 1..].rotate_left(1);
+            here::run(then, input, &mut rooms[own - 1..]).expect("the library has the call");
+            rooms[own - 1..].rotate_right(1);
+        }
+    }
+
+    /// The number and place of the first refusal.
+    fn refusal(&self) -> Option<(u32, u64)> {
+        refuse::refusal(&self.case).or_else(|| self.then.as_ref().and_then(refuse::refusal))
+    }
 }
 
 /// How the library is lent its rooms.
@@ -111,20 +130,20 @@ enum Way {
 }
 
 /// The library's median, how many runs it is of, and the memory that the rooms and one run take.
-fn ours(case: &Case, way: Way) -> ((f64, usize), Option<f64>) {
+fn ours(timed: &Timed, way: Way) -> ((f64, usize), Option<f64>) {
     // Fresh rooms then come from the system at every size, and what that takes is counted.
     unsafe { mallopt(-3, 1 << 16) };
-    let mut input = Inputs::new(case);
-    let taken = memory(|| drop(call(case, &mut input, &mut rooms(case))));
-    let mut lent = rooms(case);
-    call(case, &mut input, &mut lent);
+    let mut input = Inputs::new(&timed.case);
+    let taken = memory(|| timed.call(&mut input, &mut timed.rooms()));
+    let mut lent = timed.rooms();
+    timed.call(&mut input, &mut lent);
     let time = median(|| {
         match way {
-            Way::Fresh => lent = rooms(case),
+            Way::Fresh => lent = timed.rooms(),
             Way::Reused => {}
             Way::Dirty => lent.iter_mut().for_each(Lent::soil),
         }
-        milliseconds(|| drop(call(case, &mut input, &mut lent)))
+        milliseconds(|| timed.call(&mut input, &mut lent))
     });
     (time, taken)
 }
@@ -139,62 +158,69 @@ fn theirs(case: &Case) -> ((f64, usize), Option<f64>) {
     (time, taken)
 }
 
-/// The Rust has no edge check, and may never end where the boundary is not simple.
+/// The Rust has no edge check; its edges and loops are one call, which may never end where the boundary is not simple.
 fn asks_the_rust(case: &Case) -> bool {
-    case.call != Call::Check && !matches!(refuse::refusal(case), Some((8, _)))
+    let lists = case.call == Call::Edges || case.call == Call::Loops;
+    let ends = !lists || matches!(refuse::refusal(case), Some((1..=7, _))) || refuse::fault(case).is_none();
+    case.call != Call::Check && ends
 }
 
 /// Shapes that are mended for the other calls, which would refuse them at once.
 const MENDED: [&str; 4] = ["scan", "numbered", "strip", "pinched"];
 
-/// The case of a call on a shape. A repair may be named with its options, as in repair16.
-fn case_of(name: &str, faces: usize, shape: &str) -> Option<Case> {
+/// A call on a shape. A repair may be named with its options, as in repair16; `both` is edges and then loops.
+fn timed(name: &str, faces: usize, shape: &str) -> Option<Timed> {
     let options = name.strip_prefix("repair").and_then(|text| text.parse().ok());
-    let call = if options.is_some() { Call::Repair } else { call_named(name)? };
+    let call = match name {
+        "both" => Call::Edges,
+        _ if options.is_some() => Call::Repair,
+        _ => call_named(name)?,
+    };
     let mut mesh = shapes::named(shape, faces)?;
     if call != Call::Repair && MENDED.contains(&shape) {
         let mut repair = asked(Call::Repair, mesh);
         repair.options = 63;
         mesh = here::mended(&repair);
     }
+    let then = (name == "both").then(|| asked(Call::Loops, mesh.clone()));
     let mut case = asked(call, mesh);
     case.options = options.unwrap_or(63);
-    Some(case)
+    Some(Timed { case, then })
 }
 
 /// Prints one median in milliseconds, of how many runs, the megabytes of one, and the number that the call gives back; a dash where there is none.
 /// The way is fresh, reused, dirty or rust.
 pub fn one(name: &str, faces: usize, shape: &str, way: &str) -> ExitCode {
-    let Some(case) = case_of(name, faces, shape) else {
+    let Some(timed) = timed(name, faces, shape) else {
         eprintln!(
-            "oracle: --time takes repair, repair with its options as in repair16, edges, check, patches or line, a number of faces, and a shape of --shapes"
+            "oracle: --time takes repair, repair with its options as in repair16, edges, loops, both, check, patches or line, a number of faces, and a shape of --shapes"
         );
         return ExitCode::from(2);
     };
     let ((time, runs), taken) = match way {
-        "fresh" => ours(&case, Way::Fresh),
-        "reused" => ours(&case, Way::Reused),
-        "dirty" => ours(&case, Way::Dirty),
-        "rust" if !asks_the_rust(&case) => ((f64::NAN, 0), None),
-        _ => theirs(&case),
+        "fresh" => ours(&timed, Way::Fresh),
+        "reused" => ours(&timed, Way::Reused),
+        "dirty" => ours(&timed, Way::Dirty),
+        "rust" if !asks_the_rust(&timed.case) => ((f64::NAN, 0), None),
+        _ => theirs(&timed.case),
     };
-    let time = if case.call == Call::Line { time / LINES as f64 } else { time };
-    let number = refuse::refusal(&case).map_or(0, |(number, _)| number);
+    let time = if timed.case.call == Call::Line { time / LINES as f64 } else { time };
+    let number = timed.refusal().map_or(0, |(number, _)| number);
     let dash = |x: Option<f64>| x.filter(|x| !x.is_nan()).map_or("-".to_string(), |x| format!("{x:.6}"));
     println!("{} {runs} {} {number}", dash(Some(time)), dash(taken));
     ExitCode::SUCCESS
 }
 
 /// Prints the library's times and the Rust's.
-fn told(name: &str, case: &Case) {
-    let line = |what: &str, (time, _): (f64, usize)| println!("{name}, {what}: {time:.2} ms, {:.1} ns a face", time * 1e6 / case.f() as f64);
-    if let Some((number, place)) = refuse::refusal(case) {
+fn told(name: &str, timed: &Timed) {
+    let line = |what: &str, (time, _): (f64, usize)| println!("{name}, {what}: {time:.2} ms, {:.1} ns a face", time * 1e6 / timed.case.f() as f64);
+    if let Some((number, place)) = timed.refusal() {
         println!("{name}: refused {number} at {place}");
     }
-    line("ours with clean rooms", ours(case, Way::Reused).0);
-    line("ours with dirty rooms", ours(case, Way::Dirty).0);
-    if asks_the_rust(case) {
-        line("the Rust", theirs(case).0);
+    line("ours with clean rooms", ours(timed, Way::Reused).0);
+    line("ours with dirty rooms", ours(timed, Way::Dirty).0);
+    if asks_the_rust(&timed.case) {
+        line("the Rust", theirs(&timed.case).0);
     } else {
         println!("{name}: the Rust has no answer");
     }
@@ -202,18 +228,18 @@ fn told(name: &str, case: &Case) {
 
 /// Times one call on a shape.
 pub fn run(call: &str, faces: usize, shape: &str) -> ExitCode {
-    let Some(mut case) = case_of(call, faces, shape).filter(|case| case.call != Call::Line) else {
-        eprintln!("oracle: --time takes repair, edges, check or patches, a number of faces, and a shape of --shapes");
+    let Some(mut timed) = timed(call, faces, shape).filter(|timed| timed.case.call != Call::Line) else {
+        eprintln!("oracle: --time takes repair, edges, loops, both, check or patches, a number of faces, and a shape of --shapes");
         return ExitCode::from(2);
     };
-    println!("{shape}, P = {}, F = {}", case.p(), case.f());
-    if case.call == Call::Repair {
-        case.options = 0;
-        told("repair with options 0", &case);
-        case.options = 63;
-        told("repair with options 63", &case);
+    println!("{shape}, P = {}, F = {}", timed.case.p(), timed.case.f());
+    if timed.case.call == Call::Repair {
+        timed.case.options = 0;
+        told("repair with options 0", &timed);
+        timed.case.options = 63;
+        told("repair with options 63", &timed);
     } else {
-        told(call, &case);
+        told(call, &timed);
     }
     ExitCode::SUCCESS
 }

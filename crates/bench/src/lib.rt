@@ -4,6 +4,7 @@ ghost use Rattle.root.specs.Root.{rootOf};
 ghost use Rattle.rules.specs.Mesh.{pointsOf};
 ghost use Rattle.rules.specs.Float as rule;
 ghost use Rattle.measure.specs.Measure.{numberOf, faceOf, Corners};
+ghost use Rattle.rows.specs.Retain.{RetainAsks, RetainGives};
 ghost use Rattle.flood.specs.Plan.{plan, FloodAsks};
 ghost use Rattle.flood.specs.Answers.{LabelGives};
 ghost use Rattle.table.specs.Table.{TableAsks, TableGives};
@@ -23,6 +24,15 @@ pub extern "C" fn bench_shape(points: &[f64], s: f64, a: u32, b: u32, c: u32) ->
     ensures { λ r. ⌜ r ≡ numberOf (rule.shape s (pointsOf (now (points .entry))) (faceOf a b c)) ⌝ }
 {
     measure::number(measure::shape(points, s, a, b, c))
+}
+
+// Faces closed up by flags.
+#[no_mangle]
+pub extern "C" fn bench_retain(faces: &mut [u32], work: &[u32], flags: usize, n: usize) -> usize
+    requires { ⌜ RetainAsks (now faces) (now work) flags n ⌝ }
+    ensures { λ r. ⌜ RetainGives 0 (now (faces .entry)) (now (work .entry)) flags n (now (faces .exit)) r ⌝ }
+{
+    rows::retain(faces, work, flags, n)
 }
 
 // The table of a face list.

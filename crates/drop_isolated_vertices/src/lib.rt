@@ -28,7 +28,7 @@ fn mark(faces: &[u32], n: usize, count: usize, work: &mut [u32])
     clear_used(faces, n, count, work);
 }
 
-// Gives each corner of the n faces the number that stands for it in `work`, from `numbers` on.
+// Gives each corner of the n faces the number that stands for it in `work`, from `numbers` on; one that keeps its number is not stored.
 fn renumber(faces: &mut [u32], n: usize, work: &[u32], numbers: usize)
     requires { ⌜ RenumberAsks (now faces) n (now work) numbers ⌝ }
     ensures { λ _. ⌜ RenumberGives (now (faces .entry)) n (now (work .entry)) numbers (now (faces .exit)) ⌝ }
@@ -36,7 +36,8 @@ fn renumber(faces: &mut [u32], n: usize, work: &[u32], numbers: usize)
     let m = 3 * n;
     let mut k = 0;
     while k < m {
-        faces[k] = work[numbers + faces[k] as usize];
+        let taken = work[numbers + faces[k] as usize];
+        rows::store(faces, k, taken);
         k += 1;
     }
 }

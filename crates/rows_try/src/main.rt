@@ -132,6 +132,16 @@ fn wiped_points(points: &mut [f64])
     show_points(points);
 }
 
+// The first flag that is not 0, and two stores, of which one changes nothing.
+fn stores(row: &mut [u32])
+    requires { ⌜ length (now row) ≡ 4 ⌝ }
+{
+    show::number(rows::first_flag(row, 0, 4) as u64);
+    rows::store(row, 2, 5);
+    rows::store(row, 3, 6);
+    show::row(row, row.len());
+}
+
 // Faces by flags: those that stay, and the number that each has then.
 fn faces(faces: &mut [u32], work: &mut [u32])
     requires { ⌜ length (now faces) ≡ 13 ⌝ }
@@ -168,6 +178,8 @@ fn main() {
     wiped(&mut room);
     let mut negative = [-0.0, -0.0, -0.0, -0.0, -0.0, -0.0, -0.0];
     wiped_points(&mut negative);
+    let mut short = [0, 0, 5, 0];
+    stores(&mut short);
     let mut corners = [1, 2, 3, 4, 5, 6, 7, 8, 9, 10, 11, 12, 13];
     let mut work = [1, 0, 1, 0, 0, 1, 77, 77, 77, 77];
     faces(&mut corners, &mut work);

@@ -82,14 +82,15 @@ fn split_all(points: &mut [f64], work: &mut [u32], count: usize, n: usize) -> Sp
     }
 }
 
-// Writes to each of the n corners the number that it takes.
+// Gives each of the n corners the number that it takes; one that keeps its number is not stored.
 fn rename(faces: &mut [u32], work: &[u32], leads: usize, numbers: usize, n: usize)
     requires { ⌜ RenameAsks (now faces) (now work) leads numbers n ⌝ }
     ensures { λ _. ⌜ RenameGives (now (faces .entry)) (now (work .entry)) leads numbers n (now (faces .exit)) ⌝ }
 {
     let mut id = 0;
     while id < n {
-        faces[id] = corner_numbers::new_corner(work, leads, numbers, n, id);
+        let taken = corner_numbers::new_corner(work, leads, numbers, n, id);
+        rows::store(faces, id, taken);
         id += 1;
     }
 }

@@ -16,46 +16,43 @@ mul-m : tie.Need-mul-m Inv-loop μ-loop
 mul-m c = search needs
 
 loop-holds : tie.Need-loop-holds Inv-loop μ-loop
-loop-holds c = begin (c .pre)
+loop-holds c = begin (c .before .before .pre)
 
-mul-faces : tie.Need-mul-faces Inv-loop μ-loop
-mul-faces c = omega (arith, turn (c .before .before .pre) (c .before .loop .inv) (c .loop-test .taken))
+mul-taken : tie.Need-mul-taken Inv-loop μ-loop
+mul-taken c = omega (arith, turn (c .before .before .before .before .pre) (c .before .loop .inv) (c .loop-test .taken))
 
-slice-read-faces : tie.Need-slice-read-faces Inv-loop μ-loop
-slice-read-faces c = omega (arith, turn (c .before .before .before .pre) (c .before .before .loop .inv) (c .before .loop-test .taken))
+slice-read-taken : tie.Need-slice-read-taken Inv-loop μ-loop
+slice-read-taken c = omega (arith, turn (c .before .before .before .before .before .pre) (c .before .before .loop .inv) (c .before .loop-test .taken))
 
-cast-faces : tie.Need-cast-faces Inv-loop μ-loop
-cast-faces c = omega (arith, turn (c .before .before .before .pre) (c .before .before .loop .inv) (c .before .loop-test .taken))
+cast-taken : tie.Need-cast-taken Inv-loop μ-loop
+cast-taken c = omega (arith, turn (c .before .before .before .before .before .pre) (c .before .before .loop .inv) (c .before .loop-test .taken))
 
-add-faces : tie.Need-add-faces Inv-loop μ-loop
-add-faces c = omega (arith, turn (c .before .before .before .pre) (c .before .before .loop .inv) (c .before .loop-test .taken))
+add-taken : tie.Need-add-taken Inv-loop μ-loop
+add-taken c = omega (arith, turn (c .before .before .before .before .before .pre) (c .before .before .loop .inv) (c .before .loop-test .taken))
 
-mul-faces-2 : tie.Need-mul-faces-2 Inv-loop μ-loop
-mul-faces-2 c = omega (arith, turn (c .before .before .before .pre) (c .before .before .loop .inv) (c .before .loop-test .taken))
+mul-taken-2 : tie.Need-mul-taken-2 Inv-loop μ-loop
+mul-taken-2 c = omega (arith, turn (c .before .before .before .before .before .pre) (c .before .before .loop .inv) (c .before .loop-test .taken))
 
-shared-slice-read-faces : tie.Need-shared-slice-read-faces Inv-loop μ-loop
-shared-slice-read-faces c = omega (arith, turn (c .before .before .before .before .pre) (c .before .before .before .loop .inv) (c .before .before .loop-test .taken))
+shared-slice-read-taken : tie.Need-shared-slice-read-taken Inv-loop μ-loop
+shared-slice-read-taken c = omega (arith, turn (c .before .before .before .before .before .before .pre) (c .before .before .before .loop .inv) (c .before .before .loop-test .taken))
 
-mul-faces-3 : tie.Need-mul-faces-3 Inv-loop μ-loop
-mul-faces-3 c = omega (arith, turn (c .before .before .before .before .pre) (c .before .before .before .loop .inv) (c .before .before .loop-test .taken))
-
-slice-write-faces : tie.Need-slice-write-faces Inv-loop μ-loop
-slice-write-faces c = omega (arith, turn (c .before .before .before .before .pre) (c .before .before .before .loop .inv) (c .before .before .loop-test .taken))
+store-requires : tie.Need-store-requires Inv-loop μ-loop
+store-requires c κs = omega (arith, turn (c .before .before .before .before .before .before .before .pre) (c .before .before .before .before .loop .inv) (c .before .before .before .loop-test .taken))
 
 add-k : tie.Need-add-k Inv-loop μ-loop
-add-k c = omega (arith, turn (c .before .before .before .before .pre) (c .before .before .before .loop .inv) (c .before .before .loop-test .taken))
+add-k c = omega (arith, turn (c .before .before .before .before .before .before .before .before .before .before .pre) (c .before .before .before .before .before .before .before .loop .inv) (c .before .before .before .before .before .before .loop-test .taken))
 
 loop-less : tie.Need-loop-less Inv-loop μ-loop
 loop-less c = omega arith
 
 loop-again : tie.Need-loop-again Inv-loop μ-loop
-loop-again c = again (c .before .before .before .before .pre) (c .before .before .before .loop .inv) (c .before .before .loop-test .taken)
+loop-again c = rw (c .before .before .store .ensures) (again (c .before .before .before .before .before .before .before .before .before .before .pre) (c .before .before .before .before .before .before .before .loop .inv) (c .before .before .before .before .before .before .loop-test .taken))
 
 same-length : tie.Need-same-length Inv-loop μ-loop
 same-length c = c .before .loop .inv .only .long
 
 returns : tie.Need-returns Inv-loop μ-loop
-returns c = done (c .before .before .pre) (c .before .loop .inv) (c .loop-test .left)
+returns c = done (c .before .before .before .before .pre) (c .before .loop .inv) (c .loop-test .left)
 
 pub renumber-spec : {M : Type 1} → statement M
 renumber-spec =
@@ -65,14 +62,13 @@ renumber-spec =
     μ-loop
     mul-m
     loop-holds
-    mul-faces
-    slice-read-faces
-    cast-faces
-    add-faces
-    mul-faces-2
-    shared-slice-read-faces
-    mul-faces-3
-    slice-write-faces
+    mul-taken
+    slice-read-taken
+    cast-taken
+    add-taken
+    mul-taken-2
+    shared-slice-read-taken
+    store-requires
     add-k
     loop-less
     loop-again

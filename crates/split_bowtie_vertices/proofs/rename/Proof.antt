@@ -53,20 +53,17 @@ loop-holds c = begin (c .before .before .pre)
 new-corner-requires : tie.Need-new-corner-requires Inv-loop μ-loop
 new-corner-requires c κs = (c .before .before .before .before .pre) .each _ (c .loop-test .taken)
 
-mul-faces : tie.Need-mul-faces Inv-loop μ-loop
-mul-faces c = omega (arith, turn (c .before .before .before .before .before .pre) (c .before .before .loop .inv) (c .before .loop-test .taken))
-
-slice-write-faces : tie.Need-slice-write-faces Inv-loop μ-loop
-slice-write-faces c = omega (arith, turn (c .before .before .before .before .before .pre) (c .before .before .loop .inv) (c .before .loop-test .taken))
+store-requires : tie.Need-store-requires Inv-loop μ-loop
+store-requires c κs = omega (arith, turn (c .before .before .before .before .before .before .pre) (c .before .before .before .loop .inv) (c .before .before .loop-test .taken))
 
 add-id : tie.Need-add-id Inv-loop μ-loop
-add-id c = omega (arith, turn (c .before .before .before .before .before .pre) (c .before .before .loop .inv) (c .before .loop-test .taken))
+add-id c = omega (arith, turn (c .before .before .before .before .before .before .before .before .before .pre) (c .before .before .before .before .before .before .loop .inv) (c .before .before .before .before .before .loop-test .taken))
 
 loop-less : tie.Need-loop-less Inv-loop μ-loop
 loop-less c = omega arith
 
 loop-again : tie.Need-loop-again Inv-loop μ-loop
-loop-again c = again (c .before .before .before .before .before .pre) (c .before .before .loop .inv) (c .before .loop-test .taken) (c .new-corner .ensures)
+loop-again c = rw (c .before .before .store .ensures) (again (c .before .before .before .before .before .before .before .before .before .pre) (c .before .before .before .before .before .before .loop .inv) (c .before .before .before .before .before .loop-test .taken) (c .before .before .before .before .new-corner .ensures))
 
 same-length : tie.Need-same-length Inv-loop μ-loop
 same-length c = c .before .loop .inv .only .long
@@ -82,8 +79,7 @@ rename-spec =
     μ-loop
     loop-holds
     new-corner-requires
-    mul-faces
-    slice-write-faces
+    store-requires
     add-id
     loop-less
     loop-again

@@ -101,8 +101,8 @@ enum {
 
 /* The repair, for a degeneracy threshold 0 <= s <= 1 and options: the mended points, the mended faces, and the eleven counts of the report. With all
  * options no face that comes out repeats a corner and no directed edge is walked twice, so the edge check says yes; and the edge call and the loop call
- * accept it. What comes out may have up to P + 3F points. Rooms, in this order: SHELL_POINTS_ROOM(P, F), SHELL_FACES_ROOM(F), SHELL_REPORT_ROOM,
- * SHELL_WORK_ROOM(P, F). */
+ * accept it. What comes out may have up to P + 3F points. A face before the first that leaves or changes is stored once in its room (counted,
+ * host/stores.c). Rooms, in this order: SHELL_POINTS_ROOM(P, F), SHELL_FACES_ROOM(F), SHELL_REPORT_ROOM, SHELL_WORK_ROOM(P, F). */
 typedef struct {
     uint32_t number, place;
     uint64_t points, faces, counts;

@@ -1,5 +1,3 @@
-pub mod Putting
-pub mod Digits
 pub mod Words
 pub mod Joining
 pub mod Summed

@@ -16,8 +16,9 @@ use Rattle.rules.specs.Refusal.{ok, no, decided}
 use Rattle.rules.specs.Rooms.{filled, outcome}
 use Rattle.rules.specs.LineCall.{line-check, write-line}
 use Rattle.line.specs.declared.Lined.the-variants as lined
-use Rattle.line.specs.Put.{label-count, Puts, PartAsks, LineGives, more, shown, parts, outcomeOf}
-use Rattle.line.proofs.Putting.{puts-none, puts-both, puts-front}
+use Rattle.bytes.specs.Put.{Puts}
+use Rattle.line.specs.Put.{label-count, PartAsks, LineGives, more, shown, parts, outcomeOf}
+use Rattle.bytes.proofs.Putting.{puts-none, puts-both, puts-front}
 use Rattle.line.proofs.Words.{more-short}
 use Rattle.line.proofs.Joining.{so-far, so-far-next, so-far-all, clean, line-clean, line-parts}
 use Rattle.line.proofs.Summed.{summed-long}

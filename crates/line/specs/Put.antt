@@ -2,33 +2,16 @@
 use mathlib.Core.Path.{_≡_}
 use mathlib.Core.Bool.{cond}
 use mathlib.Core.List.{List, [], _∷_, _++_, map, zip}
-use Prim.Native.Nat.{ℕ, _+_, _^_, _≤_, _<_}
+use Prim.Native.Nat.{ℕ, _+_, _≤_, _<_}
 use Prim.Native.String.{String}
 use lib.Dec.{eqb, ltb}
 use lib.ListN.{length, getD}
-use Rattle.rows.specs.Region.{part, Only}
+use Rattle.bytes.specs.Put.{Puts}
 use Rattle.rules.specs.Lists.{filter}
 use Rattle.rules.specs.Line as rule
 use Rattle.rules.specs.Rooms.{Outcome, accepted, refused}
 use Rattle.line.specs.declared.Lined.{Lined}
 use Rattle.line.specs.declared.Lined.the-variants.{Done, Refused}
-
--- the bytes xs are put into the line from `at` on, all else stays, and the line goes on at `next`
-pub record Puts (w : List ℕ) (at : ℕ) (xs : List ℕ) (w′ : List ℕ) (next : ℕ) : Type 0 where
-  pub fits : at + length xs ≤ length w
-  pub only : Only at (length xs) w w′
-  pub text : part w′ at (length xs) ≡ xs
-  pub ends : next ≡ at + length xs
-
--- room for a digit
-pub record DigitAsks (w : List ℕ) (at n : ℕ) : Type 0 where
-  pub digit : n < 10
-  pub room : at < length w
-
--- a number of at most ten digits, and room for it in decimal
-pub record NumberAsks (w : List ℕ) (at n : ℕ) : Type 0 where
-  pub short : n < 10 ^ 10
-  pub room : at + length (rule.decimal n) ≤ length w
 
 -- how many labels there are
 abbrev pub label-count : ℕ

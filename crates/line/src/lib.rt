@@ -1,9 +1,9 @@
 // The call "report line" of document 01: from any u32 counts of a report, the line in a lent room of bytes.
 use refuse::Verdict;
 ghost use mathlib.Core.Path.{_≡_};
-ghost use mathlib.Core.List.{[], _∷_};
 ghost use Prim.Native.Nat.{_+_, _^_, _≤_, _<_};
 ghost use lib.ListN.{length, getD, replicate};
+ghost use Rattle.bytes.specs.Put.{Puts};
 ghost use Rattle.line_refusal.specs.Checks.{LineAccepted};
 ghost use Rattle.rules.specs.Line as rule;
 ghost use Rattle.rules.specs.LineCall.{write-line};
@@ -18,23 +18,10 @@ pub enum Lined {
     Refused(u32, usize),
 }
 
-// Puts the bytes of a text into the line, from `at` on. Returns where the line goes on.
-fn put_text(line: &mut [u8], at: usize, text: &[u8]) -> usize
-    requires { ⌜ at + length (now text) ≤ length (now line) ⌝ }
-    ensures { λ r. ⌜ by.Puts (now (line .entry)) at (now (text .entry)) (now (line .exit)) r ⌝ }
-{
-    let mut i = 0;
-    while i < text.len() {
-        line[at + i] = text[i];
-        i += 1;
-    }
-    at + i
-}
-
 // Puts n zeros into the line, from `at` on.
 fn put_zeros(line: &mut [u8], at: usize, n: usize)
     requires { ⌜ at + n ≤ length (now line) ⌝ }
-    ensures { λ _. ⌜ by.Puts (now (line .entry)) at (replicate n 0) (now (line .exit)) (at + n) ⌝ }
+    ensures { λ _. ⌜ Puts (now (line .entry)) at (replicate n 0) (now (line .exit)) (at + n) ⌝ }
 {
     let mut i = 0;
     while i < n {
@@ -43,43 +30,22 @@ fn put_zeros(line: &mut [u8], at: usize, n: usize)
     }
 }
 
-// Puts the digit of a number below ten into the line, at `at`. Returns where the line goes on.
-fn put_digit(line: &mut [u8], at: usize, n: u64) -> usize
-    requires { ⌜ by.DigitAsks (now line) at n ⌝ }
-    ensures { λ r. ⌜ by.Puts (now (line .entry)) at ((48 + n) ∷ []) (now (line .exit)) r ⌝ }
-{
-    line[at] = 48 + n as u8;
-    at + 1
-}
-
-// Puts a number of at most ten digits in decimal, with no leading zeros. Returns where the line goes on.
-pub fn put_number(line: &mut [u8], at: usize, n: u64) -> usize
-    requires { ⌜ by.NumberAsks (now line) at n ⌝ }
-    ensures { λ r. ⌜ by.Puts (now (line .entry)) at (rule.decimal n) (now (line .exit)) r ⌝ }
-{
-    if n < 10 {
-        return put_digit(line, at, n);
-    }
-    let next = put_number(line, at, n / 10);
-    put_digit(line, next, n % 10)
-}
-
 // Puts label k, in report order. Returns where the line goes on.
 fn put_label(line: &mut [u8], at: usize, k: usize) -> usize
     requires { ⌜ by.PartAsks (now line) at 29 k ⌝ }
-    ensures { λ r. ⌜ by.Puts (now (line .entry)) at (rule.bytes (by.label k)) (now (line .exit)) r ⌝ }
+    ensures { λ r. ⌜ Puts (now (line .entry)) at (rule.bytes (by.label k)) (now (line .exit)) r ⌝ }
 {
     match k {
-        0 => put_text(line, at, b"degenerate faces removed"),
-        1 => put_text(line, at, b"duplicate faces removed"),
-        2 => put_text(line, at, b"non-manifold edges"),
-        3 => put_text(line, at, b"faces dropped there"),
-        4 => put_text(line, at, b"faces dropped as unorientable"),
-        5 => put_text(line, at, b"bowtie vertices split"),
-        6 => put_text(line, at, b"points added"),
-        7 => put_text(line, at, b"faces reoriented"),
-        8 => put_text(line, at, b"non-orientable components"),
-        _ => put_text(line, at, b"isolated vertices removed"),
+        0 => bytes::put_text(line, at, b"degenerate faces removed"),
+        1 => bytes::put_text(line, at, b"duplicate faces removed"),
+        2 => bytes::put_text(line, at, b"non-manifold edges"),
+        3 => bytes::put_text(line, at, b"faces dropped there"),
+        4 => bytes::put_text(line, at, b"faces dropped as unorientable"),
+        5 => bytes::put_text(line, at, b"bowtie vertices split"),
+        6 => bytes::put_text(line, at, b"points added"),
+        7 => bytes::put_text(line, at, b"faces reoriented"),
+        8 => bytes::put_text(line, at, b"non-orientable components"),
+        _ => bytes::put_text(line, at, b"isolated vertices removed"),
     }
 }
 
@@ -87,9 +53,9 @@ fn put_label(line: &mut [u8], at: usize, k: usize) -> usize
 fn put_part(line: &mut [u8], at: usize, n: u64, k: usize) -> usize
     requires { ⌜ by.PartAsks (now line) at 40 k ⌝ }
     requires { ⌜ n < 10 ^ 10 ⌝ }
-    ensures { λ r. ⌜ by.Puts (now (line .entry)) at (rule.part (n, by.label k)) (now (line .exit)) r ⌝ }
+    ensures { λ r. ⌜ Puts (now (line .entry)) at (rule.part (n, by.label k)) (now (line .exit)) r ⌝ }
 {
-    let next = put_number(line, at, n);
+    let next = bytes::put_number(line, at, n);
     line[next] = b' ';
     put_label(line, next + 1, k)
 }
@@ -97,7 +63,7 @@ fn put_part(line: &mut [u8], at: usize, n: u64, k: usize) -> usize
 // Puts a comma and a blank, where a part stands in the line already. Returns where the line goes on.
 fn put_comma(line: &mut [u8], at: usize) -> usize
     requires { ⌜ at + 2 ≤ length (now line) ⌝ }
-    ensures { λ r. ⌜ by.Puts (now (line .entry)) at (by.comma at) (now (line .exit)) r ⌝ }
+    ensures { λ r. ⌜ Puts (now (line .entry)) at (by.comma at) (now (line .exit)) r ⌝ }
 {
     if at == 0 {
         return at;
@@ -111,7 +77,7 @@ fn put_comma(line: &mut [u8], at: usize) -> usize
 fn put_next(line: &mut [u8], at: usize, n: u64, k: usize) -> usize
     requires { ⌜ by.PartAsks (now line) at 42 k ⌝ }
     requires { ⌜ n < 10 ^ 10 ⌝ }
-    ensures { λ r. ⌜ by.Puts (now (line .entry)) at (by.more at n k) (now (line .exit)) r ⌝ }
+    ensures { λ r. ⌜ Puts (now (line .entry)) at (by.more at n k) (now (line .exit)) r ⌝ }
 {
     if n == 0 {
         return at;
@@ -160,7 +126,7 @@ fn put_line(counts: &[u32], line: &mut [u8]) -> usize
 {
     let end = put_parts(counts, line);
     if end == 0 {
-        return put_text(line, 0, b"mesh was already manifold, nothing changed");
+        return bytes::put_text(line, 0, b"mesh was already manifold, nothing changed");
     }
     end
 }

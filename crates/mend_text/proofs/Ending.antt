@@ -6,7 +6,7 @@ use native.Mathlib.Omega.{arith}
 use lib.ListN.{length, getD, take}
 use lib.Seq.{take-all}
 use lib.Ieee.{Float, nan}
-use Rattle.line.specs.Put.{Puts}
+use Rattle.bytes.specs.Put.{Puts}
 use Rattle.rules.specs.Mesh.{pointsOf, facesOf, flatPoints, flatFaces, zero64}
 use Rattle.rules.specs.State.{State, report-counts}
 use Rattle.rules.specs.Refusal.{Check, ok, no, no4}

@@ -6,7 +6,7 @@ use Prim.Native.Nat.{ℕ, _≤_}
 use native.Mathlib.Omega.{arith}
 use lib.Ieee.{Float}
 use lib.ListN.{length, take}
-use Rattle.line.specs.Put.{Puts}
+use Rattle.bytes.specs.Put.{Puts}
 use Rattle.rules.specs.Text.{Job, read, refusal-line, answered, meshfix}
 use Rattle.text_in.specs.Asked.{toldOf, ToldWithin}
 use Rattle.text_in.specs.declared.Told.{Told}

@@ -3,7 +3,7 @@ use repair::Repaired;
 use text_in::Told;
 ghost use Prim.Native.Nat.{_≤_};
 ghost use lib.ListN.{length};
-ghost use Rattle.line.specs.Put.{Puts};
+ghost use Rattle.bytes.specs.Put.{Puts};
 ghost use Rattle.rules.specs.Text as rule;
 ghost use Rattle.mend_text.specs.Job as by;
 

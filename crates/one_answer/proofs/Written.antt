@@ -7,7 +7,7 @@ use native.Mathlib.Omega.{arith}
 use lib.ListN.{length, getD}
 use lib.Seq.{ext-getD}
 use Rattle.rows.proofs.Regions.{in-or-out, getD-part}
-use Rattle.line.specs.Put.{Puts}
+use Rattle.bytes.specs.Put.{Puts}
 
 module _ {w : List ℕ} {at : ℕ} {xs : List ℕ} where
   -- an entry of the text that was put

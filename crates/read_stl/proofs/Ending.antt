@@ -20,7 +20,8 @@ use Rattle.rules.specs.Lists.{leave}
 use Rattle.rules.specs.Mesh.{Point, point, pointsOf, flatPoints, zero64}
 use Rattle.rules.specs.Refusal.{decided}
 use Rattle.rules.specs.Rooms.{filled, cleared, outcome, accepted}
-use Rattle.rules.specs.Stl.{u32-at, facets, cornersOf, again, merged, number, triples, StlRooms, stl-check, read-stl}
+use Rattle.rules.specs.Bytes.{u32-at}
+use Rattle.rules.specs.Stl.{facets, cornersOf, again, merged, number, triples, StlRooms, stl-check, read-stl}
 use Rattle.rules.proofs.Flat.{length-flat-points}
 use Rattle.refuse.specs.Verdicts.{checkOf}
 use Rattle.refuse.specs.declared.Verdict.{Verdict}

@@ -15,8 +15,9 @@ use lib.Ieee.Bits.{is-true}
 use Rattle.rules.specs.Lists.{all}
 use Rattle.rules.specs.Mesh.{Point, point, zero64}
 use Rattle.rules.specs.Refusal.{ok, in-domain, no4}
-use Rattle.rules.specs.Stl.{u32-at, facets, coordinate, corner-at, place-of, cornersOf, equal}
-use Rattle.rules.proofs.Equal.{one-zero, one-zero-minus, one-zero-other, eq-by-bits}
+use Rattle.rules.specs.Bytes.{u32-at}
+use Rattle.rules.specs.Stl.{facets, coordinate, corner-at, place-of, cornersOf, equal}
+use Rattle.rules.proofs.Equal.{no-nan, near-all, one-zero, one-zero-minus, one-zero-other, eq-by-bits}
 use Rattle.rules.proofs.Firsts.{fine-exactly}
 use Rattle.refuse.specs.Verdicts.{far}
 use Rattle.stl_file.proofs.Scanning.{length-corners, corner-is}
@@ -31,24 +32,6 @@ small-bits b h = go (ℕ-discrete b 2147483648)
     go : Dec (b ≡ 2147483648) → b < 2 ^ 32
     go (yes e) = omega arith
     go (no e) = omega (arith, one-zero-other binary32 b e)
-
--- a NaN is in no domain
-no-nan : (x : Float) → T (in-domain x) → T (not (isNan x))
-unfolding in-domain le lt eq isNan
-no-nan nan t = absurd t
-no-nan (inf s) t = tt
-no-nan (fin s m e) t = tt
-
--- where all three coordinates are in theirs
-near-all : (p : Point) → far p ≡ false → T (in-domain (p .x)) × T (in-domain (p .y)) × T (in-domain (p .z))
-unfolding all
-near-all p e = go (in-domain (p .x)) (in-domain (p .y)) (in-domain (p .z)) e
-  where
-    go : (a b c : Bool) → not (a && (b && (c && true))) ≡ false → T a × T b × T c
-    go true true true q = (tt, tt, tt)
-    go true true false q = absurd (subst T q tt)
-    go true false c q = absurd (subst T q tt)
-    go false b c q = absurd (subst T q tt)
 
 -- a number of 32 bits that is no NaN
 record Plain (file : List ℕ) (i : ℕ) : Type 0 where

@@ -8,7 +8,8 @@ use lib.ListN.{length, getD}
 use lib.Ieee.{Float, nan, binary32}
 use Rattle.rows.specs.Region.{OnlyOf, Only, Holds}
 use Rattle.rules.specs.Refusal.{most-faces}
-use Rattle.rules.specs.Stl.{u32-at, coordinate, place-of}
+use Rattle.rules.specs.Bytes.{u32-at}
+use Rattle.rules.specs.Stl.{coordinate, place-of}
 use Rattle.rules.proofs.Equal.{one-zero}
 use Rattle.stl_file.specs.Files.{CornerAsks}
 

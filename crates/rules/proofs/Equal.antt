@@ -1,4 +1,5 @@
--- When two floats read from bits are equal as numbers: their bits are the same, or both are zeros. And what an f32 is as an f64. Assumes nothing.
+-- When two floats read from bits are equal as numbers: their bits are the same, or both are zeros. What an f32 is as an f64, and that a coordinate in its
+-- domain is a number. Assumes nothing.
 use mathlib.Core.Path.{_≡_, refl, sym, ap, ap₂, subst, _∙_}
 use mathlib.Core.Logic.{_⊎_, inl, inr, ⊎-elim}
 use mathlib.Core.Bool.{Bool, true, false, not, _&&_, _||_, Bool·beq, cond}
@@ -8,9 +9,12 @@ use native.Mathlib.Omega.{arith}
 use borrow.Author.Tests.{eq-eqb, ne-eqb, eqb-true, eqb-false}
 use lib.IntN.{ℤ, pos}
 use lib.Dec.{T, eqb, eqb→eq, eqb-refl}
-use lib.Ieee.{Float, nan, inf, fin, Format, binary32, binary64, prec, low, up, down, hid, ones, top, size, level, eq, fits, isNan, ofBits, toBits}
+use lib.Ieee.{Float, nan, inf, fin, Format, binary32, binary64, prec, low, up, down, hid, ones, top, size, level, eq, le, lt, fits, isNan, ofBits, toBits}
 use lib.Ieee.Fits.{up-pos, down-pos, and-l, and-r, and-i, fits-widens}
 use lib.Ieee.Bits.{is-true, ofBits-fits, ofBits-toBits, toBits-ofBits}
+use Rattle.rules.specs.Lists.{all}
+use Rattle.rules.specs.Mesh.{Point, coordinates}
+use Rattle.rules.specs.Refusal.{in-domain}
 use Rattle.rules.proofs.Tests.{or-elim, both-ways}
 
 -- ---- an f32 as an f64
@@ -22,6 +26,26 @@ widened-fits b = fits-widens (ofBits binary32 b) (ofBits-fits binary32 b)
 -- and its own bits stand for that value
 pub widened-exactly : (b : ℕ) → ofBits binary64 (toBits binary64 (ofBits binary32 b)) ≡ ofBits binary32 b
 widened-exactly b = ofBits-toBits binary64 (ofBits binary32 b) (widened-fits b)
+
+-- ---- coordinates
+
+-- a NaN is in no domain
+pub no-nan : (x : Float) → T (in-domain x) → T (not (isNan x))
+unfolding in-domain le lt eq isNan
+no-nan nan t = absurd t
+no-nan (inf s) t = tt
+no-nan (fin s m e) t = tt
+
+-- where 4 finds nothing at a point, all three coordinates are in theirs
+pub near-all : (p : Point) → not (all in-domain (coordinates p)) ≡ false → T (in-domain (p .x)) × T (in-domain (p .y)) × T (in-domain (p .z))
+unfolding all
+near-all p e = go (in-domain (p .x)) (in-domain (p .y)) (in-domain (p .z)) e
+  where
+    go : (a b c : Bool) → not (a && (b && (c && true))) ≡ false → T a × T b × T c
+    go true true true q = (tt, tt, tt)
+    go true true false q = absurd (subst T q tt)
+    go true false c q = absurd (subst T q tt)
+    go false b c q = absurd (subst T q tt)
 
 -- ---- equal numbers and their bits
 

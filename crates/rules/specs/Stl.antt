@@ -3,19 +3,16 @@
 use Prim.Native.Nat.{ℕ, _+_, _*_, _/_, _%_}
 use mathlib.Core.Bool.{Bool, _&&_}
 use mathlib.Core.List.{List, [], _∷_, map}
-use lib.ListN.{length, getD, take}
+use lib.ListN.{length, take}
 use lib.Dec.{eqb}
 use lib.Ieee.{Float, binary32, ofBits, eq}
 use Rattle.rules.specs.Lists.{below, any, first, leave}
 use Rattle.rules.specs.Mesh.{Point, point, flatPoints, zero64}
+use Rattle.rules.specs.Bytes.{u32-at}
 use Rattle.rules.specs.Refusal.{Check, unless, decided, no2, no4, no6, most-faces}
 use Rattle.rules.specs.Rooms.{filled, cleared, Outcome, outcome}
 
 -- ---- the file's layout
-
--- the little-endian u32 whose lowest byte is byte i
-unfoldable pub u32-at : List ℕ → ℕ → ℕ
-u32-at file i = getD file i 0 + 256 * getD file (i + 1) 0 + 65536 * getD file (i + 2) 0 + 16777216 * getD file (i + 3) 0
 
 -- the facet count F stands after 80 header bytes
 unfoldable pub facets : List ℕ → ℕ

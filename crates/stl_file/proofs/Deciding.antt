@@ -5,7 +5,8 @@ use Prim.Native.Nat.{ℕ, _+_, _*_, _≤_, _<_}
 use native.Mathlib.Omega.{arith}
 use lib.ListN.{length}
 use Rattle.rules.specs.Refusal.{Check, ok, no, decided, no2, no4, no6, most-faces}
-use Rattle.rules.specs.Stl.{u32-at, facets, cornersOf, no12, stl-rooms}
+use Rattle.rules.specs.Bytes.{u32-at}
+use Rattle.rules.specs.Stl.{facets, cornersOf, no12, stl-rooms}
 use Rattle.refuse.specs.Verdicts.{checkOf}
 use Rattle.refuse.specs.declared.Verdict.{Verdict}
 use Rattle.refuse.specs.declared.Verdict.the-variants.{Fine, Refused}

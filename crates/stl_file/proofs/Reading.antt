@@ -5,37 +5,19 @@ use mathlib.Core.List.{List}
 use Prim.Native.Nat.{ℕ, _+_, _*_, _%_, _≤_, _<_}
 use borrow.Author.Tests.{lt-ltb, le-ltb}
 use lib.Dec.{T, ltb}
-use lib.ListN.{getD}
 use lib.Ieee.{Float, nan, inf, fin, binary32, binary64, ones, hid, top, isNan, nanBits, ofBits, div, fits}
 use lib.Ieee.Fits.{and-i}
 use lib.Ieee.Bits.{nanBits-is, nanBits-above}
-use Rattle.rules.specs.Stl.{u32-at}
 use Rattle.rules.proofs.Equal.{widened-fits}
-
--- four bytes, the lowest first
-pub four-bytes : (file : List ℕ) (i a b c d : ℕ) → a ≡ getD file i 0 → b ≡ getD file (i + 1) 0 → c ≡ getD file (i + 2) 0 → d ≡ getD file (i + 3) 0 → a + 256 * b + 65536 * c + 16777216 * d ≡ u32-at file i
-unfolding u32-at
-four-bytes file i a b c d p q r s = rw (p, q, r, s) refl
+use Rattle.bytes.proofs.Reading.{zero-by-zero, only-nan}
 
 -- a NaN's pattern is above the infinity's
 nan-bits : (b : ℕ) (t : Bool) → ltb 2139095040 (b % 2147483648) ≡ t → isNan (ofBits binary32 b) ≡ t
 nan-bits b t e = sym (nanBits-is binary32 b) ∙ nanBits-above binary32 b ∙ e
 
--- there is one NaN
-only-nan : (x : Float) → isNan x ≡ true → nan ≡ x
-unfolding isNan
-only-nan nan e = refl
-only-nan (inf s) e = absurd (subst T (sym e) tt)
-only-nan (fin s m d) e = absurd (subst T (sym e) tt)
-
--- which 0 / 0 is
-zero-over-zero : div binary64 (ofBits binary64 0) (ofBits binary64 0) ≡ nan
-unfolding div ofBits
-zero-over-zero = refl
-
 -- a NaN's pattern
 pub is-nan : (b : ℕ) → 2139095040 < b % 2147483648 → div binary64 (ofBits binary64 0) (ofBits binary64 0) ≡ ofBits binary32 b
-is-nan b h = zero-over-zero ∙ only-nan (ofBits binary32 b) (nan-bits b true (lt-ltb 2139095040 (b % 2147483648) h))
+is-nan b h = zero-by-zero ∙ sym (only-nan (ofBits binary32 b) (nan-bits b true (lt-ltb 2139095040 (b % 2147483648) h)))
 
 -- any other
 pub no-nan : (b : ℕ) → b % 2147483648 ≤ 2139095040 → T (not (isNan (ofBits binary32 b)))

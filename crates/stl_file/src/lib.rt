@@ -10,26 +10,6 @@ ghost use Rattle.rules.specs.Stl as rule;
 ghost use Rattle.refuse.specs.Verdicts as by;
 ghost use Rattle.stl_file.specs.Files.{Whole, CornerAsks, stl-list};
 
-// A byte as a u32.
-fn wide(x: u8) -> u32
-    ensures { λ r. ⌜ r ≡ x ⌝ }
-    ensures { λ r. ⌜ r < 256 ⌝ }
-{
-    x as u32
-}
-
-// The little-endian u32 whose lowest byte is byte i.
-pub fn u32_at(file: &[u8], i: usize) -> u32
-    requires { ⌜ i + 4 ≤ length (now file) ⌝ }
-    ensures { λ r. ⌜ r ≡ rule.u32-at (now (file .entry)) i ⌝ }
-{
-    let a = wide(file[i]);
-    let b = wide(file[i + 1]);
-    let c = wide(file[i + 2]);
-    let d = wide(file[i + 3]);
-    a + 256 * b + 65536 * c + 16777216 * d
-}
-
 // The number that the bits of an f32 stand for, a NaN's too.
 fn widened(bits: u32) -> f64
     ensures { λ r. ⌜ r ≡ ofBits binary32 bits ⌝ }
@@ -45,7 +25,7 @@ pub fn coordinate(file: &[u8], i: usize) -> f64
     requires { ⌜ i + 4 ≤ length (now file) ⌝ }
     ensures { λ r. ⌜ r ≡ rule.coordinate (now (file .entry)) i ⌝ }
 {
-    widened(u32_at(file, i))
+    widened(bytes::u32_at(file, i))
 }
 
 // The byte at which corner c begins, counted through the file.
@@ -114,7 +94,7 @@ pub fn stl_check(file: &[u8], points: usize, faces: usize, work: usize) -> Verdi
     if file.len() < 84 {
         return Verdict::Refused(12, 0);
     }
-    let count = u32_at(file, 80) as usize;
+    let count = bytes::u32_at(file, 80) as usize;
     if file.len() != 84 + 50 * count {
         return Verdict::Refused(12, 0);
     }

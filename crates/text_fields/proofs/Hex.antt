@@ -16,7 +16,7 @@ use Rattle.rules.proofs.Lists.{through-append}
 use Rattle.rules.specs.Text.{equal, hex, of-hex, real}
 use Rattle.text_fields.specs.Fields.{nibble}
 use Rattle.text_fields.proofs.Bytes.{hex-byte, Nibble, nibble-of, nibble-byte}
-use Rattle.text_fields.proofs.Numbers.{equal-same, equal-self}
+use Rattle.rules.proofs.Texts.{equal-same, equal-self}
 
 -- k digits are k bytes
 hex-long : (k n : ℕ) → length (hex k n) ≡ k

@@ -2,11 +2,16 @@
 ghost use mathlib.Core.Path.{_≡_};
 ghost use Prim.Native.Nat.{_≤_};
 ghost use lib.ListN.{length};
-ghost use lib.Ieee.{binary64, ofBits};
 ghost use Rattle.rules.specs.Text as rule;
 ghost use Rattle.text_fields.specs.Fields as by;
 
-// A field read as a decimal number.
+// A field read as a number in plain decimal, of at most 19 digits.
+pub enum Plain {
+    Number(u64),
+    Bad,
+}
+
+// A field read as a decimal u32.
 pub enum Whole {
     Number(u32),
     Bad,
@@ -46,32 +51,42 @@ fn digit(byte: u8) -> u64
     (byte - 48) as u64
 }
 
-// A decimal u32 without leading zeros.
-pub fn read_whole(field: &[u8]) -> Whole
-    ensures { λ r. ⌜ by.wholeOf r ≡ rule.whole (now (field .entry)) ⌝ }
+// The number that a field of at most 19 digits writes, without leading zeros.
+pub fn read_plain(field: &[u8]) -> Plain
+    ensures { λ r. ⌜ by.Plains (now (field .entry)) r ⌝ }
 {
     if field.len() == 0 {
-        return Whole::Bad;
+        return Plain::Bad;
     }
-    if field.len() > 10 {
-        return Whole::Bad;
+    if field.len() > 19 {
+        return Plain::Bad;
     }
     if field[0] == b'0' {
         if field.len() > 1 {
-            return Whole::Bad;
+            return Plain::Bad;
         }
-        return Whole::Number(0);
+        return Plain::Number(0);
     }
     let mut n = 0;
     let mut i = 0;
     while i < field.len() {
         let d = digit(field[i]);
         if d == 10 {
-            return Whole::Bad;
+            return Plain::Bad;
         }
         n = 10 * n + d;
         i += 1;
     }
+    Plain::Number(n)
+}
+
+// A decimal u32 without leading zeros.
+pub fn read_whole(field: &[u8]) -> Whole
+    ensures { λ r. ⌜ by.wholeOf r ≡ rule.whole (now (field .entry)) ⌝ }
+{
+    let Plain::Number(n) = read_plain(field) else {
+        return Whole::Bad;
+    };
     if n > 4_294_967_295 {
         return Whole::Bad;
     }
@@ -97,16 +112,6 @@ fn hex_digit(byte: u8) -> u64
     (byte - 87) as u64
 }
 
-// The float of a bit pattern, also where that is no number's.
-fn float(bits: u64) -> f64
-    ensures { λ r. ⌜ r ≡ ofBits binary64 bits ⌝ }
-{
-    if bits % 0x8000_0000_0000_0000 > 0x7ff0_0000_0000_0000 {
-        return 0.0 / 0.0;
-    }
-    f64::from_bits(bits)
-}
-
 // A float as the 16 hex digits of its bits.
 pub fn read_real(field: &[u8]) -> Real
     ensures { λ r. ⌜ by.realOf r ≡ rule.real (now (field .entry)) ⌝ }
@@ -124,5 +129,5 @@ pub fn read_real(field: &[u8]) -> Real
         n = 16 * n + d;
         i += 1;
     }
-    Real::Number(float(n))
+    Real::Number(bytes::float(n))
 }

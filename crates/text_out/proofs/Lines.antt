@@ -7,9 +7,9 @@ use native.Mathlib.Numerals.{add-one}
 use lib.Ieee.{Float, nan, binary64, toBits}
 use lib.ListN.{length, getD, set, take, length-append}
 use lib.Seq.{take-suc, take-all}
-use Rattle.line.specs.Put.{Puts}
-use Rattle.line.proofs.Putting.{puts-none, puts-both, puts-one}
-use Rattle.line.proofs.Digits.{decimal-short}
+use Rattle.bytes.specs.Put.{Puts}
+use Rattle.bytes.proofs.Putting.{puts-none, puts-both, puts-one}
+use Rattle.rules.proofs.Digits.{decimal-short}
 use Rattle.rules.specs.Lists.{each}
 use Rattle.rules.specs.Line.{bytes, decimal}
 use Rattle.rules.specs.Mesh.{Point, Face, pointsOf, facesOf, zero64, point, face}

@@ -7,7 +7,7 @@ use lib.ListN.{length, getD, set, take, length-append, length-set}
 use lib.Seq.{drop-cons, getD-set-same}
 use Rattle.rows.specs.Region.{part, Only}
 use Rattle.rows.proofs.Regions.{only-none, only-both, only-set, part-set}
-use Rattle.line.specs.Put.{Puts}
+use Rattle.bytes.specs.Put.{Puts}
 use Rattle.rules.specs.Text.{hex}
 use Rattle.text_out.specs.Printed.{byte}
 

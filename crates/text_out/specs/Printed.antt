@@ -5,7 +5,7 @@ use Prim.Native.Nat.{ℕ, _+_, _*_, _/_, _≤_, _<_}
 use lib.Dec.{T, ltb}
 use lib.Ieee.{Float, nan, binary64, isNan, toBits}
 use lib.ListN.{length, getD}
-use Rattle.line.specs.Put.{Puts}
+use Rattle.bytes.specs.Put.{Puts}
 use Rattle.rules.specs.Lists.{each}
 use Rattle.rules.specs.Mesh.{Point, Face, coordinates, corners, pointsOf, facesOf}
 use Rattle.rules.specs.State.{State}

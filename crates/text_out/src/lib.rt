@@ -4,7 +4,7 @@ ghost use mathlib.Core.List.{_∷_, map};
 ghost use Prim.Native.Nat.{_+_, _/_, _≤_, _<_};
 ghost use lib.ListN.{length};
 ghost use lib.Ieee.{binary64, toBits};
-ghost use Rattle.line.specs.Put.{Puts};
+ghost use Rattle.bytes.specs.Put.{Puts};
 ghost use Rattle.rules.specs.Line as text;
 ghost use Rattle.rules.specs.Text as rule;
 ghost use Rattle.text_out.specs.Printed as by;
@@ -50,7 +50,7 @@ fn put_whole(out: &mut [u8], at: usize, n: u32) -> usize
     ensures { λ r. ⌜ Puts (now (out .entry)) at (9 ∷ text.decimal n) (now (out .exit)) r ⌝ }
 {
     out[at] = 9;
-    line::put_number(out, at + 1, n as u64)
+    bytes::put_number(out, at + 1, n as u64)
 }
 
 // Puts the `p` line of point i.

@@ -3,7 +3,7 @@ use mathlib.Core.Path.{_≡_, sym}
 use Prim.Native.Nat.{ℕ, _-_}
 use native.Mathlib.Omega.{arith}
 use lib.ListN.{replicate, length-replicate, getD-replicate}
-use Rattle.line.proofs.Putting.{Begun, begin, turn, again, done}
+use Rattle.bytes.proofs.Putting.{Begun, begin, turn, again, done}
 use Rattle.line.proofs.put_zeros.Statement.{statement}
 use Rattle.line.proofs.put_zeros.Tie as tie
 

@@ -1,91 +1,33 @@
--- `text_fields::read_whole` meets its contract: the first i bytes are what is written for n. Assumes nothing.
-use mathlib.Core.Path.{sym, _∙_}
-use Prim.Native.Nat.{_-_}
-use native.Mathlib.Omega.{arith}
+-- `text_fields::read_whole` meets its contract: the number in plain decimal, if it is a u32. Assumes nothing.
+use mathlib.Core.Path.{subst}
 use borrow.Author.Needs.{needs}
-use lib.ListN.{length}
-use Rattle.text_fields.proofs.Bytes.{digit-of}
-use Rattle.text_fields.proofs.Numbers.{Digits, digits-begin, digits-turn, digits-again, no-digit, digits-done, digits-above, none-empty, none-long, none-lead, just-zero}
+use Rattle.text_fields.specs.Fields.{Plains}
+use Rattle.text_fields.proofs.Numbers.{whole-none, whole-above, whole-is}
 use Rattle.text_fields.proofs.read_whole.Statement.{statement}
 use Rattle.text_fields.proofs.read_whole.Tie as tie
 
-abbrev Inv-loop : tie.InvT-loop
-Inv-loop field n₀ i₀ n i = Digits field n i
+read-plain-requires : tie.Need-read-plain-requires
+read-plain-requires c κs = search needs
 
-abbrev μ-loop : tie.MeasureT-loop
-μ-loop field n₀ i₀ n i = length field - i
+enum-known-n : tie.Need-enum-known-n
+enum-known-n c = search needs
 
-returns : tie.Need-returns Inv-loop μ-loop
-returns c = none-empty _ (c .if1 .taken)
+enum-told : tie.Need-enum-told
+enum-told c = search needs
 
-returns-2 : tie.Need-returns-2 Inv-loop μ-loop
-returns-2 c = none-long _ (c .if2 .taken)
+returns : tie.Need-returns
+returns c = whole-none _ (subst (Plains _) (c .enum-told .given .1) (c .before .before .read-plain .ensures))
 
-shared-slice-read-if3 : tie.Need-shared-slice-read-if3 Inv-loop μ-loop
-shared-slice-read-if3 c = search needs
+returns-2 : tie.Need-returns-2
+returns-2 c = whole-above (subst (Plains _) (c .before .before .n .given .1) (c .before .before .before .before .read-plain .ensures)) (c .if1 .taken)
 
-returns-3 : tie.Need-returns-3 Inv-loop μ-loop
-returns-3 c = none-lead _ (c .before .if3 .taken) (c .if4 .taken)
+cast-t5 : tie.Need-cast-t5
+cast-t5 c = search needs
 
-returns-4 : tie.Need-returns-4 Inv-loop μ-loop
-returns-4 c = just-zero _ (c .before .if3 .taken) (omega arith)
-
-loop-holds : tie.Need-loop-holds Inv-loop μ-loop
-loop-holds c = digits-begin
-
-shared-slice-read-digit : tie.Need-shared-slice-read-digit Inv-loop μ-loop
-shared-slice-read-digit c = c .before .loop-test .taken
-
-digit-requires : tie.Need-digit-requires Inv-loop μ-loop
-digit-requires c κs = tt
-
-returns-5 : tie.Need-returns-5 Inv-loop μ-loop
-returns-5 c = no-digit (c .before .before .before .before .loop .inv) (c .before .before .before .loop-test .taken) (sym (c .before .digit .ensures) ∙ c .if5 .taken)
-
-mul-n : tie.Need-mul-n Inv-loop μ-loop
-mul-n c = omega (arith, digits-turn (c .before .before .before .before .loop .inv) (c .before .before .before .loop-test .taken) (c .before .before .before .before .before .before .before .if2 .left))
-
-add-n : tie.Need-add-n Inv-loop μ-loop
-add-n c = omega (arith, digits-turn (c .before .before .before .before .loop .inv) (c .before .before .before .loop-test .taken) (c .before .before .before .before .before .before .before .if2 .left), (digit-of _ (λ z. c .if5 .left (c .before .digit .ensures ∙ z))) .low, c .before .digit .ensures)
-
-add-i : tie.Need-add-i Inv-loop μ-loop
-add-i c = omega arith
-
-loop-less : tie.Need-loop-less Inv-loop μ-loop
-loop-less c = omega arith
-
-loop-again : tie.Need-loop-again Inv-loop μ-loop
-loop-again c = digits-again (c .before .before .before .before .loop .inv) (c .before .before .before .loop-test .taken) (c .before .before .before .before .before .if3 .left) _ (c .before .digit .ensures) (c .if5 .left)
-
-returns-6 : tie.Need-returns-6 Inv-loop μ-loop
-returns-6 c = digits-above (c .before .before .loop .inv) (c .before .loop-test .left) (c .if6 .taken)
-
-cast-t16 : tie.Need-cast-t16 Inv-loop μ-loop
-cast-t16 c = omega arith
-
-returns-7 : tie.Need-returns-7 Inv-loop μ-loop
-returns-7 c = digits-done (c .before .before .loop .inv) (c .before .loop-test .left) (omega (arith, c .before .before .before .before .before .before .if1 .left)) (c .before .before .before .before .before .if2 .left) (c .if6 .left)
+returns-3 : tie.Need-returns-3
+returns-3 c = whole-is (subst (Plains _) (c .before .before .n .given .1) (c .before .before .before .before .read-plain .ensures)) (c .if1 .left)
 
 pub read-whole-spec : {M : Type 1} → statement M
 read-whole-spec =
     tie.close
-    (tie.spec
-    Inv-loop
-    μ-loop
-    returns
-    returns-2
-    shared-slice-read-if3
-    returns-3
-    returns-4
-    loop-holds
-    shared-slice-read-digit
-    digit-requires
-    returns-5
-    mul-n
-    add-n
-    add-i
-    loop-less
-    loop-again
-    returns-6
-    cast-t16
-    returns-7)
+    (tie.spec read-plain-requires enum-known-n enum-told returns returns-2 cast-t5 returns-3)

@@ -1,16 +1,17 @@
 -- The proof of the cycle of calls {put_number}: the measure is the number, and a tenth of it is less. Assumes nothing.
 use mathlib.Core.Path.{_∙_}
 use native.Mathlib.Omega.{arith}
-use Rattle.line.proofs.Digits.{decimal-one, one-asks, tenth-asks, last-asks, number-done}
+use Rattle.rules.proofs.Digits.{decimal-one}
+use Rattle.bytes.proofs.Numbers.{one-asks, tenth-asks, last-asks, number-done}
 use Prim.Native.Nat.{ℕ, _<_}
 use borrow.Fn.Kinds.{In}
 use borrow.Fn.PlainCycle.{Measures, is, falls, and}
-use Rattle.line.proofs.put_number.Reads as put-number
-use Rattle.line.proofs.put_number.Kinds as put-number-kinds
-use Rattle.line.proofs.+put_number.Lts-put_number as put-number-lts
-use Rattle.line.proofs.put_digit.Reads as put-digit-reads
-use Rattle.line.proofs.+put_number.{statement}
-use Rattle.line.proofs.+put_number.Tie.{close}
+use Rattle.bytes.proofs.put_number.Reads as put-number
+use Rattle.bytes.proofs.put_number.Kinds as put-number-kinds
+use Rattle.bytes.proofs.+put_number.Lts-put_number as put-number-lts
+use Rattle.bytes.proofs.put_digit.Reads as put-digit-reads
+use Rattle.bytes.proofs.+put_number.{statement}
+use Rattle.bytes.proofs.+put_number.Tie.{close}
 
 abbrev μ-put-number : Measures 1 put-number-kinds.ps ℕ
 μ-put-number κs a = a .1 .1 .0

@@ -1,29 +1,29 @@
--- `line::put_text` meets its contract. Assumes nothing.
+-- `bytes::put_text` meets its contract. Assumes nothing.
 use mathlib.Core.Path.{refl}
 use Prim.Native.Nat.{_-_}
 use native.Mathlib.Omega.{arith}
 use lib.ListN.{length}
-use Rattle.line.proofs.Putting.{Begun, begin, turn, again, done}
-use Rattle.line.proofs.put_text.Statement.{statement}
-use Rattle.line.proofs.put_text.Tie as tie
+use Rattle.bytes.proofs.Putting.{Begun, begin, turn, again, done}
+use Rattle.bytes.proofs.put_text.Statement.{statement}
+use Rattle.bytes.proofs.put_text.Tie as tie
 
 abbrev Inv-loop : tie.InvT-loop
-Inv-loop line₀ at text i₀ line i = Begun line₀ at text line i
+Inv-loop out₀ at text i₀ out i = Begun out₀ at text out i
 
 abbrev μ-loop : tie.MeasureT-loop
-μ-loop line₀ at text i₀ line i = length text - i
+μ-loop out₀ at text i₀ out i = length text - i
 
 loop-holds : tie.Need-loop-holds Inv-loop μ-loop
 loop-holds c = begin (c .pre)
 
-shared-slice-read-line : tie.Need-shared-slice-read-line Inv-loop μ-loop
-shared-slice-read-line c = omega arith
+shared-slice-read-out : tie.Need-shared-slice-read-out Inv-loop μ-loop
+shared-slice-read-out c = omega arith
 
-add-line : tie.Need-add-line Inv-loop μ-loop
-add-line c = omega (arith, turn (c .before .before .loop .inv) (c .before .loop-test .taken))
+add-out : tie.Need-add-out Inv-loop μ-loop
+add-out c = omega (arith, turn (c .before .before .loop .inv) (c .before .loop-test .taken))
 
-slice-write-line : tie.Need-slice-write-line Inv-loop μ-loop
-slice-write-line c = omega (arith, turn (c .before .before .loop .inv) (c .before .loop-test .taken))
+slice-write-out : tie.Need-slice-write-out Inv-loop μ-loop
+slice-write-out c = omega (arith, turn (c .before .before .loop .inv) (c .before .loop-test .taken))
 
 add-i : tie.Need-add-i Inv-loop μ-loop
 add-i c = omega arith
@@ -50,9 +50,9 @@ put-text-spec =
     Inv-loop
     μ-loop
     loop-holds
-    shared-slice-read-line
-    add-line
-    slice-write-line
+    shared-slice-read-out
+    add-out
+    slice-write-out
     add-i
     loop-less
     loop-again

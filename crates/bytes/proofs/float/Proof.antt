@@ -1,8 +1,8 @@
--- `text_fields::float` meets its contract. Assumes nothing.
-use Rattle.text_fields.proofs.Floats.{no-number, number}
+-- `bytes::float` meets its contract: a NaN's pattern is read as such, and any other is a number's. Assumes nothing.
+use Rattle.bytes.proofs.Reading.{no-number, number}
 use borrow.Author.Needs.{needs}
-use Rattle.text_fields.proofs.float.Statement.{statement}
-use Rattle.text_fields.proofs.float.Tie as tie
+use Rattle.bytes.proofs.float.Statement.{statement}
+use Rattle.bytes.proofs.float.Tie as tie
 
 returns : tie.Need-returns
 returns c = no-number _ (c .if1 .taken)

@@ -1,8 +1,8 @@
--- `stl_file::u32_at` meets its contract: four bytes, the lowest first. Assumes nothing.
-use Rattle.stl_file.proofs.Reading.{four-bytes}
+-- `bytes::u32_at` meets its contract: four bytes, the lowest first. Assumes nothing.
+use Rattle.bytes.proofs.Reading.{four-bytes}
 use borrow.Author.Needs.{needs}
-use Rattle.stl_file.proofs.u32_at.Statement.{statement}
-use Rattle.stl_file.proofs.u32_at.Tie as tie
+use Rattle.bytes.proofs.u32_at.Statement.{statement}
+use Rattle.bytes.proofs.u32_at.Tie as tie
 
 shared-slice-read-wide : tie.Need-shared-slice-read-wide
 shared-slice-read-wide c = search needs

@@ -7,7 +7,7 @@ use lib.ListN.{length, getD, set, drop, length-append, length-drop, take-append-
 use lib.Seq.{getD-drop, ext-getD}
 use Rattle.rows.specs.Region.{part, Out.above, Apart.before, Only, Holds}
 use Rattle.rows.proofs.Regions.{length-part, getD-part, part-add, only-none, only-both, only-more, only-next, holds-none, holds-next, kept}
-use Rattle.line.specs.Put.{Puts}
+use Rattle.bytes.specs.Put.{Puts}
 
 -- nothing is put
 pub puts-none : {w : List ℕ} {at : ℕ} → at ≤ length w → Puts w at [] w at

@@ -1,7 +1,7 @@
 -- A number put byte by byte, the lowest first. Assumes nothing.
 use mathlib.Core.Path.{_≡_, refl, sym, ap, _∙_}
-use mathlib.Core.List.{List, [], _∷_}
-use Prim.Native.Nat.{ℕ, zero, suc, _+_, _-_, _*_, _/_, _%_, _≤_, _<_}
+use mathlib.Core.List.{List}
+use Prim.Native.Nat.{ℕ, suc, _+_, _-_, _/_, _%_, _≤_, _<_}
 use native.Mathlib.Omega.{arith}
 use lib.ListN.{length, getD, set, drop}
 use lib.Seq.{getD-drop, drop-drop}
@@ -21,6 +21,7 @@ pub record Little (w₀ : List ℕ) (at k n : ℕ) (w : List ℕ) (m i : ℕ) : 
 pub record Turn (at : ℕ) (w : List ℕ) (i : ℕ) : Type 0 where
   pub room : at + i < length w
 
+-- before the first turn none is put, and n has all
 pub begin : {w₀ : List ℕ} {at k : ℕ} (n : ℕ) → at + k ≤ length w₀ → Little w₀ at k n w₀ n 0
 begin {w₀} {at} {k} n h =
     let l = little-long k n in
@@ -31,16 +32,19 @@ first-byte : (k m : ℕ) → getD (little (suc k) m) 0 0 ≡ m % 256
 unfolding little
 first-byte k m = refl
 
+-- the others are those of a 256th
 other-bytes : (k m : ℕ) → drop 1 (little (suc k) m) ≡ little k (m / 256)
 unfolding little
 other-bytes k m = refl
 
 module _ {w₀ : List ℕ} {at k n : ℕ} {w : List ℕ} {m i : ℕ} (v : Little w₀ at k n w m i) where
+  -- the next byte is in the room
   pub turn : i < k → Turn at w i
   turn h =
       let l = little-long k n in
       record { room = put.turn (v .begun) (omega arith) .room }
 
+  -- a turn puts the lowest byte of what is left
   pub again : i < k → Little w₀ at k n (set w (at + i) (m % 256)) (m / 256) (i + 1)
   again h =
       let l = little-long k n in
@@ -54,5 +58,6 @@ module _ {w₀ : List ℕ} {at k n : ℕ} {w : List ℕ} {m i : ℕ} (v : Little
         left = sym (drop-drop 1 i (little k n)) ∙ ap (drop 1) e ∙ other-bytes (k - (i + 1)) m;
       }
 
+  -- after k turns all are put
   pub done : k ≤ i → Puts w₀ at (little k n) w (at + i)
   done h = let l = little-long k n in put.done (v .begun) (omega arith)

@@ -92,7 +92,7 @@ tens (suc i) zero h = omega arith
 tens (suc i) (suc j) h = omega (arith, tens i j (omega arith))
 
 -- nor are several
-pub enough-more : (m k n : ℕ) → n < 10 ^ suc k → digits (suc (m + k)) n ≡ digits (suc k) n
+enough-more : (m k n : ℕ) → n < 10 ^ suc k → digits (suc (m + k)) n ≡ digits (suc k) n
 enough-more zero k n h =
     let e : 0 + k ≡ k = omega arith in
     rw e refl
@@ -101,7 +101,7 @@ enough-more (suc m) k n h =
     rw e (enough (m + k) n (omega (arith, tens (suc k) (suc (m + k)) (omega arith))) ∙ enough-more m k n h)
 
 -- of a number that has no more than k digits, k are as good as any larger number of them
-pub digits-as : (k m n : ℕ) → 0 < k → k ≤ m → n < 10 ^ k → digits k n ≡ digits m n
+digits-as : (k m n : ℕ) → 0 < k → k ≤ m → n < 10 ^ k → digits k n ≡ digits m n
 digits-as zero m n p q h = absurd (omega arith)
 digits-as (suc k) m n p q h =
     let e : suc (m - suc k + k) ≡ m = omega arith in
@@ -134,6 +134,11 @@ pub decimal-more : (n : ℕ) → 10 ≤ n → n < 10 ^ 10 → decimal n ≡ deci
 unfolding decimal
 decimal-more n h b = last 9 n h ∙ ap (λ (z : List ℕ). z ++ ((48 + n % 10) ∷ [])) (sym (enough 8 (n / 10) (omega arith)))
 
+-- and one of at most twenty its tenth in plain decimal, and a digit
+pub plain-more : (n : ℕ) → 10 ≤ n → n < 10 ^ 20 → plain n ≡ plain (n / 10) ++ ((48 + n % 10) ∷ [])
+unfolding plain
+plain-more n h b = last 19 n h ∙ ap (λ (z : List ℕ). z ++ ((48 + n % 10) ∷ [])) (sym (enough 18 (n / 10) (omega arith)))
+
 -- a number in decimal is at most ten bytes
 pub decimal-short : (n : ℕ) → length (decimal n) ≤ 10
 unfolding decimal
@@ -155,7 +160,7 @@ digits-more (suc i) n d h p z f =
 -- ---- the number that they write
 
 -- a byte more is a digit more of the number
-pub of-decimal-more : (xs : List ℕ) (b : ℕ) → of-decimal (xs ++ (b ∷ [])) ≡ 10 * of-decimal xs + (b - 48)
+of-decimal-more : (xs : List ℕ) (b : ℕ) → of-decimal (xs ++ (b ∷ [])) ≡ 10 * of-decimal xs + (b - 48)
 unfolding of-decimal through
 of-decimal-more xs b = through-append (λ n c. 10 * n + (c - 48)) 0 xs (b ∷ [])
 

@@ -1,13 +1,13 @@
 -- The header of a PLY file: its counts are read back as they were written. Assumes nothing.
-use mathlib.Core.Path.{_≡_, refl, ap, ap₂, _∙_}
-use mathlib.Core.List.{List, [], _∷_, _++_, append-assoc}
-use Prim.Native.Nat.{ℕ, _+_, _^_, _≤_, _<_}
+use mathlib.Core.Path.{_≡_, refl, ap, _∙_}
+use mathlib.Core.List.{List, _∷_, _++_, append-assoc}
+use Prim.Native.Nat.{ℕ, _+_, _^_, _<_}
 use native.Mathlib.Omega.{arith}
 use lib.ListN.{length, drop, length-append}
 use lib.Seq.{drop-append-seam}
 use Rattle.rules.specs.Line.{bytes, digits, plain}
 use Rattle.rules.specs.Text.{of-decimal}
-use Rattle.rules.specs.Ply.{before-vertices, before-faces, after-counts, header, line-end, vertices-in, faces-in, header-in}
+use Rattle.rules.specs.Ply.{before-vertices, before-faces, after-counts, header, line-end, vertices-in, faces-in}
 use Rattle.rules.proofs.Rising.{All, all-imp}
 use Rattle.rules.proofs.Digits.{Digit, digits-are, digits-of}
 use Rattle.rules.proofs.Texts.{line-end-at}
@@ -35,6 +35,7 @@ pub record Lengths : Type 0 where
   pub second : length before-faces ≡ 68
   pub third : length after-counts ≡ 51
 
+-- by counting their bytes
 pub lengths : Lengths
 lengths = record { first = first-long; second = second-long; third = third-long }
 
@@ -108,8 +109,3 @@ module _ (P F : ℕ) (body : List ℕ) (p-few : P < 10 ^ 20) (f-few : F < 10 ^ 2
       ∙ ap (λ l. of-decimal (line-end (plain F ++ l))) (after-line _)
       ∙ ap of-decimal (line-end-at (plain F) _ (no-newline F))
       ∙ count-of F f-few
-
-  -- so the header that reading expects is the one that stands there
-  pub header-written : header-in (header P F ++ body) ≡ header P F
-  unfolding header-in
-  header-written = ap₂ header vertices-written faces-written

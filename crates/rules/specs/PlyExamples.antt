@@ -9,7 +9,6 @@ use lib.Dec.{eqb, leb}
 use lib.ListN.{length, replicate, take}
 use lib.Ieee.{Float}
 use Rattle.rules.specs.Refusal.{ok, no, decided, unless, no1, no2}
-use Rattle.rules.specs.Rooms.{Outcome}
 use Rattle.rules.specs.Line.{bytes}
 use Rattle.rules.specs.Ply.{vertices-in, faces-in, no13}
 use Rattle.rules.specs.Calls.{ReadPlyRooms, read-ply, read-ply-check, WritePlyRooms, write-ply, write-ply-check, ply-counts, ply-counts-check}

@@ -1,11 +1,10 @@
 -- A float from its bits, a NaN's too. Assumes nothing.
-use mathlib.Core.Path.{_≡_, refl, sym, ap, subst, _∙_}
+use mathlib.Core.Path.{_≡_, sym, subst, _∙_}
 use mathlib.Core.Bool.{Bool, true, false, not, _&&_}
-use mathlib.Core.List.{List}
-use Prim.Native.Nat.{ℕ, _+_, _*_, _%_, _≤_, _<_}
+use Prim.Native.Nat.{ℕ, _%_, _≤_, _<_}
 use borrow.Author.Tests.{lt-ltb, le-ltb}
 use lib.Dec.{T, ltb}
-use lib.Ieee.{Float, nan, inf, fin, binary32, binary64, ones, hid, top, isNan, nanBits, ofBits, div, fits}
+use lib.Ieee.{binary32, binary64, isNan, nanBits, ofBits, div, fits}
 use lib.Ieee.Fits.{and-i}
 use lib.Ieee.Bits.{nanBits-is, nanBits-above}
 use Rattle.rules.proofs.Equal.{widened-fits}

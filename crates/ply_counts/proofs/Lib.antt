@@ -1,0 +1,2 @@
+-- `Ending` has the outcome of the call.
+pub mod Ending

@@ -7,7 +7,7 @@ use lib.ListN.{getD}
 use lib.Dec.{eqb}
 use lib.Ieee.{Float}
 use Rattle.rules.specs.Rooms.{Answer, accepted, refused, Outcome}
-use Rattle.rules.specs.Calls.{RepairRooms, EdgesRooms, LoopsRooms, PatchesRooms}
+use Rattle.rules.specs.Calls.{RepairRooms, EdgesRooms, LoopsRooms, PatchesRooms, StlRooms, ReadPlyRooms, WritePlyRooms}
 use Rattle.repair.specs.declared.Repaired.{Repaired}
 use Rattle.repair.specs.declared.Repaired.the-variants as repaired
 use Rattle.repair.specs.Answers as repair
@@ -26,10 +26,18 @@ use Rattle.patches.specs.Answers as patches
 use Rattle.line.specs.declared.Lined.{Lined}
 use Rattle.line.specs.declared.Lined.the-variants as lined
 use Rattle.line.specs.Put as line
-use Rattle.rules.specs.Stl.{StlRooms}
 use Rattle.read_stl.specs.declared.Read.{Read}
 use Rattle.read_stl.specs.declared.Read.the-variants as read
 use Rattle.read_stl.specs.Answers as stl
+use Rattle.read_ply.specs.declared.Read.{Read as ReadPly}
+use Rattle.read_ply.specs.declared.Read.the-variants as ply-read
+use Rattle.read_ply.specs.Answers as ply
+use Rattle.write_ply.specs.declared.Wrote.{Wrote}
+use Rattle.write_ply.specs.declared.Wrote.the-variants as wrote
+use Rattle.write_ply.specs.Written as written
+use Rattle.ply_counts.specs.declared.Counted.{Counted}
+use Rattle.ply_counts.specs.declared.Counted.the-variants as counted
+use Rattle.ply_counts.specs.Answers as counts
 
 -- ---- repair
 
@@ -174,3 +182,62 @@ one-read {o} {r} {r′} p q =
       ap (λ t. t .rooms .faces) e,
       ap (λ t. t .rooms .work) e,
     )
+
+-- ---- reading a PLY file
+
+-- what reading gave back, from the rules' answer
+abbrev ply-read-of : Answer → ReadPly
+ply-read-of (accepted ns) = ply-read.Done (getD ns 0 0) (getD ns 1 0)
+ply-read-of (refused n p) = ply-read.Refused n p
+
+-- nothing of it is lost
+ply-read-is : (r : ReadPly) → ply-read-of (ply.answerOf r) ≡ r
+ply-read-is (ply-read.Done a b) = refl
+ply-read-is (ply-read.Refused n p) = refl
+
+-- reading has one answer, and leaves one list in each room
+pub one-read-ply :
+    {o : Outcome ReadPlyRooms} {r r′ : ReadPly} {points points′ : List Float} {faces faces′ work work′ : List ℕ} → ply.outcomeOf r points faces work ≡ o
+    → ply.outcomeOf r′ points′ faces′ work′ ≡ o → (r ≡ r′) × (points ≡ points′) × (faces ≡ faces′) × (work ≡ work′)
+one-read-ply {o} {r} {r′} p q =
+    let e = p ∙ sym q in (
+      sym (ply-read-is r) ∙ ap (λ t. ply-read-of (t .answer)) e ∙ ply-read-is r′,
+      ap (λ t. t .rooms .points) e,
+      ap (λ t. t .rooms .faces) e,
+      ap (λ t. t .rooms .work) e,
+    )
+
+-- ---- writing a PLY file
+
+-- what writing gave back, from the rules' answer
+abbrev wrote-of : Answer → Wrote
+wrote-of (accepted ns) = wrote.Done (getD ns 0 0)
+wrote-of (refused n p) = wrote.Refused n p
+
+-- nothing of it is lost
+wrote-is : (r : Wrote) → wrote-of (written.answerOf r) ≡ r
+wrote-is (wrote.Done n) = refl
+wrote-is (wrote.Refused n p) = refl
+
+-- writing has one answer, and leaves one list in each room
+pub one-write-ply :
+    {o : Outcome WritePlyRooms} {r r′ : Wrote} {file file′ work work′ : List ℕ} → written.outcomeOf r file work ≡ o → written.outcomeOf r′ file′ work′ ≡ o
+    → (r ≡ r′) × (file ≡ file′) × (work ≡ work′)
+one-write-ply {o} {r} {r′} p q =
+    let e = p ∙ sym q in (sym (wrote-is r) ∙ ap (λ t. wrote-of (t .answer)) e ∙ wrote-is r′, ap (λ t. t .rooms .file) e, ap (λ t. t .rooms .work) e)
+
+-- ---- the counts of a PLY file
+
+-- what was told, from the rules' answer
+abbrev counted-of : Answer → Counted
+counted-of (accepted ns) = counted.Done (getD ns 0 0) (getD ns 1 0)
+counted-of (refused n p) = counted.Refused n p
+
+-- nothing of it is lost
+counted-is : (r : Counted) → counted-of (counts.answerOf r) ≡ r
+counted-is (counted.Done p f) = refl
+counted-is (counted.Refused n p) = refl
+
+-- the call has one answer
+pub one-count : {o : Outcome (Unit {0})} {r r′ : Counted} → counts.outcomeOf r ≡ o → counts.outcomeOf r′ ≡ o → r ≡ r′
+one-count {o} {r} {r′} p q = sym (counted-is r) ∙ ap (λ t. counted-of (t .answer)) (p ∙ sym q) ∙ counted-is r′

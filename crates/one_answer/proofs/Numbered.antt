@@ -8,8 +8,9 @@ use Rattle.rules.specs.Refusal.{Check, ok, no, decided, unless, at-first, no1, 
 use Rattle.rules.specs.Rooms.{Answer, accepted, refused, outcome}
 use Rattle.rules.specs.Edges.{no7, no8}
 use Rattle.rules.specs.Patches.{Filter}
-use Rattle.rules.specs.Calls.{RepairRooms, EdgesRooms, LoopsRooms, PatchesRooms, repair, repair-check, find-edges, edges-check, find-loops, loops-check, check, check-check, find-patches, patches-check, write-line, line-check}
-use Rattle.rules.specs.Stl.{StlRooms, read-stl, stl-check, no12}
+use Rattle.rules.specs.Calls.{RepairRooms, EdgesRooms, LoopsRooms, PatchesRooms, repair, repair-check, find-edges, edges-check, find-loops, loops-check, check, check-check, find-patches, patches-check, write-line, line-check, StlRooms, read-stl, stl-check, ReadPlyRooms, read-ply, read-ply-check, WritePlyRooms, write-ply, write-ply-check, ply-counts, ply-counts-check}
+use Rattle.rules.specs.Stl.{no12}
+use Rattle.rules.specs.Ply.{no13, no14}
 
 -- a refusal's number is not 0
 abbrev pub Numbered : Answer → Type 0
@@ -101,3 +102,22 @@ unfolding read-stl stl-check no12 no4 no6 at-first
 read-numbered file r =
     answers (stl-check file r) _ _ _
     (decides _ (by-number 12 0 _ (omega arith), (two 1 _ _, (by-number 4 _ _ (omega arith), (by-number 6 _ _ (omega arith), tt)))))
+
+-- reading a PLY file
+pub read-ply-numbered : (file : List ℕ) (r : ReadPlyRooms) → Numbered (read-ply file r .answer)
+unfolding read-ply read-ply-check no13 no14 no4 no5 no6 at-first
+read-ply-numbered file r =
+    answers (read-ply-check file r) _ _ _
+    (decides _ (by-number 13 0 _ (omega arith), (two 0 _ _, (two 1 _ _, (by-number 14 _ _ (omega arith), (by-number 4 _ _ (omega arith), (by-number 5 _ _ (omega arith), (by-number 6 _ _ (omega arith), tt))))))))
+
+-- writing one
+pub write-ply-numbered : (points : List Float) (faces : List ℕ) (r : WritePlyRooms) → Numbered (write-ply points faces r .answer)
+unfolding write-ply write-ply-check no4 no5 no6 at-first
+write-ply-numbered points faces r =
+    answers (write-ply-check points faces r) _ _ _
+    (decides _ (one 0 _, (one 1 _, (two 0 _ _, (two 1 _ _, (by-number 4 _ _ (omega arith), (by-number 5 _ _ (omega arith), (by-number 6 _ _ (omega arith), tt))))))))
+
+-- its counts
+pub ply-counts-numbered : (file : List ℕ) → Numbered (ply-counts file .answer)
+unfolding ply-counts ply-counts-check no13
+ply-counts-numbered file = answers (ply-counts-check file) _ _ _ (decides _ (by-number 13 0 _ (omega arith), (two 0 _ _, (two 1 _ _, tt))))

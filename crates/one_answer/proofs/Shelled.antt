@@ -12,6 +12,9 @@ use Rattle.shell.specs.declared.ShellCheck.{ShellCheck}
 use Rattle.shell.specs.declared.ShellPatches.{ShellPatches}
 use Rattle.shell.specs.declared.ShellLine.{ShellLine}
 use Rattle.shell.specs.declared.ShellStl.{ShellStl}
+use Rattle.shell.specs.declared.ShellPly.{ShellPly}
+use Rattle.shell.specs.declared.ShellPlyFile.{ShellPlyFile}
+use Rattle.shell.specs.declared.ShellPlyCounts.{ShellPlyCounts}
 
 -- a number, a place and as many entries, told of one outcome, are the same, and so are the rooms
 pub one-given :
@@ -71,4 +74,25 @@ module _ {R : Type 0} {o : Outcome R} {rooms rooms′ : R} where
       {r r′ : ShellStl} → Given (r .number) (r .place) (r .points ∷ r .faces ∷ []) rooms o → Given (r′ .number) (r′ .place) (r′ .points ∷ r′ .faces ∷ []) rooms′ o
       → (r ≡ r′) × (rooms ≡ rooms′)
   one-shell-read g h =
+      let b = one-given refl g h in (ap (λ xs. record { number = getD xs 0 0; place = getD xs 1 0; points = getD xs 2 0; faces = getD xs 3 0 }) (b .0), b .1)
+
+  -- shell_read_ply
+  pub one-shell-read-ply :
+      {r r′ : ShellPly} → Given (r .number) (r .place) (r .points ∷ r .faces ∷ []) rooms o → Given (r′ .number) (r′ .place) (r′ .points ∷ r′ .faces ∷ []) rooms′ o
+      → (r ≡ r′) × (rooms ≡ rooms′)
+  one-shell-read-ply g h =
+      let b = one-given refl g h in (ap (λ xs. record { number = getD xs 0 0; place = getD xs 1 0; points = getD xs 2 0; faces = getD xs 3 0 }) (b .0), b .1)
+
+  -- shell_write_ply
+  pub one-shell-write-ply :
+      {r r′ : ShellPlyFile} → Given (r .number) (r .place) (r .bytes ∷ []) rooms o → Given (r′ .number) (r′ .place) (r′ .bytes ∷ []) rooms′ o
+      → (r ≡ r′) × (rooms ≡ rooms′)
+  one-shell-write-ply g h =
+      let b = one-given refl g h in (ap (λ xs. record { number = getD xs 0 0; place = getD xs 1 0; bytes = getD xs 2 0 }) (b .0), b .1)
+
+  -- shell_ply_counts
+  pub one-shell-ply-counts :
+      {r r′ : ShellPlyCounts} → Given (r .number) (r .place) (r .points ∷ r .faces ∷ []) rooms o
+      → Given (r′ .number) (r′ .place) (r′ .points ∷ r′ .faces ∷ []) rooms′ o → (r ≡ r′) × (rooms ≡ rooms′)
+  one-shell-ply-counts g h =
       let b = one-given refl g h in (ap (λ xs. record { number = getD xs 0 0; place = getD xs 1 0; points = getD xs 2 0; faces = getD xs 3 0 }) (b .0), b .1)

@@ -3,3 +3,4 @@ pub mod Outcomes
 pub mod Patching
 pub mod PatchPlaces
 pub mod StlPlaces
+pub mod PlyPlaces

@@ -87,8 +87,8 @@ repair-near points faces s options r =
     (λ _. step _ _ (no6-near (repair-rooms P F) _ (omega arith))
     (λ _. end)))))))))
 
--- of what the edge call and the loop call check before their rooms: 2 comes before 4, 5, 7 and 8, so P and F are not too large
-input-near :
+-- of what calls check of points and faces before their rooms: 2 comes before 4, 5, 7 and 8, so P and F are not too large
+pub input-near :
     (points : List Float) (faces : List ℕ) (rest : List Check) → (length points / 3 ≤ most-points → length faces / 3 ≤ most-faces → Near (decided rest))
     → Near
     (decided

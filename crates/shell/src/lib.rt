@@ -4,16 +4,19 @@ use edge_check::Checked;
 use edges::Found;
 use line::Lined;
 use patches::Patched;
+use ply_counts::Counted;
 use read_stl::Read;
 use repair::Repaired;
+use write_ply::Wrote;
 ghost use mathlib.Core.Path.{_≡_};
 ghost use mathlib.Core.List.{[], _∷_};
 ghost use Rattle.rules.specs.Calls as rule;
-ghost use Rattle.rules.specs.Stl as rule-stl;
 ghost use Rattle.repair.specs.Answers as repaired;
 ghost use Rattle.edges.specs.Answers as edged;
 ghost use Rattle.boundary_loops.specs.Answers as looped;
 ghost use Rattle.read_stl.specs.Answers as stl;
+ghost use Rattle.read_ply.specs.Answers as ply;
+ghost use Rattle.write_ply.specs.Written as wrote;
 ghost use Rattle.patches.specs.Answers.{roomsOf};
 ghost use Rattle.patch_mask.specs.Mask.{masked};
 ghost use Rattle.shell.specs.Told.{Given};
@@ -333,7 +336,7 @@ pub extern "C" fn shell_read_stl(
     ensures { λ r. ⌜
         (let before = stl.roomsOf (now (points .entry)) (now (faces .entry)) (now (work .entry)) in
         let after = stl.roomsOf (now (points .exit)) (now (faces .exit)) (now (work .exit)) in
-        Given (r .number) (r .place) (r .points ∷ r .faces ∷ []) after (rule-stl.read-stl (now (file .entry)) before))
+        Given (r .number) (r .place) (r .points ∷ r .faces ∷ []) after (rule.read-stl (now (file .entry)) before))
         ⌝ }
 {
     match read_stl::read_stl(file, points, faces, work) {
@@ -346,6 +349,120 @@ pub extern "C" fn shell_read_stl(
         Read::Refused(number, at) => {
             let place = at as u32;
             ShellStl {
+                number: number,
+                place: place,
+                points: 0,
+                faces: 0,
+            }
+        }
+    }
+}
+
+// What reading a binary PLY file gives back: how many entries stand in the rooms of points and faces.
+#[repr(C)]
+pub struct ShellPly {
+    pub number: u32,
+    pub place: u32,
+    pub points: u64,
+    pub faces: u64,
+}
+
+// Reads a binary PLY file in memory into points and triples.
+#[no_mangle]
+pub extern "C" fn shell_read_ply(
+    file: &[u8],
+    points: &mut [f64],
+    faces: &mut [u32],
+    work: &mut [u32],
+) -> ShellPly
+    ensures { λ r. ⌜
+        (let before = ply.roomsOf (now (points .entry)) (now (faces .entry)) (now (work .entry)) in
+        let after = ply.roomsOf (now (points .exit)) (now (faces .exit)) (now (work .exit)) in
+        Given (r .number) (r .place) (r .points ∷ r .faces ∷ []) after (rule.read-ply (now (file .entry)) before))
+        ⌝ }
+{
+    match read_ply::read_ply(file, points, faces, work) {
+        read_ply::Read::Done(a, b) => ShellPly {
+            number: 0,
+            place: 0,
+            points: a as u64,
+            faces: b as u64,
+        },
+        read_ply::Read::Refused(number, at) => {
+            let place = at as u32;
+            ShellPly {
+                number: number,
+                place: place,
+                points: 0,
+                faces: 0,
+            }
+        }
+    }
+}
+
+// What writing a binary PLY file gives back: how many bytes the file has.
+#[repr(C)]
+pub struct ShellPlyFile {
+    pub number: u32,
+    pub place: u32,
+    pub bytes: u64,
+}
+
+// Writes points and triples as a binary PLY file into a lent room.
+#[no_mangle]
+pub extern "C" fn shell_write_ply(
+    points: &[f64],
+    faces: &[u32],
+    file: &mut [u8],
+    work: &mut [u32],
+) -> ShellPlyFile
+    ensures { λ r. ⌜
+        (let before = wrote.roomsOf (now (file .entry)) (now (work .entry)) in
+        let after = wrote.roomsOf (now (file .exit)) (now (work .exit)) in
+        Given (r .number) (r .place) (r .bytes ∷ []) after (rule.write-ply (now (points .entry)) (now (faces .entry)) before))
+        ⌝ }
+{
+    match write_ply::write_ply(points, faces, file, work) {
+        Wrote::Done(a) => ShellPlyFile {
+            number: 0,
+            place: 0,
+            bytes: a as u64,
+        },
+        Wrote::Refused(number, at) => {
+            let place = at as u32;
+            ShellPlyFile {
+                number: number,
+                place: place,
+                bytes: 0,
+            }
+        }
+    }
+}
+
+// What the counts of a binary PLY file are: P and F.
+#[repr(C)]
+pub struct ShellPlyCounts {
+    pub number: u32,
+    pub place: u32,
+    pub points: u64,
+    pub faces: u64,
+}
+
+// Tells how many points and faces a binary PLY file in memory has, so that rooms can be lent to reading it.
+#[no_mangle]
+pub extern "C" fn shell_ply_counts(file: &[u8]) -> ShellPlyCounts
+    ensures { λ r. ⌜ Given (r .number) (r .place) (r .points ∷ r .faces ∷ []) tt (rule.ply-counts (now (file .entry))) ⌝ }
+{
+    match ply_counts::ply_counts(file) {
+        Counted::Done(p, f) => ShellPlyCounts {
+            number: 0,
+            place: 0,
+            points: p as u64,
+            faces: f as u64,
+        },
+        Counted::Refused(number, at) => {
+            let place = at as u32;
+            ShellPlyCounts {
                 number: number,
                 place: place,
                 points: 0,

@@ -1,42 +1,6 @@
 // Runs real meshes through the calls for C, in rooms that hold 7 before the call, or 0 where that is said, and are longer than document 01 asks. First
 // what a call gives back is written, then its rooms. A row of floats is compared with what it must be.
 use patches::Limit;
-ghost use Prim.Native.Nat.{_≤_, _<_};
-ghost use lib.ListN.{length};
-
-// Writes a run.
-fn run(n: usize, x: u32) {
-    io::print_decimal(1, n as u64);
-    io::write_all(1, b"x");
-    show::number(x as u64);
-}
-
-// Writes the run that ends before entry i, if one does. Returns where the run of entry i begins.
-fn passed(row: &[u32], begin: usize, i: usize) -> usize
-    requires { ⌜ begin ≤ i ⌝ }
-    requires { ⌜ i < length (now row) ⌝ }
-    ensures { λ r. ⌜ r ≤ i ⌝ }
-{
-    if row[i] == row[begin] {
-        return begin;
-    }
-    run(i - begin, row[begin]);
-    i
-}
-
-// Writes a row by its runs: how many entries, and the number that they all hold.
-fn runs(row: &[u32]) {
-    let mut begin = 0;
-    let mut i = 0;
-    while i < row.len() {
-        begin = passed(row, begin, i);
-        i += 1;
-    }
-    if begin < row.len() {
-        run(i - begin, row[begin]);
-    }
-    show::end_line();
-}
 
 // Writes how many entries of a row of floats are those of another, and how many after those of the other are 0.
 fn floats(row: &[f64], other: &[f64]) {
@@ -71,7 +35,7 @@ fn repair(points: &[f64], faces: &[u32], options: u32, mended: &[f64]) {
     floats(&out_points, mended);
     show::row(&out_faces, out_faces.len());
     show::row(&report, report.len());
-    runs(&work);
+    show::runs(&work);
 }
 
 // Document 01's mesh with three faces at an edge, by all passes, and by pass 4 alone; its five faces of one place, by pass 4; two faces at an edge, by
@@ -150,7 +114,7 @@ fn edges(points: &[f64], faces: &[u32], fill: u32, face_edges: &mut [u32], long:
     show::row(&edges, edges.len());
     floats(&lengths, long);
     show::row(face_edges, face_edges.len());
-    runs(&work);
+    show::runs(&work);
 }
 
 // The loop call, of at most 3 faces, in a work room that holds this number.
@@ -165,7 +129,7 @@ fn loops(points: &[f64], faces: &[u32], fill: u32, loop_ends: &mut [u32]) {
     show::end_line();
     show::row(&loop_vertices, loop_vertices.len());
     show::row(loop_ends, loop_ends.len());
-    runs(&work);
+    show::runs(&work);
 }
 
 // Both calls.
@@ -243,7 +207,7 @@ fn check(points: u64, faces: &[u32]) {
     show::numbers(&[r.number, r.place], 2);
     show::number(r.yes);
     show::end_line();
-    runs(&work);
+    show::runs(&work);
 }
 
 // Two faces that agree, two that do not, and a corner that is no point.
@@ -304,7 +268,7 @@ fn patches(count: u64, limits: u32, n: u64, x: f64, sums: &[f64]) {
     show::end_line();
     show::row(&face_counts, 5);
     show::row(&flags, 5);
-    runs(&work);
+    show::runs(&work);
     floats(&numbers, sums);
     show::equal(&[1.0 / numbers[1]], &[1.0 / 0.0]);
 }
@@ -359,6 +323,49 @@ fn patch_calls() {
     patches(5, 0, 0, 9.0, &[7.0; 29]);
 }
 
+// Reads a PLY file of at most one point and one face.
+fn read_ply(file: &[u8]) {
+    let mut points = [7.0; 4];
+    let mut faces = [7u32; 4];
+    let mut work = [7u32; 145];
+    let r = shell::shell_read_ply(file, &mut points, &mut faces, &mut work);
+    io::write_all(1, b"read ");
+    show::numbers(&[r.number, r.place], 2);
+    show::number(r.points);
+    show::number(r.faces);
+    show::end_line();
+    show::bits(&points);
+    show::row(&faces, 4);
+    show::runs(&work);
+}
+
+// Tells the counts of a PLY file.
+fn count_ply(file: &[u8]) {
+    let r = shell::shell_ply_counts(file);
+    io::write_all(1, b"counts ");
+    show::numbers(&[r.number, r.place], 2);
+    show::number(r.points);
+    show::number(r.faces);
+    show::end_line();
+}
+
+// One point and one face as a PLY file; then what stands in its room is read, and a byte more.
+fn ply(points: &[f64], faces: &[u32]) {
+    let mut file = [7u8; 210];
+    let mut work = [7u32; 145];
+    let r = shell::shell_write_ply(points, faces, &mut file, &mut work);
+    io::write_all(1, b"write ");
+    show::numbers(&[r.number, r.place], 2);
+    show::number(r.bytes);
+    show::end_line();
+    show::hex(&file);
+    show::runs(&work);
+    read_ply(&file[..209]);
+    count_ply(&file[..209]);
+    read_ply(&file);
+    count_ply(&file);
+}
+
 // Writes a limit: absent, zero, or another number.
 fn limit(by: Limit) {
     match by {
@@ -395,6 +402,8 @@ fn main() {
     line(&[0, 0, 1, 1, 0, 0, 0, 1, 0, 1]);
     line(&[0, 0, 1]);
     patch_calls();
+    ply(&[0.0, -0.0, 1.0], &[0, 0, 0]);
+    ply(&[0.0, 0.0, 0.0], &[0, 1, 0]);
     mask(0);
     mask(2);
     mask(12);

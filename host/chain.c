@@ -1,8 +1,9 @@
-/* The chain repair, check, edges, loops on damaged meshes, from a fixed seed: `chain MESHES`. After a repair with all six options each mesh must be what is
- * proved of it: the check says yes, the edge call and the loop call accept, each boundary edge stands in exactly one loop, each directed edge is walked at most
- * once, every point is used and has one fan, each face is an input face in input order, as many faces as repeat a corner are counted so, and the counts add up.
- * Before the repair the edge call must accept whatever the loop call accepts or refuses for its boundary, and refuse the same where an edge is crowded. The
- * first mesh that differs is printed. */
+/* The chain repair, check, edges, loops, and writing to a PLY file and reading it, on damaged meshes, from a fixed seed: `chain MESHES`. After a repair with
+ * all six options each mesh must be what is proved of it: the check says yes, the edge call and the loop call accept, each boundary edge stands in exactly one
+ * loop, each directed edge is walked at most once, every point is used and has one fan, each face is an input face in input order, as many faces as repeat a
+ * corner are counted so, and the counts add up. Before the repair the edge call must accept whatever the loop call accepts or refuses for its boundary, and
+ * refuse the same where an edge is crowded. Before and after it the mesh is read from the PLY file that it is written to with the same bits. The first mesh
+ * that differs is printed. */
 #include "shell.h"
 #include <stdio.h>
 #include <stdlib.h>
@@ -16,7 +17,7 @@ typedef struct {
     size_t P, F;
 } Mesh;
 
-/* The rooms of the four calls, and how many entries stand in them. */
+/* The rooms of repair, edges and loops, and how many entries stand in them. */
 typedef struct {
     double *points, *lengths;
     uint32_t *faces, *report, *work, *edges, *face_edges, *loop_vertices, *loop_ends;
@@ -139,7 +140,7 @@ static void damage(Mesh *m) {
     }
 }
 
-/* A damaged mesh; its points are whole numbers or fractions, and some of them are equal. */
+/* A damaged mesh; its points are whole numbers or fractions, with zeros of both signs, and some of them are equal. */
 static Mesh damaged(void) {
     static void (*const kinds[])(Mesh *) = {any_faces, strip, grid, fans, bodies};
     static const double thresholds[] = {0, 1e-12, 1.0 / 1024, 0.25};
@@ -150,6 +151,8 @@ static Mesh damaged(void) {
     uint32_t wide = below(2) ? 7 : 1000;
     for (size_t i = 0; i < 3 * m.P; i++)
         m.points[i] = ((double)below(wide) - wide / 2) / (wide == 7 ? 1 : 64);
+    for (size_t i = 1; i < 3 * m.P; i += 2)
+        m.points[i] = m.points[i] == 0 ? -0.0 : m.points[i];
     return m;
 }
 
@@ -192,10 +195,49 @@ static void free_edges(Rooms *r) {
 }
 
 /* What all meshes together had: those that were refused before the repair, and those of them whose edges are listed all the same; boundary edges and loops
- * after the repair, and degenerate faces of both kinds before it. */
+ * after the repair, and degenerate faces of both kinds before it; bytes of PLY files. */
 typedef struct {
-    uint64_t refused, listed, boundary, loops, repeated, thin;
+    uint64_t refused, listed, boundary, loops, repeated, thin, bytes;
 } Sums;
+
+/* Whether a PLY file is counted and read as this mesh, in rooms that are just large enough. */
+static int reads_as(const uint8_t *file, size_t bytes, const double *points, size_t P, const uint32_t *faces, size_t F) {
+    double *read_points = room(SHELL_PLY_POINTS_ROOM(P), 8);
+    uint32_t *read_faces = room(SHELL_PLY_FACES_ROOM(F), 4), *work = room(SHELL_WORK_ROOM(P, F), 4);
+    ShellPlyCounts counts = shell_ply_counts(file, bytes);
+    ShellPly found = shell_read_ply(file, bytes, read_points, SHELL_PLY_POINTS_ROOM(P), read_faces, SHELL_PLY_FACES_ROOM(F), work, SHELL_WORK_ROOM(P, F));
+    int same = counts.number == SHELL_ACCEPTED && counts.points == P && counts.faces == F && found.number == SHELL_ACCEPTED && found.points == 3 * P &&
+               found.faces == 3 * F && memcmp(read_points, points, 24 * P) == 0 && memcmp(read_faces, faces, 12 * F) == 0;
+    free(read_points);
+    free(read_faces);
+    free(work);
+    return same;
+}
+
+/* Writes the mesh to a PLY file, with all the room that is ever wanted, then with a room as long as the file and one byte less, and reads it. Says what
+ * differs, or NULL. */
+static const char *there_and_back(const double *points, size_t P, const uint32_t *faces, size_t F, Sums *sums) {
+    size_t most = SHELL_PLY_FILE_ROOM(P, F), w = SHELL_WORK_ROOM(P, F);
+    uint8_t *file = room(most, 1);
+    uint32_t *work = room(w, 4);
+    ShellPlyFile written = shell_write_ply(points, 3 * P, faces, 3 * F, file, most, work, w);
+    size_t bytes = written.number == SHELL_ACCEPTED ? written.bytes : 1;
+    uint8_t *exact = room(bytes, 1);
+    ShellPlyFile again = shell_write_ply(points, 3 * P, faces, 3 * F, exact, bytes, work, w);
+    ShellPlyFile shorter = shell_write_ply(points, 3 * P, faces, 3 * F, file, bytes - 1, work, w);
+    const char *found = NULL;
+    if (written.number != SHELL_ACCEPTED || again.number != SHELL_ACCEPTED || again.bytes != bytes || memcmp(file, exact, bytes) != 0)
+        found = "it is not written as a PLY file";
+    else if (shorter.number != SHELL_SHORT_ROOM || shorter.place != 0)
+        found = "it is written into less room than its file has";
+    else if (!reads_as(exact, bytes, points, P, faces, F))
+        found = "it is not read from the PLY file that it is written to";
+    sums->bytes += bytes;
+    free(file);
+    free(exact);
+    free(work);
+    return found;
+}
 
 /* Counts whether the mesh is refused as it is, by the check, the edge call or the loop call, and whether its edges are listed though its loops are refused; says
  * how the answers of the two calls do not fit together, or NULL. */
@@ -308,7 +350,7 @@ static int looped(const Rooms *r, size_t P, size_t F, uint64_t *boundary) {
 }
 
 /* What differs from what is proved of the output, or NULL. */
-static const char *fault(const Mesh *m, Rooms *r, uint64_t *boundary) {
+static const char *fault(const Mesh *m, Rooms *r, Sums *sums) {
     if (r->repaired.number != SHELL_ACCEPTED || r->repaired.counts != SHELL_REPORT_ROOM)
         return "the repair refuses";
     size_t P = r->repaired.points / 3, F = r->repaired.faces / 3;
@@ -329,7 +371,7 @@ static const char *fault(const Mesh *m, Rooms *r, uint64_t *boundary) {
         return "the edge call refuses";
     if (r->loops.number != SHELL_ACCEPTED)
         return "the loop call refuses";
-    return looped(r, P, F, boundary) ? NULL : "a boundary edge is not in one loop";
+    return looped(r, P, F, &sums->boundary) ? there_and_back(r->points, P, r->faces, F, sums) : "a boundary edge is not in one loop";
 }
 
 /* Repairs the mesh, and says what differs after it. */
@@ -338,7 +380,7 @@ static const char *chain(const Mesh *m, Sums *sums) {
     Rooms r = {.points = room(SHELL_POINTS_ROOM(P, F), 8), .faces = room(SHELL_FACES_ROOM(F), 4), .report = room(SHELL_REPORT_ROOM, 4), .work = room(most, 4)};
     r.repaired = shell_repair(m->points, 3 * P, m->faces, 3 * F, m->s, SHELL_ALL_OPTIONS, r.points, SHELL_POINTS_ROOM(P, F), r.faces, SHELL_FACES_ROOM(F),
                               r.report, SHELL_REPORT_ROOM, r.work, most);
-    const char *found = fault(m, &r, &sums->boundary);
+    const char *found = fault(m, &r, sums);
     sums->loops += r.loops.loop_ends;
     sums->repeated += r.report[SHELL_REPEATED_REMOVED];
     sums->thin += r.report[SHELL_THIN_REMOVED];
@@ -356,12 +398,14 @@ int main(int count, char **names) {
         return 2;
     }
     unsigned long meshes = strtoul(names[1], NULL, 10);
-    Sums sums = {0, 0, 0, 0, 0, 0};
+    Sums sums = {0, 0, 0, 0, 0, 0, 0};
     for (unsigned long k = 0; k < meshes; k++) {
         Mesh m = k < 3 ? plain(k) : damaged();
         const char *found = chain(&m, &sums);
         if (found == NULL)
             found = unmended(&m, &sums);
+        if (found == NULL)
+            found = there_and_back(m.points, m.P, m.faces, m.F, &sums);
         if (found != NULL) {
             printf("chain: mesh %lu: %s\n", k, found);
             print(&m);
@@ -369,8 +413,8 @@ int main(int count, char **names) {
         }
     }
     printf("chain: %lu meshes, %lu of them refused before the repair, %lu with edges but no loops; it removes %lu faces that repeat a corner and %lu thin ones; "
-           "after it %lu boundary edges in %lu loops\n",
+           "after it %lu boundary edges in %lu loops; %lu bytes of PLY files there and back\n",
            meshes, (unsigned long)sums.refused, (unsigned long)sums.listed, (unsigned long)sums.repeated, (unsigned long)sums.thin,
-           (unsigned long)sums.boundary, (unsigned long)sums.loops);
+           (unsigned long)sums.boundary, (unsigned long)sums.loops, (unsigned long)sums.bytes);
     return 0;
 }

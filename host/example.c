@@ -1,11 +1,12 @@
-/* The panel builder's way to call the library: mend a shell, say what was done, check it, list its edges and its boundary, and sort its patches. Edges are
- * listed of a shell that is not mended too, where the loops are refused. */
+/* The panel builder's way to call the library: mend a shell, say what was done, check it, list its edges and its boundary, write it as a PLY file for the
+ * layout program and read it back, and sort its patches. Edges are listed of a shell that is not mended too, where the loops are refused. */
 #include "shell.h"
 #include <stdio.h>
+#include <string.h>
 
 /* The calls, their rooms and the places of a report are those of the header's edition. */
-#if SHELL_VERSION != 3
-#error "written for edition 3 of shell.h"
+#if SHELL_VERSION != 5
+#error "written for edition 5 of shell.h"
 #endif
 
 /* Rooms for shells of up to 5 points and 5 faces. A repair may add 3 points a face, so the calls after it want a work room for that many. */
@@ -13,6 +14,9 @@ enum { P = 5, F = 5, MOST = P + 3 * F };
 static double mended[SHELL_POINTS_ROOM(P, F)], lengths[SHELL_LENGTHS_ROOM(F)];
 static uint32_t triples[SHELL_FACES_ROOM(F)], report[SHELL_REPORT_ROOM], work[SHELL_WORK_ROOM(MOST, F)];
 static uint32_t edges[SHELL_EDGES_ROOM(F)], face_edges[SHELL_FACE_EDGES_ROOM(F)], loop_vertices[SHELL_LOOP_VERTICES_ROOM(F)], loop_ends[SHELL_LOOP_ENDS_ROOM(F)];
+static uint8_t file[SHELL_PLY_FILE_ROOM(MOST, F)];
+static double read_points[SHELL_PLY_POINTS_ROOM(MOST)];
+static uint32_t read_faces[SHELL_PLY_FACES_ROOM(F)];
 #define ROOM(room) room, sizeof room / sizeof *room
 
 static int refused(const char *call, uint32_t number, uint32_t place) {
@@ -61,6 +65,24 @@ static int measure(const char *name, const double *points, size_t points_len, co
     return list(points, points_len, faces, faces_len);
 }
 
+/* A shell as a PLY file and back. A program that does not know the file asks for its counts first, and makes rooms of 3 times as many entries. */
+static int there_and_back(const double *points, size_t points_len, const uint32_t *faces, size_t faces_len) {
+    ShellPlyFile written = shell_write_ply(points, points_len, faces, faces_len, ROOM(file), ROOM(work));
+    if (written.number != SHELL_ACCEPTED)
+        return refused("write", written.number, written.place);
+    ShellPlyCounts counts = shell_ply_counts(file, written.bytes);
+    if (counts.number != SHELL_ACCEPTED)
+        return refused("counts", counts.number, counts.place);
+    ShellPly found = shell_read_ply(file, written.bytes, read_points, SHELL_PLY_POINTS_ROOM(counts.points), read_faces, SHELL_PLY_FACES_ROOM(counts.faces),
+                                    ROOM(work));
+    if (found.number != SHELL_ACCEPTED)
+        return refused("read", found.number, found.place);
+    int same = found.points == points_len && found.faces == faces_len && memcmp(read_points, points, sizeof *points * points_len) == 0 &&
+               memcmp(read_faces, faces, sizeof *faces * faces_len) == 0;
+    printf("  PLY: %u bytes, read back as %s bits\n", (unsigned)written.bytes, same ? "the same" : "other");
+    return !same;
+}
+
 /* A repair with every pass, its report as a line, and the calls that want a mended shell. */
 static int mend(const char *name, const double *points, size_t points_len, const uint32_t *faces, size_t faces_len) {
     ShellRepaired repaired = shell_repair(points, points_len, faces, faces_len, 1e-12, SHELL_ALL_OPTIONS, ROOM(mended), ROOM(triples), ROOM(report), ROOM(work));
@@ -82,7 +104,7 @@ static int mend(const char *name, const double *points, size_t points_len, const
     if (sound.number != SHELL_ACCEPTED)
         return refused("check", sound.number, sound.place);
     printf("  sound: %s\n", sound.yes ? "yes" : "no");
-    return sound.yes != 1 || list(mended, repaired.points, triples, repaired.faces);
+    return sound.yes != 1 || list(mended, repaired.points, triples, repaired.faces) || there_and_back(mended, repaired.points, triples, repaired.faces);
 }
 
 /* Two patches of two faces, a square of side 1 and one of side 3: which of them is the part, by area? */

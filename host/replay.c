@@ -8,7 +8,10 @@
  *
  * A recorded answer of call 2 has edges and loops together, in six rooms, and is asked of both calls: rooms 0, 1, 2, 5 of the edge call, 3, 4, 5 of the loop
  * call. 6 is that of the call that has the room, 8 that of the loop call; what the other call must then give, the record does not say, and it is found here by
- * document 01's rule. */
+ * document 01's rule.
+ *
+ * No call for PLY files was recorded. Points and faces of call 2 are written to one: refused 1, 2, 4 and 5 as recorded, and accepted else; and so are those
+ * that a recorded repair gives. What is written must be read again as it was. */
 #include "shell.h"
 #include <math.h>
 #include <stdio.h>
@@ -175,6 +178,44 @@ static Row by_kind(Row ten, uint64_t repeated, uint64_t eleven[11]) {
     return row;
 }
 
+/* Whether a PLY file is read as this mesh. */
+static int read_back(const uint8_t *file, uint64_t bytes, Row points, Row faces) {
+    uint64_t P = points.count / 3, F = faces.count / 3, work_room = SHELL_WORK_ROOM(P, F);
+    double *coordinates = lent(points.count + 3, 8);
+    uint32_t *corners = lent(faces.count + 3, 4), *work = lent(work_room + 3, 4);
+    ShellPlyCounts counts = shell_ply_counts(file, bytes);
+    ShellPly got = shell_read_ply(file, bytes, coordinates, points.count + 3, corners, faces.count + 3, work, work_room + 3);
+    int ok = counts.number == 0 && counts.place == 0 && counts.points == P && counts.faces == F && got.number == 0 && got.place == 0 &&
+             got.points == points.count && got.faces == faces.count && holds(coordinates, 8, points.count + 3, points.count, points) &&
+             holds(corners, 4, faces.count + 3, faces.count, faces) && holds(work, 4, work_room + 3, work_room, NOTHING);
+    free(coordinates);
+    free(corners);
+    free(work);
+    return ok;
+}
+
+/* How many meshes went to a PLY file and back. */
+static unsigned long files;
+
+/* Whether a mesh is written to a PLY file and read again, or refused so. The rooms are three entries longer than stated; for a refusal they are short. */
+static int there_and_back(Row points, Row faces, uint64_t number, uint64_t place) {
+    uint64_t P = points.count / 3, F = faces.count / 3, accepted = number == 0;
+    uint64_t digits = (uint64_t)snprintf(NULL, 0, "%lu%lu", (unsigned long)P, (unsigned long)F);
+    uint64_t bytes = accepted ? 170 + digits + 24 * P + 13 * F : 0, work_room = accepted ? SHELL_WORK_ROOM(P, F) : 0;
+    double *coordinates = floats(points);
+    uint32_t *corners = numbers(faces), *work = lent(work_room + 3, 4);
+    uint8_t *file = lent(bytes + 3, 1);
+    ShellPlyFile got = shell_write_ply(coordinates, points.count, corners, faces.count, file, bytes + 3, work, work_room + 3);
+    int ok = got.number == number && got.place == place && got.bytes == bytes && holds(work, 4, work_room + 3, work_room, NOTHING) &&
+             holds(file + bytes, 1, 3, 0, NOTHING) && (!accepted || read_back(file, bytes, points, faces));
+    files += accepted;
+    free(coordinates);
+    free(corners);
+    free(work);
+    free(file);
+    return ok;
+}
+
 static int replay_repair(Words *w, Recorded want, int zero) {
     uint32_t options = (uint32_t)one(w);
     uint64_t bits = one(w);
@@ -191,6 +232,7 @@ static int replay_repair(Words *w, Recorded want, int zero) {
     lend((Row){4, 0, longer}, 4, size, length, room, zero);
     if (want.number == 0)
         want.row[2] = by_kind(want.row[2], options & SHELL_DROP_DEGENERATE ? repeated(faces) : 0, eleven);
+    int written = want.number != 0 || want.row[0].count / 3 > SHELL_MOST_POINTS || there_and_back(want.row[0], want.row[1], 0, 0);
     double *coordinates = floats(points);
     uint32_t *corners = numbers(faces);
     ShellRepaired got = shell_repair(coordinates, points.count, corners, faces.count, s, options, room[0], length[0], room[1], length[1], room[2],
@@ -198,7 +240,7 @@ static int replay_repair(Words *w, Recorded want, int zero) {
     uint64_t entries[3] = {got.points, got.faces, got.counts};
     free(coordinates);
     free(corners);
-    return returned(want, 4, size, length, stated, entries, room, zero) && got.number == want.number && got.place == want.place;
+    return returned(want, 4, size, length, stated, entries, room, zero) && got.number == want.number && got.place == want.place && written;
 }
 
 /* A use of an edge: its ends, the lower first, and its entry, 3i for step (1,2) of face i, 3i + 1 for (2,0), 3i + 2 for (0,1). */
@@ -374,8 +416,9 @@ static int replay_edges(Words *w, Recorded six, int zero) {
     int told = six.number != SHELL_SHORT_ROOM && six.number != SHELL_BAD_BOUNDARY;
     Rule rule = by_rule(points, told ? NOTHING : faces);
     int edges = replay_part(points, faces, rooms, six, &rule, 0, zero), loops = replay_part(points, faces, rooms, six, &rule, 1, zero);
+    int refused = six.number != 0 && six.number < SHELL_SHORT_ROOM;
     free_rule(&rule);
-    return edges && loops;
+    return there_and_back(points, faces, refused ? six.number : 0, refused ? six.place : 0) && edges && loops;
 }
 
 /* With a work room as it is lent, and all zero: the calls may go two ways. */
@@ -516,7 +559,7 @@ int main(int count, char **names) {
     }
     free(cases.words);
     free(answers.words);
-    printf("replay: as recorded repair %lu, edges and loops %lu, check %lu, patches %lu, line %lu; different %lu\n", same[1], same[2], same[3], same[4], same[5],
-           different);
-    return different != 0 || !(same[1] && same[2] && same[3] && same[4] && same[5]);
+    printf("replay: as recorded repair %lu, edges and loops %lu, check %lu, patches %lu, line %lu; to a PLY file and back %lu; different %lu\n", same[1],
+           same[2], same[3], same[4], same[5], files, different);
+    return different != 0 || !(same[1] && same[2] && same[3] && same[4] && same[5] && files);
 }

@@ -20,11 +20,13 @@
 extern "C" {
 #endif
 
-/* The edition of this header: a higher number where a call, a room or a report is another, so that a program can tell whether it was written for it. In
- * edition 3 shell_edges lists the edges and shell_loops the boundary loops, each in rooms of its own; in edition 2 shell_edges has the rooms and the answers
- * of both. A report has eleven counts in either; where no edition is defined it has ten, and a program that was built for those and lends ten is refused,
- * SHELL_SHORT_ROOM at place 2. An object file that was compiled against another edition must not be linked: it hands over other rooms. */
-#define SHELL_VERSION 3
+/* The edition of this header: a higher number where a call, a room or a report is another, or a call is new, so that a program can tell whether it was
+ * written for it. Edition 5 has the three calls for PLY files and refusals 13 and 14; all else is as in edition 3, so an object file that was compiled against
+ * that one may be linked, and there is no edition 4. In edition 3 shell_edges lists the edges and shell_loops the boundary loops, each in rooms of its own; in
+ * edition 2 shell_edges has the rooms and the answers of both. A report has eleven counts in each; where no edition is defined it has ten, and a program that
+ * was built for those and lends ten is refused, SHELL_SHORT_ROOM at place 2. An object file that was compiled against edition 2 or none must not be linked: it
+ * hands over other rooms. */
+#define SHELL_VERSION 5
 
 /* The numbers a call may give back, and what `place` then is. */
 enum {
@@ -33,13 +35,15 @@ enum {
     SHELL_TOO_LARGE = 2,    /* points, faces or patches: 0, 1, 2 */
     SHELL_BAD_SETTING = 3,  /* threshold or options: 0, 1 */
     SHELL_BAD_POINT = 4,    /* a coordinate outside its domain: the first such point; of an STL file, the first such corner, counted through the file */
-    SHELL_BAD_CORNER = 5,   /* a corner that is no point: the first such face */
+    SHELL_BAD_CORNER = 5,   /* a corner that is no point, in a PLY file a negative one too: the first such face */
     SHELL_SHORT_ROOM = 6,   /* a room too short: its place in the call's list of rooms, from 0 */
     SHELL_CROWDED_EDGE = 7, /* edge call and loop call: an edge that occurs more than twice: the position of the first such among the sorted unique edges */
     SHELL_BAD_BOUNDARY = 8, /* loop call alone: the boundary is not simple: the lowest vertex at fault */
     SHELL_BAD_LABEL = 9,    /* a label that is neither SHELL_NO_PATCH nor a patch: the first such face */
     SHELL_LABEL_COUNT = 10, /* as many labels as faces are wanted: 0 */
-    SHELL_BAD_FILE = 12     /* an STL file whose length is not 84 plus 50 times its count: 0 */
+    SHELL_BAD_FILE = 12,    /* an STL file whose length is not 84 plus 50 times its count: 0 */
+    SHELL_BAD_PLY = 13,     /* a PLY file whose header is not of the one form, or whose body is not 24 bytes a vertex and 13 a face: 0 */
+    SHELL_NOT_A_TRIPLE = 14 /* a face of a PLY file that does not count three corners: the first such face */
 };
 
 /* The largest sizes, and the label of a face in no patch. */
@@ -71,6 +75,12 @@ enum {
 #define SHELL_STL_POINTS_ROOM(F) (9 * (size_t)(F))
 #define SHELL_STL_FACES_ROOM(F) (3 * (size_t)(F))
 #define SHELL_STL_WORK_ROOM(F) (64 * (size_t)(F) + 64)
+#define SHELL_PLY_POINTS_ROOM(P) (3 * (size_t)(P))
+#define SHELL_PLY_FACES_ROOM(F) (3 * (size_t)(F))
+
+/* Bytes that are enough for the PLY file of P points and F faces. The file itself has 170, the digits of both counts, 24 a point and 13 a face: at most 12 less
+ * than this. */
+#define SHELL_PLY_FILE_ROOM(P, F) (184 + 24 * (size_t)(P) + 13 * (size_t)(F))
 
 /* The options of a repair, added up. The passes run in this order, except that orient_consistently runs before split_bowtie_vertices. */
 enum {
@@ -181,6 +191,53 @@ typedef struct {
 
 ShellStl shell_read_stl(const uint8_t *file, size_t file_len, double *points, size_t points_len, uint32_t *faces, size_t faces_len, uint32_t *work,
                         size_t work_len);
+
+/* PLY files in memory, of one form: binary little-endian 1.0 with these nine lines in front, each ended by one newline (byte 10), P and F plain decimal numbers
+ * without leading zeros,
+ *
+ *     ply
+ *     format binary_little_endian 1.0
+ *     element vertex P
+ *     property double x
+ *     property double y
+ *     property double z
+ *     element face F
+ *     property list uchar int vertex_indices
+ *     end_header
+ *
+ * then 24 bytes a vertex, its three coordinates, and 13 a face, a 3 and its three corners, and nothing behind. Any other header or length is refused,
+ * SHELL_BAD_PLY: comments, other names of the types, blanks and carriage returns too. What is written and then read has the same bits, -0 too; what is read and
+ * then written is the same file, byte for byte. */
+
+/* How many vertices and faces a PLY file has, so that rooms for it can be made. Only header and length are looked at: it refuses SHELL_BAD_PLY and
+ * SHELL_TOO_LARGE, as shell_read_ply does, and nothing else. `points` is P and `faces` F. It has no rooms. */
+typedef struct {
+    uint32_t number, place;
+    uint64_t points, faces;
+} ShellPlyCounts;
+
+ShellPlyCounts shell_ply_counts(const uint8_t *file, size_t file_len);
+
+/* Reads a PLY file of that form. `points` and `faces` are entries, 3P and 3F. It refuses, in this order: SHELL_BAD_PLY, SHELL_TOO_LARGE, SHELL_NOT_A_TRIPLE,
+ * SHELL_BAD_POINT, SHELL_BAD_CORNER, SHELL_SHORT_ROOM. Rooms, in this order: SHELL_PLY_POINTS_ROOM(P), SHELL_PLY_FACES_ROOM(F), SHELL_WORK_ROOM(P, F). */
+typedef struct {
+    uint32_t number, place;
+    uint64_t points, faces;
+} ShellPly;
+
+ShellPly shell_read_ply(const uint8_t *file, size_t file_len, double *points, size_t points_len, uint32_t *faces, size_t faces_len, uint32_t *work,
+                        size_t work_len);
+
+/* Writes a PLY file of that form from any points and triples that the other calls accept, `bytes` long. It refuses, in this order: SHELL_BAD_LENGTH,
+ * SHELL_TOO_LARGE, SHELL_BAD_POINT, SHELL_BAD_CORNER, SHELL_SHORT_ROOM. Rooms, in this order: the file, as long as what is written, for which
+ * SHELL_PLY_FILE_ROOM(P, F) is enough, and SHELL_WORK_ROOM(P, F). Bytes of the file's room behind what is written are unchanged. */
+typedef struct {
+    uint32_t number, place;
+    uint64_t bytes;
+} ShellPlyFile;
+
+ShellPlyFile shell_write_ply(const double *points, size_t points_len, const uint32_t *faces, size_t faces_len, uint8_t *file, size_t file_len, uint32_t *work,
+                             size_t work_len);
 
 #ifdef __cplusplus
 }

@@ -1,20 +1,27 @@
-/* Mends a shell from the mould shop: shellfix [-s THRESHOLD] FILE.stl
+/* Mends a shell from the mould shop or the layout program: shellfix [-s THRESHOLD] [-o OUT.ply] IN
  *
- * Reads a binary STL file, repairs it with all options, checks it, and prints what was mended and how many edges and boundary loops it has then. Where
- * degenerate faces were removed it says how many of them repeat a corner and how many are thin: a scanner is adjusted by that. THRESHOLD is the sine, from 0
- * to 1, of the angle at a face's first corner up to which the face is thin. A refusal is printed in words with its number and place; where only the loops are
- * refused, after the number of edges and with the place of the vertex at fault. For a large file each stage is told on standard error. Exit status: 0; 1 for a
- * refusal, or for a shell that the check does not pass; 2 if the words or the threshold are not understood, the file cannot be read or memory runs out. */
+ * Reads a binary STL file, or a PLY file of the form that shell.h tells, repairs it with all options, checks it, and prints what was mended and how many edges
+ * and boundary loops it has then. Where degenerate faces were removed it says how many of them repeat a corner and how many are thin: a scanner is adjusted by
+ * that. THRESHOLD is the sine, from 0 to 1, of the angle at a face's first corner up to which the face is thin. OUT.ply gets the mended shell as a PLY file. A
+ * refusal is printed in words with its number and place; of a PLY file that is not of the form, with the first line of its header that differs; where only the
+ * loops are refused, after the number of edges and with the place of the vertex at fault. For a large file each stage is told on standard error. Exit status:
+ * 0; 1 for a refusal, or for a shell that the check does not pass, and then nothing is written; 2 if the words or the threshold are not understood, a file
+ * cannot be read or written, or memory runs out. */
+#define _XOPEN_SOURCE 700
 #include "shell.h"
 #include <ctype.h>
 #include <errno.h>
+#include <getopt.h>
 #include <stdio.h>
 #include <stdlib.h>
 #include <string.h>
+#include <sys/stat.h>
+#include <unistd.h>
 
-/* The sine up to which the Rust takes a face for degenerate, and the number of facets from which the stages are told. */
+/* The sine up to which the Rust takes a face for degenerate, and the number of faces and the bytes of a file from which the stages are told. */
 #define THRESHOLD "1e-12"
 #define LARGE 100000u
+#define LARGE_FILE 5000000u
 
 /* What a refusal's number says. */
 static const char *words(uint32_t number) {
@@ -37,6 +44,10 @@ static const char *words(uint32_t number) {
         return "the boundary is not simple; the lowest vertex at fault";
     case SHELL_BAD_FILE:
         return "not a binary STL file: 84 bytes and 50 for each facet that it counts";
+    case SHELL_BAD_PLY:
+        return "not a PLY file of the form that is read";
+    case SHELL_NOT_A_TRIPLE:
+        return "a face has not three corners; the first such face";
     default:
         return "refused";
     }
@@ -97,17 +108,121 @@ static void stage(const Mesh *mesh, const char *what) {
         fprintf(stderr, "shellfix: %s %zu points, %zu faces\n", what, mesh->point_count, mesh->face_count);
 }
 
-/* The mesh of a file's bytes. */
-static int read_mesh(const uint8_t *file, size_t length, Mesh *mesh) {
+/* Prints bytes between quotes, those that have no sign of their own as \xNN; of many the first. */
+static void print_bytes(const uint8_t *bytes, size_t length) {
+    const size_t most = 60;
+    putchar('\'');
+    for (size_t i = 0; i < length && i < most; i++)
+        printf(isprint(bytes[i]) && bytes[i] != '\\' ? "%c" : "\\x%02x", bytes[i]);
+    printf(length > most ? "...'" : "'");
+}
+
+/* Whether bytes are a decimal number without leading zeros, and that number, or the largest of 64 bits where it has more. */
+static int read_count(const uint8_t *bytes, size_t length, uint64_t *count) {
+    *count = 0;
+    for (size_t i = 0; i < length; i++) {
+        uint64_t digit = (uint64_t)bytes[i] - '0';
+        if (digit > 9)
+            return 0;
+        *count = *count > (UINT64_MAX - digit) / 10 ? UINT64_MAX : 10 * *count + digit;
+    }
+    return length == 1 || (length > 1 && bytes[0] != '0');
+}
+
+/* A line of a PLY file's header: where it begins, how long it is, and whether a newline ends it. */
+typedef struct {
+    const uint8_t *text;
+    size_t length;
+    int ended;
+} Line;
+
+/* The lines of the header that is read. In two of them N stands for a count. */
+enum { LINES = 9, VERTEX_LINE = 2, FACE_LINE = 6 };
+static const char *const wanted[LINES] = {"ply",
+                                          "format binary_little_endian 1.0",
+                                          "element vertex N",
+                                          "property double x",
+                                          "property double y",
+                                          "property double z",
+                                          "element face N",
+                                          "property list uchar int vertex_indices",
+                                          "end_header"};
+
+/* Whether a line of the header has a count. */
+static int has_count(int number) { return number == VERTEX_LINE || number == FACE_LINE; }
+
+/* Whether a line of the header is as it must be; the count in it, where it has one. */
+static int as_wanted(const Line *line, int number, uint64_t *count) {
+    size_t length = strlen(wanted[number]) - (has_count(number) ? 1 : 0);
+    if (!line->ended || line->length < length || memcmp(line->text, wanted[number], length) != 0)
+        return 0;
+    return has_count(number) ? read_count(line->text + length, line->length - length, count) : line->length == length;
+}
+
+/* Says of a line of the header that differs what it is and what is wanted. */
+static void tell_line(const Line *line, int number) {
+    printf("line %d of its PLY header is ", number + 1);
+    print_bytes(line->text, line->length);
+    printf(line->ended ? ", and '%s' is wanted" : ", where the file ends, and '%s' and a newline are wanted", wanted[number]);
+    printf(has_count(number) ? ", N a decimal number without leading zeros\n" : "\n");
+}
+
+/* So many times a number and some more, or the largest number of 64 bits. */
+static uint64_t times_and(uint64_t times, uint64_t number, uint64_t more) { return number > (UINT64_MAX - more) / times ? UINT64_MAX : times * number + more; }
+
+/* Says of a file that is not of the form the first line of its header that differs, or else how long it is and how long it must be. */
+static void tell_form(const uint8_t *file, size_t length) {
+    uint64_t count[LINES] = {0};
+    size_t at = 0;
+    for (int number = 0; number < LINES; number++) {
+        const uint8_t *end = memchr(file + at, '\n', length - at);
+        Line line = {file + at, end == NULL ? length - at : (size_t)(end - file) - at, end != NULL};
+        if (!as_wanted(&line, number, count + number)) {
+            tell_line(&line, number);
+            return;
+        }
+        at += line.length + 1;
+    }
+    uint64_t bytes = times_and(24, count[VERTEX_LINE], times_and(13, count[FACE_LINE], at));
+    printf("its PLY header tells of %s%llu vertices", count[VERTEX_LINE] == UINT64_MAX ? "at least " : "", (unsigned long long)count[VERTEX_LINE]);
+    printf(" and %s%llu faces", count[FACE_LINE] == UINT64_MAX ? "at least " : "", (unsigned long long)count[FACE_LINE]);
+    printf(", so it must have %s%llu bytes, and it has %zu\n", bytes == UINT64_MAX ? "at least " : "", (unsigned long long)bytes, length);
+}
+
+/* The mesh of the bytes of an STL file. If they are none and begin as a PLY file does, says why they are none of those. */
+static int read_stl(const uint8_t *file, size_t length, Mesh *mesh) {
     size_t stated = length < 84 ? 0 : (length - 84) / 50;
     size_t f = stated > SHELL_MOST_FACES ? 0 : stated;
     double *points = room(SHELL_STL_POINTS_ROOM(f), sizeof *points);
     uint32_t *faces = room(SHELL_STL_FACES_ROOM(f), sizeof *faces), *work = room(SHELL_STL_WORK_ROOM(f), sizeof *work);
-    ShellStl read = shell_read_stl(file, length, points, SHELL_STL_POINTS_ROOM(f), faces, SHELL_STL_FACES_ROOM(f), work,
-                                   SHELL_STL_WORK_ROOM(f));
+    ShellStl read = shell_read_stl(file, length, points, SHELL_STL_POINTS_ROOM(f), faces, SHELL_STL_FACES_ROOM(f), work, SHELL_STL_WORK_ROOM(f));
     free(work);
     *mesh = (Mesh){points, faces, read.points / 3, read.faces / 3, f >= LARGE};
-    return accepted("read", read.number, read.place);
+    int good = accepted("read", read.number, read.place);
+    if (read.number == SHELL_BAD_FILE && length >= 3 && memcmp(file, "ply", 3) == 0)
+        tell_form(file, length);
+    return good;
+}
+
+/* The mesh of the bytes of a PLY file. */
+static int read_ply(const uint8_t *file, size_t length, Mesh *mesh) {
+    ShellPlyCounts counts = shell_ply_counts(file, length);
+    size_t p = counts.points, f = counts.faces;
+    double *points = room(SHELL_PLY_POINTS_ROOM(p), sizeof *points);
+    uint32_t *faces = room(SHELL_PLY_FACES_ROOM(f), sizeof *faces), *work = room(SHELL_WORK_ROOM(p, f), sizeof *work);
+    ShellPly read = shell_read_ply(file, length, points, SHELL_PLY_POINTS_ROOM(p), faces, SHELL_PLY_FACES_ROOM(f), work, SHELL_WORK_ROOM(p, f));
+    free(work);
+    *mesh = (Mesh){points, faces, read.points / 3, read.faces / 3, f >= LARGE};
+    int good = accepted("read", read.number, read.place);
+    if (read.number == SHELL_BAD_PLY)
+        tell_form(file, length);
+    return good;
+}
+
+/* The mesh of a file's bytes: a PLY file begins with its first line, and anything else must be an STL file. */
+static int read_mesh(const uint8_t *file, size_t length, Mesh *mesh) {
+    int is_ply = length >= 4 && memcmp(file, "ply\n", 4) == 0;
+    return is_ply ? read_ply(file, length, mesh) : read_stl(file, length, mesh);
 }
 
 /* The repair of a mesh with all options, and its report. */
@@ -198,13 +313,88 @@ static int describe(const Mesh *mended, const uint32_t *report, const char *thre
     return good;
 }
 
-/* What the words ask for: a file, and a threshold as it is written and as a number. */
+/* Says why a file cannot be written, and ends the program. What was written beside it is taken away. */
+static _Noreturn void cannot_write(const char *name, const char *part) {
+    fprintf(stderr, "shellfix: cannot write %s: %s\n", name, strerror(errno));
+    if (part != NULL)
+        remove(part);
+    exit(2);
+}
+
+/* Opens a new file beside the one of this name, and tells its name. NULL if that cannot be done. */
+static FILE *open_beside(const char *name, char **part) {
+    size_t length = strlen(name) + sizeof ".part99";
+    FILE *file = NULL;
+    *part = room(length, 1);
+    for (int k = 0; k < 100 && file == NULL && (k == 0 || errno == EEXIST); k++) {
+        snprintf(*part, length, k == 0 ? "%s.part" : "%s.part%d", name, k);
+        file = fopen(*part, "wbx");
+    }
+    return file;
+}
+
+/* Writes all bytes and closes the file; whether every one of them arrived, on the disk too where there is one. */
+static int put_bytes(FILE *file, const uint8_t *bytes, size_t length) {
+    int good = fwrite(bytes, 1, length, file) == length && fflush(file) == 0 && (fsync(fileno(file)) == 0 || errno == EINVAL || errno == EROFS);
+    int error = errno;
+    if (fclose(file) != 0 && good)
+        return 0;
+    errno = error;
+    return good;
+}
+
+/* Writes bytes to a file, or ends the program. They go to a new file beside it, which takes its name when all of them are there, so that what it held is not
+ * lost before. What is no file, like a pipe, is written to as it is. */
+static void write_file(const char *name, const uint8_t *bytes, size_t length) {
+    struct stat held;
+    char *end = realpath(name, NULL), *part;
+    int there = end != NULL && stat(end, &held) == 0;
+    if (end == NULL && errno != ENOENT)
+        cannot_write(name, NULL);
+    if (there && !S_ISREG(held.st_mode)) {
+        FILE *file = fopen(end, "wb");
+        if (file == NULL || !put_bytes(file, bytes, length))
+            cannot_write(name, NULL);
+        free(end);
+        return;
+    }
+    if (there && access(end, W_OK) != 0)
+        cannot_write(name, NULL);
+    const char *to = there ? end : name;
+    FILE *file = open_beside(to, &part);
+    if (file == NULL)
+        cannot_write(name, NULL);
+    if (there)
+        fchmod(fileno(file), held.st_mode & 07777);
+    if (!put_bytes(file, bytes, length) || rename(part, to) != 0)
+        cannot_write(name, part);
+    free(part), free(end);
+}
+
+/* The mesh as a PLY file of this name. */
+static int write_mesh(const Mesh *mesh, const char *name) {
+    size_t p = mesh->point_count, f = mesh->face_count;
+    uint8_t *file = room(SHELL_PLY_FILE_ROOM(p, f), 1);
+    uint32_t *work = room(SHELL_WORK_ROOM(p, f), sizeof *work);
+    ShellPlyFile written = shell_write_ply(mesh->points, 3 * p, mesh->faces, 3 * f, file, SHELL_PLY_FILE_ROOM(p, f), work, SHELL_WORK_ROOM(p, f));
+    free(work);
+    int good = accepted("write", written.number, written.place);
+    if (good) {
+        write_file(name, file, written.bytes);
+        printf("written: %llu bytes to %s\n", (unsigned long long)written.bytes, name);
+    }
+    free(file);
+    return good;
+}
+
+/* What the words ask for: a file to read and, if any, one to write, a threshold as it is written and as a number, and whether only help is wanted. */
 typedef struct {
-    const char *name, *threshold;
+    const char *name, *output, *threshold;
     double s;
+    int help;
 } Asked;
 
-/* The mesh of the file, mended and described. */
+/* The mesh of the file, mended, described, and written if that is asked for. */
 static int mend_file(const uint8_t *file, size_t length, const Asked *asked) {
     Mesh mesh, mended;
     uint32_t report[SHELL_REPORT_ROOM] = {0};
@@ -213,6 +403,10 @@ static int mend_file(const uint8_t *file, size_t length, const Asked *asked) {
         printf("read: %zu points, %zu faces\n", mesh.point_count, mesh.face_count);
         stage(&mesh, "repairing");
         good = mend(&mesh, asked->s, &mended, report) && describe(&mended, report, asked->threshold);
+        if (good && asked->output != NULL) {
+            stage(&mended, "writing");
+            good = write_mesh(&mended, asked->output);
+        }
         free(mended.points), free(mended.faces);
     }
     free(mesh.points), free(mesh.faces);
@@ -235,37 +429,90 @@ static int read_threshold(const char *word, Asked *asked) {
     return 1;
 }
 
-/* Whether the words ask for one file, and what else they ask for; if not, says why. */
-static int read_words(int count, char **given, Asked *asked) {
-    for (int i = 1; i < count; i++) {
-        if (strcmp(given[i], "-s") == 0 && i + 1 == count) {
-            fprintf(stderr, "shellfix: -s wants a threshold\n");
+/* The options, by a letter or by a name. */
+static const char letters[] = ":s:o:h";
+static const struct option options[] = {
+    {"threshold", required_argument, NULL, 's'}, {"output", required_argument, NULL, 'o'}, {"help", no_argument, NULL, 'h'}, {NULL, 0, NULL, 0}};
+
+/* Says what is wrong with an option: it wants a word behind it, or takes none, or there is no such option. */
+static int bad_option(int found, char **given) {
+    if (found == ':')
+        fprintf(stderr, "shellfix: -%c wants a %s\n", optopt, optopt == 's' ? "threshold" : "file");
+    else if (optopt == 0)
+        fprintf(stderr, "shellfix: there is no option %s\n", given[optind - 1]);
+    else if (strchr(letters, optopt) != NULL)
+        fprintf(stderr, "shellfix: nothing is wanted behind that option: %s\n", given[optind - 1]);
+    else
+        fprintf(stderr, "shellfix: there is no option -%c\n", optopt);
+    return 0;
+}
+
+/* Takes one option into what is asked for; if it cannot, says why. */
+static int take_option(int found, char **given, Asked *asked) {
+    switch (found) {
+    case 's':
+        return read_threshold(optarg, asked);
+    case 'o':
+        if (asked->output != NULL) {
+            fprintf(stderr, "shellfix: one file is written, and not %s too\n", optarg);
             return 0;
         }
-        if (strcmp(given[i], "-s") == 0) {
-            if (!read_threshold(given[++i], asked))
-                return 0;
-        } else if (given[i][0] == '-' || asked->name != NULL) {
-            fprintf(stderr, given[i][0] == '-' ? "shellfix: there is no option %s\n" : "shellfix: one file at a time, and not %s too\n", given[i]);
-            return 0;
-        } else
-            asked->name = given[i];
+        asked->output = optarg;
+        return 1;
+    case 'h':
+        asked->help = 1;
+        return 1;
+    default:
+        return bad_option(found, given);
     }
-    return asked->name != NULL;
+}
+
+/* Whether the words ask for one file or for help, and what else they ask for; if not, says why. */
+static int read_words(int count, char **given, Asked *asked) {
+    int found;
+    while ((found = getopt_long(count, given, letters, options, NULL)) != -1)
+        if (!take_option(found, given, asked))
+            return 0;
+    if (optind + 1 < count)
+        fprintf(stderr, "shellfix: one file at a time, and not %s too\n", given[optind + 1]);
+    asked->name = optind + 1 == count ? given[optind] : NULL;
+    return asked->name != NULL || (asked->help && optind == count);
+}
+
+/* How it is called, and what --help says besides. */
+static const char usage[] =
+    "usage: shellfix [-s THRESHOLD] [-o OUT.ply] IN\n"
+    "  IN: a binary STL file, or a PLY file of the form that -o writes\n"
+    "  -s, --threshold THRESHOLD: from 0 to 1; a face is thin up to this sine of the angle at its first corner; " THRESHOLD " where none is given\n"
+    "  -o, --output OUT.ply: the mended shell is written to this file, as binary PLY\n"
+    "  -h, --help: this text\n";
+static const char more[] = "Mends the shell, and prints what was mended, whether it is sound, and how many edges and boundary loops it has then.\n"
+                           "Exit status: 0; 1 where the file or the shell is refused, and then nothing is written; 2 where the words are not understood,\n"
+                           "or a file cannot be read or written.\n";
+
+/* The exit status, but for 2 where something that was printed did not arrive. */
+static int ended(int status) {
+    if (fflush(stdout) == 0 && !ferror(stdout))
+        return status;
+    fprintf(stderr, "shellfix: cannot print: %s\n", strerror(errno));
+    return 2;
 }
 
 int main(int count, char **given) {
-    Asked asked = {NULL, NULL, 0};
+    Asked asked = {NULL, NULL, NULL, 0, 0};
     if (!read_threshold(THRESHOLD, &asked) || !read_words(count, given, &asked)) {
-        fprintf(stderr, "usage: shellfix [-s THRESHOLD] FILE.stl\n"
-                        "  THRESHOLD, from 0 to 1: a face is thin up to this sine of the angle at its first corner; " THRESHOLD " where none is given\n");
+        fputs(usage, stderr);
         return 2;
+    }
+    if (asked.help) {
+        printf("%s%s", usage, more);
+        return ended(0);
     }
     size_t length;
     uint8_t *file = read_file(asked.name, &length);
-    if (length >= 84 + 50 * (size_t)LARGE)
+    if (length >= LARGE_FILE)
         fprintf(stderr, "shellfix: reading %zu bytes\n", length);
     int good = mend_file(file, length, &asked);
     free(file);
-    return good ? 0 : 1;
+    return ended(good ? 0 : 1);
 }

@@ -9,8 +9,8 @@
 #include <sys/mman.h>
 #include <ucontext.h>
 
-enum { REPAIR, EDGES, LOOPS, CHECK, PATCHES, LINE, CALLS };
-static const char *const names[CALLS] = {"repair", "edges", "loops", "check", "patches", "line"};
+enum { REPAIR, EDGES, LOOPS, CHECK, PATCHES, WRITE_PLY, READ_PLY, PLY_COUNTS, LINE, CALLS };
+static const char *const names[CALLS] = {"repair", "edges", "loops", "check", "patches", "write PLY", "read PLY", "PLY counts", "line"};
 
 enum { DEEP = 8 << 20, PATCH_COUNT = 100 };
 static const uint64_t PAINT = 0xa5c3f00d5eed1e55;
@@ -28,8 +28,8 @@ static uint32_t below(uint32_t n) {
 static struct {
     uint32_t *faces, *labels, *work, *row[3], report[SHELL_REPORT_ROOM], options, number;
     double *points, *mended, *lengths;
-    size_t P, F;
-    uint8_t line[SHELL_LINE_ROOM];
+    size_t P, F, file_bytes;
+    uint8_t line[SHELL_LINE_ROOM], *file;
     int call;
 } job;
 
@@ -149,6 +149,15 @@ static void run(void) {
         job.number = shell_patches(job.points, 3 * P, job.faces, 3 * F, job.labels, F, C, 31, 2, 0, 0, 0.01, C / 2, job.row[0], C, job.lengths, 7 * C, job.row[1],
                                    C, job.work, 4 * C)
                          .number;
+    if (job.call == WRITE_PLY) {
+        ShellPlyFile written = shell_write_ply(job.points, 3 * P, job.faces, 3 * F, job.file, SHELL_PLY_FILE_ROOM(P, F), job.work, work);
+        job.number = written.number;
+        job.file_bytes = written.number == SHELL_ACCEPTED ? written.bytes : job.file_bytes;
+    }
+    if (job.call == READ_PLY)
+        job.number = shell_read_ply(job.file, job.file_bytes, job.mended, SHELL_PLY_POINTS_ROOM(P), job.row[0], SHELL_PLY_FACES_ROOM(F), job.work, work).number;
+    if (job.call == PLY_COUNTS)
+        job.number = shell_ply_counts(job.file, job.file_bytes).number;
     if (job.call == LINE)
         job.number = shell_line(job.report, SHELL_REPORT_ROOM, job.line, SHELL_LINE_ROOM).number;
 }
@@ -206,7 +215,7 @@ static void *room(size_t n, size_t size) {
     return out;
 }
 
-/* The calls on one shape: as it is, and with a bad corner in its last face. */
+/* The calls on one shape: as it is, and with a bad corner in its last face, which the PLY file gets too. */
 static void on_shape(const Shape *shape, size_t F) {
     job.F = F;
     for (size_t i = 0; i < F; i++)
@@ -216,6 +225,8 @@ static void on_shape(const Shape *shape, size_t F) {
     job.points = room(3 * P, 8);
     job.mended = room(SHELL_POINTS_ROOM(P, F), 8);
     job.work = room(SHELL_WORK_ROOM(P, F) + SHELL_PATCHES_WORK_ROOM(PATCH_COUNT), 4);
+    job.file = room(SHELL_PLY_FILE_ROOM(P, F), 1);
+    job.file_bytes = 0;
     for (size_t i = 0; i < 3 * P; i++)
         job.points[i] = i % 3 == 0 ? (double)(i / 3 % 1000) : i % 3 == 1 ? (double)(i / 3000) : (double)below(100) / 64;
     static const uint32_t options[] = {0, 1, 2, 4, 8, 16, 32, SHELL_ALL_OPTIONS};
@@ -228,13 +239,18 @@ static void on_shape(const Shape *shape, size_t F) {
     if (F > 0) {
         uint32_t held = job.faces[3 * F - 1];
         job.faces[3 * F - 1] = (uint32_t)P;
+        memset(job.file + job.file_bytes - 1, 0xff, 1);
         for (int call = REPAIR; call < LINE; call++)
             measure(shape->name, call, 0);
         job.faces[3 * F - 1] = held;
+        job.file_bytes--;
+        measure(shape->name, READ_PLY, 0);
+        measure(shape->name, PLY_COUNTS, 0);
     }
     free(job.points);
     free(job.mended);
     free(job.work);
+    free(job.file);
 }
 
 /* The first of the shapes with F faces, and a line on what the calls took at most. */

@@ -6,7 +6,7 @@
 #include <sys/mman.h>
 #include <ucontext.h>
 
-enum { MOST_BLOCKS = 8192, KINDS = 8192, SPAN = 1 << 20 };
+enum { MOST_BLOCKS = 8192, KINDS = 16384, SPAN = 1 << 20 };
 
 /* libFuzzer reads these after each run. */
 __attribute__((section("__libfuzzer_extra_counters"))) static uint8_t reached[MOST_BLOCKS];

@@ -1,6 +1,7 @@
 /* A fuzz target: bytes become an input of one of the calls and rooms for it; one of the edge call is asked of the loop call too. Number, place, counts and
- * every entry of every room must be document 01's (document.c, passes.c); and of what a repair with all six options gives, demand 3 must hold, the check must
- * say yes, and the edge call and the loop call accept. */
+ * every entry of every room must be those of the documents (document.c, passes.c, ply.c); of what a repair with all six options gives, demand 3 must hold, the
+ * check must say yes, and the edge call and the loop call accept; a PLY file that is written must be read as what was written, and one that is read be written
+ * again. */
 #define _DEFAULT_SOURCE
 #include "blocks.h"
 #include "document.h"
@@ -11,10 +12,10 @@
 #include <string.h>
 #include <sys/mman.h>
 
-enum { FEW = 600, MANY = 6000, MOST = 40000, SHORT = 1000, POINTS = 6, FACES, LABELS, COUNTS };
+enum { FEW = 600, MANY = 6000, MOST = 40000, SHORT = 1000, POINTS = 6, FACES, LABELS, COUNTS, FILE_BYTES };
 
-/* The calls that bytes may ask for; the loop call, behind them, is asked whatever the edge call is. */
-enum { KINDS = LINE + 1 };
+/* The calls that bytes may ask for; the loop call, behind them, is asked whatever the edge call is. Some numbers ask for the PLY calls. */
+enum { KINDS = LINE + 1, FIRST_PLY = 208, LAST_PLY = 239 };
 
 typedef struct {
     const uint8_t *at, *end;
@@ -29,8 +30,9 @@ typedef struct {
 } Look;
 
 static void wrong(const Asked *a, const char *what) {
-    static const char *const names[] = {"repair", "edges", "check", "patches", "line", "loops"};
-    fprintf(stderr, "%s: %s; P = %lu, %zu corners, options %u, threshold %a\n", names[a->call], what, (unsigned long)a->P, a->faces_len, a->options, a->s);
+    static const char *const names[] = {"repair", "edges", "check", "patches", "line", "loops", "write PLY", "read PLY"};
+    fprintf(stderr, "%s: %s; P = %lu, %zu corners, options %u, threshold %a, %zu bytes\n", names[a->call], what, (unsigned long)a->P, a->faces_len, a->options,
+            a->s, a->file_len);
     abort();
 }
 
@@ -117,6 +119,104 @@ static void read_mesh(Asked *a, Bytes *b, uint8_t how, uint8_t special) {
         read_labels(a, &m, special == 246 ? 1 : special == 247 ? -1 : 0);
 }
 
+/* A PLY file that may be changed, with some room behind it. */
+typedef struct {
+    uint8_t *bytes;
+    size_t length;
+} File;
+enum { EDITS = 8, INSERTED = 48 };
+
+/* Puts a text into the file at a place, for so many bytes that stand there. */
+static void put_text(File *f, size_t at, size_t gone, const char *text, size_t length) {
+    at = at < f->length ? at : f->length;
+    gone = gone < f->length - at ? gone : f->length - at;
+    memmove(f->bytes + at + length, f->bytes + at + gone, f->length - at - gone);
+    memcpy(f->bytes + at, text, length);
+    f->length = f->length - gone + length;
+}
+
+/* One change of a file: a byte put in the place of another, put in, or at the end; bytes taken away or cut off; a text that a header of another form may have
+ * put in, or in the place of what stands there; another count of corners for a face. */
+static void edit(File *f, const uint8_t *how) {
+    static const char *const texts[] = {"\r", "comment x\n", "18446744073709551616", "2305843009213693952", "9999999999999999999", "0",
+                                        " ", "float", "uint8", "\n", "1", "00", "+", "-", "obj_info\n", "4194305", "1048577", "element edge 0\n",
+                                        "end_header\n", "ply\n"};
+    size_t at = (size_t)how[1] << 8 | how[2], faces = f->length / 13;
+    const char *text = texts[how[3] % (sizeof texts / sizeof *texts)], byte = (char)how[3];
+    switch (how[0] % 8) {
+    case 0:
+        put_text(f, at, 1, &byte, 1);
+        break;
+    case 1:
+        put_text(f, at, 0, &byte, 1);
+        break;
+    case 2:
+        put_text(f, at, how[3] % 32, "", 0);
+        break;
+    case 3:
+        put_text(f, f->length, 0, &byte, 1);
+        break;
+    case 4:
+        f->length -= how[3] < f->length ? how[3] : f->length;
+        break;
+    case 5:
+        put_text(f, at, 0, text, strlen(text));
+        break;
+    case 6:
+        put_text(f, at, strlen(text), text, strlen(text));
+        break;
+    default:
+        if (faces > 0)
+            put_text(f, f->length - 13 * (1 + at % faces), 1, &byte, 1);
+    }
+}
+
+/* A PLY file of zeros that tells one point or one face more than is allowed, or is one byte shorter than that. */
+static void make_huge_file(Asked *a, uint8_t which) {
+    static uint8_t *huge;
+    char header[HEADER];
+    int points = which & 1;
+    size_t length = document_header(points ? "4194305" : "0", points ? "0" : "1048577", header), body = points ? 24 * (size_t)4194305 : 13 * (size_t)1048577;
+    if (huge == NULL)
+        huge = mmap(NULL, HEADER + 24 * (size_t)4194305, PROT_READ | PROT_WRITE, MAP_PRIVATE | MAP_ANONYMOUS | MAP_NORESERVE, -1, 0);
+    if (huge == MAP_FAILED)
+        abort();
+    memset(huge, 0, HEADER);
+    memcpy(huge, header, length);
+    a->file = huge;
+    a->file_len = length + body - (which & 2 ? 1 : 0);
+}
+
+/* The rest of the bytes as a PLY file: as they are, or a mesh in the form and then some changes. */
+static void read_file(Asked *a, Bytes *b, uint8_t how, uint8_t special) {
+    uint8_t changes[EDITS][4];
+    uint8_t count = take(b);
+    File f = {NULL, (size_t)(b->end - b->at)};
+    if (count < 250) {
+        for (int k = 0; k < count % EDITS; k++)
+            for (int i = 0; i < 4; i++)
+                changes[k][i] = take(b);
+        read_mesh(a, b, how, special);
+        uint8_t *made = document_file(a->points, a->P, a->faces, a->faces_len / 3, &f.length);
+        f.bytes = malloc(f.length + EDITS * INSERTED);
+        if (f.bytes == NULL)
+            abort();
+        memcpy(f.bytes, made, f.length);
+        free(made);
+        for (int k = 0; k < count % EDITS; k++)
+            edit(&f, changes[k]);
+    }
+    uint8_t *file = lend(FILE_BYTES, f.length, 1, 0);
+    if (f.length > 0)
+        memcpy(file, f.bytes == NULL ? b->at : f.bytes, f.length);
+    free(f.bytes);
+    a->file = file;
+    a->file_len = f.length;
+    if (special >= 252)
+        make_huge_file(a, special);
+    a->points_len = a->faces_len = a->P = 0;
+}
+
 /* Lists of zeros beyond the largest sizes. */
 static void make_huge(Asked *a, uint8_t which) {
     static void *zeros;
@@ -137,7 +237,7 @@ static void make_huge(Asked *a, uint8_t which) {
 
 static void read_asked(Asked *a, Bytes *b, Look *look) {
     uint8_t call = take(b), how = take(b), special = take(b), odd = take(b), by = take(b);
-    a->call = call % KINDS;
+    a->call = call < FIRST_PLY || call > LAST_PLY ? call % KINDS : call % 2 ? READ_PLY : WRITE_PLY;
     *look = (Look){how % DIRTS, how >> 3 & 1, odd, (int8_t)by, how >> 4 & 1, special};
     if (a->call == LINE) {
         a->counts_len = take(b) % 14;
@@ -147,6 +247,10 @@ static void read_asked(Asked *a, Bytes *b, Look *look) {
             counts[i] = base == 255 ? 0xffffffff : base << (take(b) % 32);
         }
         a->counts = counts;
+        return;
+    }
+    if (a->call == READ_PLY) {
+        read_file(a, b, how, special);
         return;
     }
     if (a->call == REPAIR) {
@@ -196,6 +300,12 @@ static Given call(const Asked *a, void **r) {
                                        a->least[0], a->least[1], a->least[2], a->keep_largest_n, r[0], a->room[0], r[1], a->room[1], r[2], a->room[2], r[3],
                                        a->room[3]);
         g = (Given){x.number, x.place, {x.face_counts, x.numbers, x.flags}};
+    } else if (a->call == WRITE_PLY) {
+        ShellPlyFile x = shell_write_ply(a->points, a->points_len, a->faces, a->faces_len, r[0], a->room[0], r[1], a->room[1]);
+        g = (Given){x.number, x.place, {x.bytes}};
+    } else if (a->call == READ_PLY) {
+        ShellPly x = shell_read_ply(a->file, a->file_len, r[0], a->room[0], r[1], a->room[1], r[2], a->room[2]);
+        g = (Given){x.number, x.place, {x.points, x.faces}};
     } else {
         ShellLine x = shell_line(a->counts, a->counts_len, r[0], a->room[0]);
         g = (Given){x.number, x.place, {x.bytes}};
@@ -277,6 +387,43 @@ static void after_repair(const Asked *a, const Look *look, const Given *g, void 
     free(faces);
 }
 
+/* Whether the call that counts says what it must of a file. */
+static void count_file(const Asked *a) {
+    Wanted w = {0, 0, {0}, {NULL}};
+    uint64_t P, F;
+    ShellPlyCounts x = shell_ply_counts(a->file, a->file_len);
+    if (document_counts_refused(a, &w, &P, &F))
+        P = F = 0;
+    if (x.number != w.number || x.place != w.place || x.points != P || x.faces != F)
+        wrong(a, "its points and faces are counted otherwise");
+}
+
+/* A file that was written is read, and must be the mesh that it was written from. */
+static void read_again(const Asked *a, const Look *look, const Given *g, void **r) {
+    Asked back = {.call = READ_PLY, .file = copy(r[0], g->entries[0]), .file_len = g->entries[0]};
+    Look exact = {look->dirt, look->front, 0, 0, look->null, look->seed};
+    Given read = try(&back, &exact, r);
+    if (read.number != 0 || read.entries[0] != a->points_len || read.entries[1] != a->faces_len ||
+        (a->points_len > 0 && memcmp(r[0], a->points, 8 * a->points_len) != 0) || (a->faces_len > 0 && memcmp(r[1], a->faces, 4 * a->faces_len) != 0))
+        wrong(a, "what was written is not read again");
+    count_file(&back);
+    free((void *)back.file);
+}
+
+/* A mesh that was read is written, and must give the file that it was read from. */
+static void write_again(const Asked *a, const Look *look, const Given *g, void **r) {
+    Asked back = {.call = WRITE_PLY, .points = copy(r[0], 8 * g->entries[0]), .faces = copy(r[1], 4 * g->entries[1])};
+    back.points_len = g->entries[0];
+    back.faces_len = g->entries[1];
+    back.P = back.points_len / 3;
+    Look exact = {look->dirt, look->front, 0, 0, look->null, look->seed};
+    Given written = try(&back, &exact, r);
+    if (written.number != 0 || written.entries[0] != a->file_len || memcmp(r[0], a->file, a->file_len) != 0)
+        wrong(a, "what was read is not written again");
+    free((void *)back.points);
+    free((void *)back.faces);
+}
+
 int LLVMFuzzerTestOneInput(const uint8_t *data, size_t size) {
     Bytes bytes = {data, data + size};
     Asked a = {.call = REPAIR};
@@ -286,8 +433,9 @@ int LLVMFuzzerTestOneInput(const uint8_t *data, size_t size) {
     lend(FACES, 0, 4, 0);
     lend(LABELS, 0, 4, 0);
     lend(COUNTS, 0, 4, 0);
+    lend(FILE_BYTES, 0, 1, 0);
     read_asked(&a, &bytes, &look);
-    for (int k = POINTS; k <= COUNTS; k++)
+    for (int k = POINTS; k <= FILE_BYTES; k++)
         keep(k);
     Given g = try(&a, &look, r);
     if (a.call == REPAIR && g.number == 0 && a.options == 63)
@@ -297,7 +445,13 @@ int LLVMFuzzerTestOneInput(const uint8_t *data, size_t size) {
         loops.call = LOOPS;
         try(&loops, &look, r);
     }
-    for (int k = POINTS; k <= COUNTS; k++)
+    if (a.call == READ_PLY)
+        count_file(&a);
+    if (a.call == READ_PLY && g.number == 0)
+        write_again(&a, &look, &g, r);
+    if (a.call == WRITE_PLY && g.number == 0)
+        read_again(&a, &look, &g, r);
+    for (int k = POINTS; k <= FILE_BYTES; k++)
         if (!holds(k, NULL, 0, 0))
             wrong(&a, "the input is changed");
     return 0;

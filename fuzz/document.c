@@ -6,10 +6,14 @@
 #include <string.h>
 
 int document_rooms(const Asked *a, size_t size[6], uint64_t stated[6]) {
-    uint64_t P = a->P, F = a->faces_len / 3, C = a->patches, work = 16 * P + 64 * F + 64;
-    static const size_t sizes[CALLS][6] = {{8, 4, 4, 4}, {4, 8, 4, 4}, {4}, {4, 8, 4, 4}, {1}, {4, 4, 4}};
-    static const int rooms[CALLS] = {4, 4, 1, 4, 1, 3};
-    const uint64_t all[CALLS][6] = {{3 * (P + 3 * F), 3 * F, 11, work}, {6 * F, 3 * F, 3 * F, work}, {work}, {C, 7 * C, C, 4 * C}, {512}, {3 * F, 3 * F, work}};
+    uint64_t P = a->P, F = a->faces_len / 3, C = a->patches;
+    if (a->call == READ_PLY && document_form(a->file, a->file_len, &P, &F) == 0)
+        P = F = 0;
+    uint64_t work = 16 * P + 64 * F + 64, file = 170 + 24 * P + 13 * F + (uint64_t)snprintf(NULL, 0, "%lu%lu", (unsigned long)P, (unsigned long)F);
+    static const size_t sizes[CALLS][6] = {{8, 4, 4, 4}, {4, 8, 4, 4}, {4}, {4, 8, 4, 4}, {1}, {4, 4, 4}, {1, 4}, {8, 4, 4}};
+    static const int rooms[CALLS] = {4, 4, 1, 4, 1, 3, 2, 3};
+    const uint64_t all[CALLS][6] = {{3 * (P + 3 * F), 3 * F, 11, work}, {6 * F, 3 * F, 3 * F, work}, {work}, {C, 7 * C, C, 4 * C}, {512}, {3 * F, 3 * F, work},
+                                    {file, work}, {3 * P, 3 * F, work}};
     memcpy(size, sizes[a->call], sizeof sizes[0]);
     memcpy(stated, all[a->call], sizeof all[0]);
     return rooms[a->call];
@@ -21,11 +25,13 @@ static int refused(Wanted *w, uint32_t number, uint64_t place) {
     return 1;
 }
 
-/* Refusals 1 and 2; then 3, 4, 5, 9 and 10; then 6: document 01's order. */
+/* Refusals 1 and 2; then 3, 4, 5, 9 and 10; then 6: document 01's order. Of a PLY file that is read all but 6 come first. */
 static int sizes_refused(const Asked *a, Wanted *w) {
-    int has_points = a->call == REPAIR || a->call == EDGES || a->call == LOOPS || a->call == PATCHES;
+    int has_points = a->call == REPAIR || a->call == EDGES || a->call == LOOPS || a->call == PATCHES || a->call == WRITE_PLY;
     if (a->call == LINE)
         return a->counts_len != 11 && refused(w, 1, 2);
+    if (a->call == READ_PLY)
+        return document_read_refused(a, w);
     if (has_points && a->points_len % 3 != 0)
         return refused(w, 1, 0);
     if (a->faces_len % 3 != 0)
@@ -258,6 +264,10 @@ Wanted document_answer(const Asked *a) {
         answer_patches(a, &w);
     if (a->call == LINE)
         answer_line(a, &w);
+    if (a->call == WRITE_PLY)
+        document_write(a, &w);
+    if (a->call == READ_PLY)
+        document_read(a, &w);
     return w;
 }
 

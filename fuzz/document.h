@@ -1,18 +1,19 @@
-/* What document 01, with items 2 and 3 of document 02, says that a call must answer, in plain C and from the documents alone, so that it shares nothing with
- * the library. */
+/* What document 01, with items 2, 3 and 5 of document 02, says that a call must answer, in plain C and from the documents alone, so that it shares nothing
+ * with the library. */
 #ifndef JOGASMUN_DOCUMENT_H
 #define JOGASMUN_DOCUMENT_H
 
 #include "shell.h"
 
-enum { REPAIR, EDGES, CHECK, PATCHES, LINE, LOOPS, CALLS };
+enum { REPAIR, EDGES, CHECK, PATCHES, LINE, LOOPS, WRITE_PLY, READ_PLY, CALLS };
 
 /* The input of every call in one record, and the lengths of the rooms; a call reads its own part. */
 typedef struct {
     int call;
     const double *points;
     const uint32_t *faces, *labels, *counts;
-    size_t points_len, faces_len, labels_len, counts_len;
+    const uint8_t *file;
+    size_t points_len, faces_len, labels_len, counts_len, file_len;
     uint64_t P, patches, min_faces, keep_largest_n;
     double s, least[3];
     uint32_t options, limits;
@@ -34,6 +35,24 @@ void document_free(Wanted *w);
 
 /* The rows of an accepted repair. */
 void document_repair(const Asked *a, Wanted *w);
+
+/* The header of a PLY file with these two texts for its counts; its length. */
+enum { HEADER = 256 };
+size_t document_header(const char *vertices, const char *faces, char out[HEADER]);
+
+/* Where the body of a PLY file begins, and the points and faces that its header tells; 0 if the file is not of the form. */
+size_t document_form(const uint8_t *file, size_t n, uint64_t *P, uint64_t *F);
+
+/* The PLY file of any points and triples, and its length. */
+uint8_t *document_file(const double *points, uint64_t P, const uint32_t *faces, uint64_t F, size_t *bytes);
+
+/* Whether a PLY file is refused 13 or 2, and else the points and faces that it tells; whether it is refused so, or 14, 4 or 5. */
+int document_counts_refused(const Asked *a, Wanted *w, uint64_t *P, uint64_t *F);
+int document_read_refused(const Asked *a, Wanted *w);
+
+/* The rows of a PLY file that is read, and of a mesh that is written to one. */
+void document_read(const Asked *a, Wanted *w);
+void document_write(const Asked *a, Wanted *w);
 
 /* What differs from demand 3 in what a repair with all six options gives, or NULL. Its boundary is looked at by the loop call's answer. */
 const char *document_demand(const Asked *a, const double *points, size_t P, const uint32_t *faces, size_t F, const uint32_t *report);

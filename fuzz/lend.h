@@ -7,7 +7,7 @@
 #include <stdint.h>
 
 /* So many places, ways to fill one, and bytes that one may have. */
-enum { LENT = 10, DIRTS = 8, LONGEST = 24000000 };
+enum { LENT = 11, DIRTS = 8, LONGEST = 24000000 };
 
 /* Lends place `which` as n entries of `size` bytes, at the end of its pages or at their front. */
 void *lend(int which, size_t n, size_t size, int front);

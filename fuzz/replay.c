@@ -19,6 +19,6 @@ int main(int count, char **names) {
         LLVMFuzzerTestOneInput(data, size);
         free(data);
     }
-    printf("%s: %d inputs, all as document 01 says\n", names[0], count - 1);
+    printf("%s: %d inputs, all as the documents say\n", names[0], count - 1);
     return 0;
 }

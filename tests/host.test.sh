@@ -1,8 +1,9 @@
 #!/usr/bin/env bash
 # The library in a C program: the example prints what it must, the header is good for C++, recorded answers come out through the calls with every
 # room as it must be, degenerate faces are counted by kind and their sums printed up to the limits, the edges of bowties are listed though their loops are
-# refused, in work rooms of every kind, damaged meshes are after a repair what is proved of them, what fuzzing found worth keeping comes out as the documents
-# say, and a call takes no memory but its rooms and no more stack than is promised; a sample under valgrind too, so that nothing outside a room is touched.
+# refused, in work rooms of every kind, damaged meshes are after a repair what is proved of them and go to a PLY file and back, what fuzzing found worth keeping
+# comes out as the documents say, and a call takes no memory but its rooms and no more stack than is promised; a sample under valgrind too, so that nothing
+# outside a room is touched.
 set -u
 here=$(cd "$(dirname "${BASH_SOURCE[0]}")/.." && pwd)
 room=$(mktemp -d) || exit 1
@@ -60,7 +61,7 @@ fi
 (cd "$here" && rt check meshfix) >log 2>&1 || { tail -n 3 log; exit 1; }
 objcopy --redefine-sym main=meshfix_main --redefine-sym read=text_read --redefine-sym write=text_write "$here/target/obj/meshfix.o" meshfix.o || exit 1
 fuzz=$here/fuzz
-gcc "${flags[@]}" "-I$fuzz" -DBLOCKS_ANCHOR=shell_line -o calls "$fuzz"/{replay,calls,document,passes,uses,lend,blocks}.c libshell.a -lm || exit 1
+gcc "${flags[@]}" "-I$fuzz" -DBLOCKS_ANCHOR=shell_line -o calls "$fuzz"/{replay,calls,document,passes,ply,uses,lend,blocks}.c libshell.a -lm || exit 1
 gcc "${flags[@]}" "-I$fuzz" -DBLOCKS_ANCHOR=meshfix_main -o text "$fuzz"/{replay,text,blocks}.c meshfix.o libshell.a || exit 1
 ./calls "$here"/tests/cases/fuzz/calls/* || exit 1
 ./text "$here"/tests/cases/fuzz/text/* "$here"/tests/cases/text/*.txt || exit 1

@@ -1,5 +1,7 @@
 //! A case: a call, its input and the rooms that are lent to it.
 
+use crate::ply;
+
 #[derive(Clone, Copy, PartialEq, Eq, Debug)]
 pub enum Call {
     Repair,
@@ -8,14 +10,16 @@ pub enum Call {
     Check,
     Patches,
     Line,
+    WritePly,
+    ReadPly,
 }
 
-pub const CALLS: [Call; 6] = [Call::Repair, Call::Edges, Call::Loops, Call::Check, Call::Patches, Call::Line];
+pub const CALLS: [Call; 8] = [Call::Repair, Call::Edges, Call::Loops, Call::Check, Call::Patches, Call::Line, Call::WritePly, Call::ReadPly];
 
 impl Call {
     /// The call's name in the library, after `shell_`.
     pub fn name(self) -> &'static str {
-        ["repair", "edges", "loops", "check", "patches", "line"][self as usize]
+        ["repair", "edges", "loops", "check", "patches", "line", "write_ply", "read_ply"][self as usize]
     }
 
     /// The names of the call's rooms, in checking order.
@@ -27,6 +31,8 @@ impl Call {
             Call::Check => &["work"],
             Call::Patches => &["face counts", "numbers", "flags", "work"],
             Call::Line => &["line"],
+            Call::WritePly => &["file", "work"],
+            Call::ReadPly => &["points", "faces", "work"],
         }
     }
 }
@@ -74,6 +80,7 @@ pub struct Case {
     pub patch_count: u64,
     pub filter: Filter,
     pub counts: Vec<u32>,
+    pub file: Vec<u8>,
     pub rooms: Vec<Room>,
 }
 
@@ -91,18 +98,26 @@ impl Case {
             patch_count: 0,
             filter: Filter::default(),
             counts: vec![],
+            file: vec![],
             rooms: vec![EXACT; call.rooms().len()],
         }
     }
 
-    /// P: for the edge check a number of its own.
+    /// P: for the edge check a number of its own, for a PLY file what it tells, and 0 if it is not of the form.
     pub fn p(&self) -> u64 {
-        if self.call == Call::Check { self.point_count } else { self.points.len() as u64 / 3 }
+        match self.call {
+            Call::Check => self.point_count,
+            Call::ReadPly => ply::form(&self.file).map_or(0, |form| form.p),
+            _ => self.points.len() as u64 / 3,
+        }
     }
 
-    /// F.
+    /// F: for a PLY file what it tells, and 0 if it is not of the form.
     pub fn f(&self) -> u64 {
-        self.faces.len() as u64 / 3
+        match self.call {
+            Call::ReadPly => ply::form(&self.file).map_or(0, |form| form.f),
+            _ => self.faces.len() as u64 / 3,
+        }
     }
 
     /// The corners of face i.
@@ -126,6 +141,8 @@ impl Case {
             Call::Check => vec![work],
             Call::Patches => vec![(4, c), (8, 7 * c), (4, c), (4, 4 * c)],
             Call::Line => vec![(1, 512)],
+            Call::WritePly => vec![(1, ply::length(p, f)), work],
+            Call::ReadPly => vec![(8, 3 * p), (4, 3 * f), work],
         }
     }
 

@@ -4,6 +4,7 @@ use crate::case::{Call, Case};
 use crate::fault::{self, Fault};
 use crate::here::{self, Inputs, Reply};
 use crate::lent::Lent;
+use crate::refuse;
 use crate::there::Outcome;
 
 /// The rooms of a case as they are lent.
@@ -25,7 +26,23 @@ pub fn difference(case: &Case, wanted: &Outcome, fault: Option<Fault>) -> Option
     if reply != must {
         return Some(format!("it gives back {}, and must give back {}", told(&reply), told(&must)));
     }
-    input.changed().or_else(|| wrong_room(case, wanted, &mut rooms))
+    miscounted(case, &mut input, fault).or_else(|| input.changed()).or_else(|| wrong_room(case, wanted, &mut rooms))
+}
+
+/// What is wrong with what the call that counts says of a PLY file.
+fn miscounted(case: &Case, input: &mut Inputs, fault: Option<Fault>) -> Option<String> {
+    if case.call != Call::ReadPly {
+        return None;
+    }
+    let must = match refuse::uncounted(case) {
+        Some((number, place)) => Reply { number, place: place as u32, counts: vec![0, 0] },
+        None => Reply { number: 0, place: 0, counts: vec![case.p(), case.f()] },
+    };
+    let mut reply = here::counted(input).unwrap_or_else(|| must.clone());
+    if fault == Some(Fault::Miscounted) {
+        reply.counts.swap(0, 1);
+    }
+    (reply != must).then(|| format!("its points and faces are counted as {}, and must be as {}", told(&reply), told(&must)))
 }
 
 /// A reply with a fault. A call that is not there is played from the outcome, so that each fault can be tried for each call.

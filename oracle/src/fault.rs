@@ -3,6 +3,7 @@
 use crate::case::{Call, Case};
 use crate::here::{Inputs, Reply};
 use crate::lent::Lent;
+use crate::ply::{self, Parts};
 use crate::refuse;
 use crate::there::{self, Outcome};
 
@@ -10,7 +11,8 @@ use crate::there::{self, Outcome};
 /// told by its place in a list of the rooms of edges and loops together; 8 told as 7, or before 7; a boundary that is not simple refused by the edge
 /// call, or only where its work room is dirty; dirt left behind zeros; loops listed as they are walked; or the whole answer is that of another input,
 /// without one bit of the options or limits, with the threshold's neighbour, without the second count, or with a sum of the first two that has lost its
-/// 33rd bit.
+/// 33rd bit. Of PLY files: points and faces counted in exchange; -0 lost; corners exchanged; bytes from the highest down; a byte behind the file changed;
+/// 4 before 14; a negative corner taken; leading zeros, a trailing byte, or counts beyond 64 bits taken.
 #[derive(Clone, Copy, PartialEq, Debug)]
 pub enum Fault {
     None,
@@ -40,6 +42,16 @@ pub enum Fault {
     EightFirst,
     DirtLeft,
     LoopsWalked,
+    Miscounted,
+    MinusZeroLost,
+    CornersExchanged,
+    HighByteFirst,
+    BehindFile,
+    FourFirst,
+    NegativeTaken,
+    ZerosTaken,
+    TrailingTaken,
+    CountWraps,
 }
 
 /// The faults that a call can have. The edge check and the line have no room to be cleared beside the last one.
@@ -53,8 +65,13 @@ pub fn faults(call: Call) -> Vec<Fault> {
         Call::Patches => all.extend([AnswerOfTwoFaces, NotCleared]),
         Call::Check => all.push(AnswerOfTwoFaces),
         Call::Line => all.extend([SecondLeftOut, SumWraps]),
+        Call::WritePly => all.extend([AnswerOfTwoFaces, MinusZeroLost, CornersExchanged, HighByteFirst, BehindFile]),
+        Call::ReadPly => all.extend([AnswerOfTwoFaces, NotCleared, MinusZeroLost, CornersExchanged, HighByteFirst, Miscounted]),
     }
-    let bits = [6, 0, 0, 0, 5, 0][call as usize];
+    if call == Call::ReadPly {
+        all.extend([FourFirst, NegativeTaken, ZerosTaken, TrailingTaken, CountWraps]);
+    }
+    let bits = [6, 0, 0, 0, 5, 0, 0, 0][call as usize];
     all.extend((0..bits).map(Without));
     all
 }
@@ -91,6 +108,55 @@ fn turn(reply: &Reply, rooms: &mut [Lent]) {
     vertices.iter().enumerate().for_each(|(i, v)| bytes[start + 4 * i..start + 4 * i + 4].copy_from_slice(&v.to_ne_bytes()));
 }
 
+/// A PLY file that is refused 5 only for negative corners, taken as it is, if its rooms are large enough.
+fn negative(case: &Case) -> Option<Outcome> {
+    let parts = Parts::of(&case.file)?;
+    let only = parts.corners().iter().all(|&v| (v as i32) < 0 || (v as u64) < case.p());
+    let room = case.stated().iter().zip(case.lengths()).all(|((_, stated), length)| length as u128 >= *stated);
+    (only && room).then(|| taken(&parts))
+}
+
+/// The parts of a PLY file with one thing done otherwise.
+fn altered(fault: Fault, mut parts: Parts) -> Parts {
+    match fault {
+        Fault::MinusZeroLost => {
+            let points: Vec<f64> = parts.points().iter().map(|&x| if x == 0.0 { 0.0 } else { x }).collect();
+            parts.vertices = Parts::new(&points, &[]).vertices;
+        }
+        Fault::CornersExchanged => parts.faces.iter_mut().for_each(|face| face[5..13].rotate_left(4)),
+        _ => {
+            parts.vertices.iter_mut().flat_map(|vertex| vertex.chunks_exact_mut(8)).for_each(|bytes| bytes.reverse());
+            parts.faces.iter_mut().flat_map(|face| face[1..].chunks_exact_mut(4)).for_each(|bytes| bytes.reverse());
+        }
+    }
+    parts
+}
+
+/// The outcome of an accepted PLY call with one thing done otherwise.
+fn otherwise(fault: Fault, case: &Case) -> Outcome {
+    if case.call == Call::ReadPly {
+        return taken(&altered(fault, Parts::of(&case.file).expect("a file of the form")));
+    }
+    let file = altered(fault, Parts::new(&case.points, &case.faces)).file();
+    Outcome { number: 0, place: 0, counts: vec![file.len() as u64], rows: vec![file] }
+}
+
+/// The outcome of a PLY file that is taken as it is.
+fn taken(parts: &Parts) -> Outcome {
+    let (counts, rows) = there::read(parts);
+    Outcome { number: 0, place: 0, counts, rows }
+}
+
+/// The outcome of another PLY file in the rooms of a case.
+fn of_file(case: &Case, file: Vec<u8>) -> Outcome {
+    let (mut other, lengths) = (case.clone(), case.lengths());
+    other.file = file;
+    for ((room, (_, stated)), length) in other.rooms.iter_mut().zip(Case { file: other.file.clone(), ..case.clone() }.stated()).zip(lengths) {
+        room.extra = length as i128 - stated as i128;
+    }
+    there::outcome(&other)
+}
+
 impl Fault {
     /// The outcome that is given for the wanted one, if the fault is of that kind: that of another case, or a refusal for the boundary.
     pub fn other(self, case: &Case, wanted: &Outcome) -> Option<Outcome> {
@@ -107,6 +173,12 @@ impl Fault {
             Fault::BowtieRefused if wanted.number == 0 => return eight(case),
             Fault::BowtieRefusedInDirt if wanted.number == 0 && dirty => return eight(case),
             Fault::EightFirst if wanted.number == 7 => return eight(case),
+            Fault::MinusZeroLost | Fault::CornersExchanged | Fault::HighByteFirst if wanted.number == 0 => return Some(otherwise(self, case)),
+            Fault::FourFirst if wanted.number == 14 => return refuse::vertices_first(case).map(|(n, place)| there::refused(case.call, n, place)),
+            Fault::NegativeTaken if wanted.number == 5 => return negative(case),
+            Fault::ZerosTaken if wanted.number == 13 => return ply::without_zeros(&case.file).map(|file| of_file(case, file)),
+            Fault::TrailingTaken if wanted.number == 13 => return case.file.split_last().map(|(_, file)| of_file(case, file.to_vec())),
+            Fault::CountWraps if wanted.number == 13 => return ply::wrapped(&case.file).map(|file| of_file(case, file)),
             _ => return None,
         }
         Some(there::outcome(&other))
@@ -143,6 +215,7 @@ impl Fault {
             Fault::RoomOfBoth if reply.number == 6 && case.call == Call::Loops => reply.place += 3,
             Fault::RoomOfBoth if reply.number == 6 && reply.place as usize == last => reply.place = 5,
             Fault::EightAsSeven if reply.number == 8 => reply.number = 7,
+            Fault::BehindFile if accepted && lengths[0] > stated[0].1 as usize => flip(0, stated[0].1 as i64),
             Fault::RefusalWrites if !accepted && lengths[last] > 0 => flip(last, lengths[last] as i64 - 1),
             Fault::InputChanged => input.faces.all_mut().0[40] ^= 1,
             _ => {}

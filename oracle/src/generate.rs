@@ -3,6 +3,7 @@
 use crate::case::{Call, Case, Filter, MOST_FACES, MOST_POINTS, NO_PATCH, REPORT};
 use crate::damage;
 use crate::meshes::{self, Mesh};
+use crate::ply::{self, Parts};
 use crate::random::Random;
 use crate::{defects, places, there};
 
@@ -23,6 +24,10 @@ pub fn case(call: Call, seed: u64, number: u64) -> Case {
         _ => {}
     }
     large(&mut case, number);
+    if call == Call::ReadPly {
+        case.file = Parts::new(&case.points, &case.faces).file();
+        (case.points, case.faces) = (vec![], vec![]);
+    }
     if number >= 4 && random.one_in(4) {
         for _ in 0..1 + random.below(3) {
             damage::add(&mut case, random);
@@ -152,6 +157,10 @@ fn rooms(case: &mut Case, random: &mut Random) {
     if random.one_in(6) {
         let k = random.below(case.rooms.len());
         case.rooms[k].extra = -1;
+    }
+    if case.call == Call::ReadPly && ply::form(&case.file).is_none() && random.one_in(2) {
+        // Room for what the file might be taken for.
+        case.rooms.iter_mut().for_each(|room| room.extra += 5000);
     }
     for (room, (_, stated)) in case.rooms.iter_mut().zip(&stated) {
         if *stated >= 1 << 20 {

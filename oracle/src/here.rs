@@ -34,6 +34,9 @@ unsafe extern "C" {
         limits: u32, min_faces: u64, min_area: f64, min_aabb_diagonal: f64, min_area_fraction: f64, keep_largest_n: u64,
         face_counts: *mut u32, _: usize, numbers: *mut f64, _: usize, flags: *mut u32, _: usize, work: *mut u32, _: usize) -> Given<3>;
     fn shell_line(counts: *const u32, _: usize, line: *mut u8, _: usize) -> Given<1>;
+    fn shell_write_ply(points: *const f64, _: usize, faces: *const u32, _: usize, file: *mut u8, _: usize, work: *mut u32, _: usize) -> Given<1>;
+    fn shell_read_ply(file: *const u8, _: usize, points: *mut f64, _: usize, faces: *mut u32, _: usize, work: *mut u32, _: usize) -> Given<2>;
+    fn shell_ply_counts(file: *const u8, _: usize) -> Given<2>;
 }
 
 /// Whether the library has the call.
@@ -45,6 +48,8 @@ pub fn has(call: Call) -> bool {
         Call::Check => cfg!(has_check),
         Call::Patches => cfg!(has_patches),
         Call::Line => cfg!(has_line),
+        Call::WritePly => cfg!(has_write_ply),
+        Call::ReadPly => cfg!(has_read_ply),
     }
 }
 
@@ -54,6 +59,7 @@ pub struct Inputs {
     pub faces: Lent,
     pub labels: Lent,
     pub counts: Lent,
+    pub file: Lent,
 }
 
 impl Inputs {
@@ -62,12 +68,13 @@ impl Inputs {
         let dirt = case.rooms[0].dirt;
         let numbers = |row: &[u32]| Lent::input(4, &row.iter().flat_map(|x| x.to_ne_bytes()).collect::<Vec<u8>>(), dirt);
         let points: Vec<u8> = case.points.iter().flat_map(|x| x.to_bits().to_ne_bytes()).collect();
-        Inputs { points: Lent::input(8, &points, dirt), faces: numbers(&case.faces), labels: numbers(&case.labels), counts: numbers(&case.counts) }
+        let [faces, labels, counts] = [&case.faces, &case.labels, &case.counts].map(|row| numbers(row));
+        Inputs { points: Lent::input(8, &points, dirt), faces, labels, counts, file: Lent::input(1, &case.file, dirt) }
     }
 
     /// The first input that a call has changed.
     pub fn changed(&self) -> Option<String> {
-        let rows = [("points", &self.points), ("faces", &self.faces), ("labels", &self.labels), ("counts", &self.counts)];
+        let rows = [("points", &self.points), ("faces", &self.faces), ("labels", &self.labels), ("counts", &self.counts), ("file", &self.file)];
         rows.iter().find_map(|(name, row)| row.changed().map(|what| format!("input {name}: {what}")))
     }
 }
@@ -87,9 +94,22 @@ pub fn run(case: &Case, input: &mut Inputs, rooms: &mut [Lent]) -> Option<Reply>
         Call::Patches => Some(patches(case, input, rooms)),
         #[cfg(has_line)]
         Call::Line => Some(line(input, rooms)),
+        #[cfg(has_write_ply)]
+        Call::WritePly => Some(write_ply(input, rooms)),
+        #[cfg(has_read_ply)]
+        Call::ReadPly => Some(read_ply(input, rooms)),
         #[allow(unreachable_patterns)]
         _ => None,
     }
+}
+
+/// What the call that counts says of a PLY file; nothing if it is not there yet.
+#[allow(unused_variables)]
+pub fn counted(input: &mut Inputs) -> Option<Reply> {
+    #[cfg(has_ply_counts)]
+    return Some(reply(unsafe { shell_ply_counts(input.file.pointer(), input.file.length()) }));
+    #[cfg(not(has_ply_counts))]
+    None
 }
 
 /// A mesh as the library's repair mends it.
@@ -175,4 +195,30 @@ fn patches(case: &Case, input: &mut Inputs, rooms: &mut [Lent]) -> Reply {
 fn line(input: &mut Inputs, rooms: &mut [Lent]) -> Reply {
     let (counts, line) = (&mut input.counts, &mut rooms[0]);
     reply(unsafe { shell_line(counts.pointer(), counts.length(), line.pointer(), line.length()) })
+}
+
+#[cfg(has_write_ply)]
+#[rustfmt::skip]
+fn write_ply(input: &mut Inputs, rooms: &mut [Lent]) -> Reply {
+    let Inputs { points, faces, .. } = input;
+    let [file, work] = rooms else { unreachable!() };
+    reply(unsafe {
+        shell_write_ply(
+            points.pointer(), points.length(), faces.pointer(), faces.length(),
+            file.pointer(), file.length(), work.pointer(), work.length(),
+        )
+    })
+}
+
+#[cfg(has_read_ply)]
+#[rustfmt::skip]
+fn read_ply(input: &mut Inputs, rooms: &mut [Lent]) -> Reply {
+    let file = &mut input.file;
+    let [points, faces, work] = rooms else { unreachable!() };
+    reply(unsafe {
+        shell_read_ply(
+            file.pointer(), file.length(),
+            points.pointer(), points.length(), faces.pointer(), faces.length(), work.pointer(), work.length(),
+        )
+    })
 }

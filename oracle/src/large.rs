@@ -1,7 +1,9 @@
-//! One large mesh with the defects of a scan, through repair, edges, loops, check and patches: every room compared once.
+//! One large mesh with the defects of a scan, through repair, edges, loops, check, patches and PLY files: every room compared once. And PLY files of as many
+//! points and of as many faces as there may be.
 
-use crate::case::{Call, Case, Filter, Room};
+use crate::case::{Call, Case, Filter, MOST_FACES, MOST_POINTS, Room};
 use crate::meshes::{self, Mesh};
+use crate::ply::Parts;
 use crate::random::Random;
 use crate::{compare, generate, here, there};
 use std::process::ExitCode;
@@ -38,6 +40,10 @@ pub fn asked(call: Call, points: &[f64], faces: &[u32], options: u32) -> Case {
     case.point_count = points.len() as u64 / 3;
     case.points = if call == Call::Check { vec![] } else { points.to_vec() };
     case.faces = faces.to_vec();
+    if call == Call::ReadPly {
+        case.file = Parts::new(points, faces).file();
+        (case.points, case.faces) = (vec![], vec![]);
+    }
     case.threshold = generate::degenerate_sin();
     case.options = options;
     if call == Call::Patches {
@@ -81,6 +87,12 @@ pub fn run(faces: usize) -> ExitCode {
     println!("report {counts:?}");
     for (call, options) in LISTED.into_iter().chain([(Call::Check, 0), (Call::Patches, 0)]) {
         all &= !here::has(call) || same(&asked(call, &points, &triples, options));
+    }
+    let (most_points, most_faces) = ((vec![-0.0; 3 * MOST_POINTS as usize], vec![]), (vec![1.0; 9], vec![2; 3 * MOST_FACES as usize]));
+    for (points, triples) in [(&points, &triples), (&most_points.0, &most_points.1), (&most_faces.0, &most_faces.1)] {
+        for call in [Call::WritePly, Call::ReadPly] {
+            all &= !here::has(call) || same(&asked(call, points, triples, 0));
+        }
     }
     println!("with its bowties");
     for (call, options) in LISTED {

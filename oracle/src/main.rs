@@ -15,6 +15,7 @@ mod lent;
 mod meshes;
 mod places;
 mod planted;
+mod ply;
 mod print;
 mod random;
 mod recorded;

@@ -15,11 +15,19 @@ fn threes<T: Copy>(row: &[T], show: impl Fn(T) -> String) -> String {
     format!("{}{}", groups.join("; "), if row.len() > 300 { "; ..." } else { "" })
 }
 
+/// The beginning of a file: a header as it is written, with what is not of ASCII in hex.
+fn bytes(file: &[u8]) -> String {
+    let more = if file.len() > 1000 { "..." } else { "" };
+    format!("{}{more}", file.iter().take(1000).flat_map(|byte| byte.escape_ascii()).map(char::from).collect::<String>())
+}
+
 /// The case for a reader.
 pub fn shown(case: &Case) -> String {
     let mut text = format!("call {}: ", case.call.name());
     if case.call == Call::Line {
         text += &format!("counts {:?}\n", case.counts);
+    } else if case.call == Call::ReadPly {
+        text += &format!("{} bytes, P = {}, F = {}\n  {}\n", case.file.len(), case.p(), case.f(), bytes(&case.file));
     } else if case.call == Call::Check {
         text += &format!("P = {}, {} entries of faces\n  faces {}\n", case.point_count, case.faces.len(), threes(&case.faces, |v| v.to_string()));
     } else {

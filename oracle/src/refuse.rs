@@ -1,18 +1,22 @@
-//! Document 01's refusals in plain words, with eleven counts and with edges and loops in two calls, as document 02 has them: the number and place that
-//! a call must give back, or nothing if it must accept. Written from the documents alone, so that it shares nothing with the library.
+//! Document 01's refusals in plain words, with eleven counts, with edges and loops in two calls, and with PLY files, as document 02 has them: the number
+//! and place that a call must give back, or nothing if it must accept. Written from the documents alone, so that it shares nothing with the library.
 
 use crate::case::{Call, Case, MOST_FACES, MOST_PATCHES, MOST_POINTS, NO_PATCH, REPORT};
+use crate::ply::{self, Parts};
 use std::collections::BTreeMap;
 
 type Refusal = Option<(u32, u64)>;
 
-/// The first refusal in document 01's order: 1, 2, 3, 4, 5, 9, 10, 6, 7, 8. (11 belongs to the program.)
+/// The first refusal in document 01's order: 1, 2, 3, 4, 5, 9, 10, 6, 7, 8; of a PLY file 13, 2, 14, 4, 5, 6. (11 belongs to the program.)
 pub fn refusal(case: &Case) -> Refusal {
+    if case.call == Call::ReadPly {
+        return uncounted(case).or_else(|| content(case)).or_else(|| room(case));
+    }
     length(case)
         .or_else(|| size(case))
         .or_else(|| setting(case))
-        .or_else(|| point(case))
-        .or_else(|| corner(case))
+        .or_else(|| point(&case.points))
+        .or_else(|| corner(&case.faces, case.p()))
         .or_else(|| label(case))
         .or_else(|| label_count(case))
         .or_else(|| room(case))
@@ -54,14 +58,31 @@ fn setting(case: &Case) -> Refusal {
 }
 
 /// 4: a coordinate that is not finite or above 2^100 in magnitude.
-fn point(case: &Case) -> Refusal {
+fn point(points: &[f64]) -> Refusal {
     let outside = |x: &f64| x.is_nan() || x.abs() > 2f64.powi(100);
-    case.points.iter().position(outside).map(|i| (4, i as u64 / 3))
+    points.iter().position(outside).map(|i| (4, i as u64 / 3))
 }
 
 /// 5: a corner that is no point.
-fn corner(case: &Case) -> Refusal {
-    case.faces.iter().position(|&v| v as u64 >= case.p()).map(|i| (5, i as u64 / 3))
+fn corner(faces: &[u32], p: u64) -> Refusal {
+    faces.iter().position(|&v| v as u64 >= p).map(|i| (5, i as u64 / 3))
+}
+
+/// 13, a PLY file that is not of the form, and 2: what the call that counts refuses too.
+pub fn uncounted(case: &Case) -> Refusal {
+    if ply::form(&case.file).is_none() { Some((13, 0)) } else { size(case) }
+}
+
+/// Of a PLY file of the form 14, a face whose count is not 3, and then 4 and 5; a negative corner is one above every point.
+fn content(case: &Case) -> Refusal {
+    let parts = Parts::of(&case.file).expect("a file of the form");
+    let triple = parts.counts().position(|count| count != 3).map(|i| (14, i as u64));
+    triple.or_else(|| point(&parts.points())).or_else(|| corner(&parts.corners(), case.p()))
+}
+
+/// 4 before 14: what a call gives that looks at the vertices first.
+pub fn vertices_first(case: &Case) -> Refusal {
+    point(&Parts::of(&case.file)?.points())
 }
 
 /// 9: a label that is neither `NO_PATCH` nor below the patch count.

@@ -1,6 +1,7 @@
 //! From a case that differs to the smallest one found that still does.
 
 use crate::case::{Case, EXACT, Room};
+use crate::ply::Parts;
 use std::time::{Duration, Instant};
 
 /// How long is searched at most.
@@ -21,11 +22,24 @@ pub fn smallest(case: &Case, differs: &dyn Fn(&Case) -> bool) -> Case {
         | search.settings()
         | search.patches()
         | search.counts()
+        | search.file()
         | search.rooms()
         | search.corners()
         | search.coordinates()
     {}
     search.case
+}
+
+/// The parts of a PLY file, or none if it is not of the form.
+fn of(case: &Case) -> Parts {
+    Parts::of(&case.file).unwrap_or_default()
+}
+
+/// Changes the parts of a PLY file.
+fn part(case: &mut Case, change: impl FnOnce(&mut Parts)) {
+    let mut parts = of(case);
+    change(&mut parts);
+    case.file = parts.file();
 }
 
 impl Search<'_> {
@@ -45,20 +59,11 @@ impl Search<'_> {
 
     /// Faces left out, many at a time and then one, with their labels.
     fn faces(&mut self) -> bool {
-        let (mut size, mut found) = (self.case.f() as usize, false);
-        while size > 0 {
-            let mut start = 0;
-            while start + size <= self.case.f() as usize {
-                let gone = self.stays(|c| {
-                    c.faces.drain(3 * start..3 * (start + size));
-                    c.labels.drain(start.min(c.labels.len())..(start + size).min(c.labels.len()));
-                });
-                found |= gone;
-                start += if gone { 0 } else { size };
-            }
-            size /= 2;
-        }
-        found
+        let leave = |c: &mut Case, from: usize, to: usize| {
+            c.faces.drain(3 * from..3 * to);
+            c.labels.drain(from.min(c.labels.len())..to.min(c.labels.len()));
+        };
+        self.without(|c| c.faces.len() / 3, leave)
     }
 
     /// Entries that make no whole point or face, and labels beyond the faces.
@@ -135,6 +140,34 @@ impl Search<'_> {
         for i in 0..self.case.counts.len() {
             let now = self.case.counts[i];
             found |= [0, 1, now / 10].into_iter().any(|n| n < now && self.stays(|c| c.counts[i] = n));
+        }
+        found
+    }
+
+    /// A PLY file of the form with fewer faces and points, and with zeros for points; of another, without some of its bytes.
+    fn file(&mut self) -> bool {
+        if Parts::of(&self.case.file).is_none() {
+            return self.without(|c| c.file.len(), |c, from, to| drop(c.file.drain(from..to)));
+        }
+        let mut found = self.without(|c| of(c).faces.len(), |c, from, to| part(c, |parts| drop(parts.faces.drain(from..to))));
+        found |= self.without(|c| of(c).vertices.len(), |c, from, to| part(c, |parts| drop(parts.vertices.drain(from..to))));
+        for i in 0..of(&self.case).vertices.len() {
+            found |= of(&self.case).vertices[i] != [0; 24] && self.stays(|c| part(c, |parts| parts.vertices[i] = [0; 24]));
+        }
+        found
+    }
+
+    /// Things of a case left out, many at a time and then one: how many there are, and what leaves out those from one place up to another.
+    fn without(&mut self, count: impl Fn(&Case) -> usize, leave: impl Fn(&mut Case, usize, usize)) -> bool {
+        let (mut size, mut found) = (count(&self.case), false);
+        while size > 0 {
+            let mut start = 0;
+            while start + size <= count(&self.case) {
+                let gone = self.stays(|c| leave(c, start, start + size));
+                found |= gone;
+                start += if gone { 0 } else { size };
+            }
+            size /= 2;
         }
         found
     }

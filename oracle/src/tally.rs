@@ -1,6 +1,7 @@
 //! How often each refusal and each part of an answer came up, so that a reader sees what was tried.
 
 use crate::case::{Call, Case, REPORT};
+use crate::ply::Parts;
 use crate::refuse;
 use crate::there::Outcome;
 use std::cmp::Ordering;
@@ -98,6 +99,14 @@ impl Tally {
                 count("several parts", parts > 1);
                 count("a sum of two counts", case.counts[0] > 0 && case.counts[1] > 0);
                 count("a sum of 33 bits", sum > u32::MAX as u64);
+            }
+            Call::WritePly | Call::ReadPly => {
+                let points = if case.call == Call::ReadPly { Parts::of(&case.file).unwrap_or_default().points() } else { case.points.clone() };
+                count("no point", case.p() == 0);
+                count("points and no face", case.p() > 0 && case.f() == 0);
+                count("some face", case.f() > 0);
+                count("ten points or faces and more", case.p() > 9 || case.f() > 9);
+                count("a minus zero", points.iter().any(|x| x.to_bits() == 1 << 63));
             }
         }
     }

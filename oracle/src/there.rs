@@ -1,6 +1,8 @@
-//! The Rust's answers, in the documents' form. It is asked only where document 01 accepts, or where it refuses by an error of its own.
+//! The Rust's answers, in the documents' form. It is asked only where document 01 accepts, or where it refuses by an error of its own. The edge check and the
+//! calls for PLY files, which it does not have, are answered by the documents.
 
 use crate::case::{Call, Case, REPORT};
+use crate::ply::Parts;
 use crate::refuse;
 use crate::time::LINES;
 use engeom::edges::{MeshEdges, edge_key, naive_edges, unique_edges};
@@ -19,7 +21,7 @@ pub struct Outcome {
     pub rows: Vec<Vec<u8>>,
 }
 
-/// The outcome of a case: document 01's refusal, or else the Rust's answer, and for the edge check document 01's rule.
+/// The outcome of a case: the documents' refusal, or else the Rust's answer, and for the edge check and for PLY files the documents' rule.
 pub fn outcome(case: &Case) -> Outcome {
     if let Some((number, place)) = refuse::refusal(case) {
         agree(case, number, place);
@@ -32,6 +34,8 @@ pub fn outcome(case: &Case) -> Outcome {
         Call::Check => (vec![sound(case) as u64], vec![]),
         Call::Patches => patches(case),
         Call::Line => line(case),
+        Call::WritePly => written(case),
+        Call::ReadPly => read(&Parts::of(&case.file).expect("a file of the form")),
     };
     Outcome { number: 0, place: 0, counts, rows }
 }
@@ -45,8 +49,8 @@ pub fn refused(call: Call, number: u32, place: u64) -> Outcome {
 fn answer_counts(call: Call) -> usize {
     match call {
         Call::Repair | Call::Edges | Call::Patches => 3,
-        Call::Loops => 2,
-        Call::Check | Call::Line => 1,
+        Call::Loops | Call::ReadPly => 2,
+        Call::Check | Call::Line | Call::WritePly => 1,
     }
 }
 
@@ -191,6 +195,18 @@ fn sound(case: &Case) -> bool {
     case.triples().into_iter().all(|[a, b, c]| a != b && b != c && c != a && used.insert((a, b)) && used.insert((b, c)) && used.insert((c, a)))
 }
 
+/// A mesh written to a PLY file: count and row.
+fn written(case: &Case) -> (Vec<u64>, Vec<Vec<u8>>) {
+    let file = Parts::new(&case.points, &case.faces).file();
+    (vec![file.len() as u64], vec![file])
+}
+
+/// The parts of a PLY file as points and triples: counts and rows.
+pub fn read(parts: &Parts) -> (Vec<u64>, Vec<Vec<u8>>) {
+    let (points, corners) = (parts.points(), parts.corners());
+    (vec![points.len() as u64, corners.len() as u64], vec![floats(points), numbers(corners)])
+}
+
 /// The labels as the Rust takes them.
 fn labels(case: &Case) -> engeom::Result<PatchLabels> {
     PatchLabels::new(case.labels.clone(), case.patch_count as usize)
@@ -251,7 +267,7 @@ pub fn time<T>(case: &Case, median: impl FnOnce(&mut dyn FnMut()) -> T) -> T {
             let report = report(case);
             median(&mut || (0..LINES).for_each(|_| drop(std::hint::black_box(report.to_string()))))
         }
-        Call::Check => unreachable!("the Rust has no edge check"),
+        Call::Check | Call::WritePly | Call::ReadPly => unreachable!("the Rust has no such call"),
     }
 }
 

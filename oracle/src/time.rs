@@ -5,7 +5,9 @@ use crate::case::{Call, Case, Filter, REPORT};
 use crate::here::{self, Inputs};
 use crate::lent::Lent;
 use crate::meshes::Mesh;
+use crate::ply::Parts;
 use crate::{generate, refuse, shapes, there};
+use std::hint::black_box;
 use std::process::ExitCode;
 
 const RUNS: usize = 5;
@@ -78,6 +80,10 @@ fn asked(call: Call, mesh: Mesh) -> Case {
         case.patch_count = 64;
         case.labels = (0..faces).map(|i| (i * 64 / faces) as u32).collect();
         case.filter = Filter { set: 31, min_faces: 2, reals: [0.0, 0.0, 0.01], keep_largest_n: 32 };
+    }
+    if call == Call::ReadPly {
+        case.file = Parts::new(&case.points, &case.faces).file();
+        (case.points, case.faces) = (vec![], vec![]);
     }
     if call == Call::Line {
         case = Case::new(call);
@@ -158,11 +164,27 @@ fn theirs(case: &Case) -> ((f64, usize), Option<f64>) {
     (time, taken)
 }
 
-/// The Rust has no edge check; its edges and loops are one call, which may never end where the boundary is not simple.
+/// The median of copying the bytes of the PLY file that the call reads or writes, to memory that was used before, and how many runs it is of; if asked, with
+/// a look through a work room of zeros.
+fn copied(case: &Case, looks: bool) -> (f64, usize) {
+    let file = if case.call == Call::ReadPly { case.file.clone() } else { Parts::new(&case.points, &case.faces).file() };
+    let work = vec![0u32; if looks { case.stated().last().expect("a work room").1 as usize } else { 0 }];
+    let mut to = vec![1; file.len()];
+    let look = |work: &[u32]| work.iter().fold(0, |sum, entry| sum | entry);
+    assert_eq!(look(&work), 0);
+    median(|| {
+        milliseconds(|| {
+            black_box(&mut to).copy_from_slice(black_box(&file));
+            black_box(look(black_box(&work)));
+        })
+    })
+}
+
+/// The Rust has no edge check and no PLY files; its edges and loops are one call, which may never end where the boundary is not simple.
 fn asks_the_rust(case: &Case) -> bool {
     let lists = case.call == Call::Edges || case.call == Call::Loops;
     let ends = !lists || matches!(refuse::refusal(case), Some((1..=7, _))) || refuse::fault(case).is_none();
-    case.call != Call::Check && ends
+    ![Call::Check, Call::WritePly, Call::ReadPly].contains(&case.call) && ends
 }
 
 /// Shapes that are mended for the other calls, which would refuse them at once.
@@ -189,11 +211,12 @@ fn timed(name: &str, faces: usize, shape: &str) -> Option<Timed> {
 }
 
 /// Prints one median in milliseconds, of how many runs, the megabytes of one, and the number that the call gives back; a dash where there is none.
-/// The way is fresh, reused, dirty or rust.
+/// The way is fresh, reused, dirty or rust; for PLY files also copy, which is memcpy of the same bytes, and look, which is that and a look through the work
+/// room.
 pub fn one(name: &str, faces: usize, shape: &str, way: &str) -> ExitCode {
     let Some(timed) = timed(name, faces, shape) else {
         eprintln!(
-            "oracle: --time takes repair, repair with its options as in repair16, edges, loops, both, check, patches or line, a number of faces, and a shape of --shapes"
+            "oracle: --time takes repair, repair with its options as in repair16, edges, loops, both, check, patches, line, write_ply or read_ply, a number of faces, and a shape of --shapes"
         );
         return ExitCode::from(2);
     };
@@ -202,6 +225,8 @@ pub fn one(name: &str, faces: usize, shape: &str, way: &str) -> ExitCode {
         "reused" => ours(&timed, Way::Reused),
         "dirty" => ours(&timed, Way::Dirty),
         "rust" if !asks_the_rust(&timed.case) => ((f64::NAN, 0), None),
+        "copy" => (copied(&timed.case, false), None),
+        "look" => (copied(&timed.case, true), None),
         _ => theirs(&timed.case),
     };
     let time = if timed.case.call == Call::Line { time / LINES as f64 } else { time };
@@ -229,7 +254,9 @@ fn told(name: &str, timed: &Timed) {
 /// Times one call on a shape.
 pub fn run(call: &str, faces: usize, shape: &str) -> ExitCode {
     let Some(mut timed) = timed(call, faces, shape).filter(|timed| timed.case.call != Call::Line) else {
-        eprintln!("oracle: --time takes repair, edges, loops, both, check or patches, a number of faces, and a shape of --shapes");
+        eprintln!(
+            "oracle: --time takes repair, edges, loops, both, check, patches, write_ply or read_ply, a number of faces, and a shape of --shapes"
+        );
         return ExitCode::from(2);
     };
     println!("{shape}, P = {}, F = {}", timed.case.p(), timed.case.f());

@@ -1,6 +1,7 @@
-//! A mesh that is timed, as a file for other programs: OFF, or binary STL where the name ends so.
+//! A mesh that is timed, as a file for other programs: OFF, or binary STL or PLY where the name ends so.
 
 use crate::meshes::Mesh;
+use crate::ply::Parts;
 use crate::shapes;
 use std::fmt::Write;
 use std::process::ExitCode;
@@ -29,13 +30,22 @@ fn stl(mesh: &Mesh) -> Vec<u8> {
     bytes
 }
 
+/// Points and faces as they are, by their bits.
+fn ply(mesh: &Mesh) -> Vec<u8> {
+    Parts::new(&mesh.points.concat(), &mesh.faces.concat()).file()
+}
+
 /// Writes a shape to a file.
 pub fn run(shape: &str, faces: usize, file: &str) -> ExitCode {
     let Some(mesh) = shapes::named(shape, faces) else {
         eprintln!("oracle: no shape {shape}");
         return ExitCode::from(2);
     };
-    let bytes = if file.ends_with(".stl") { stl(&mesh) } else { off(&mesh) };
+    let bytes = match file.rsplit_once('.') {
+        Some((_, "stl")) => stl(&mesh),
+        Some((_, "ply")) => ply(&mesh),
+        _ => off(&mesh),
+    };
     std::fs::write(file, bytes).expect("the file can be written");
     ExitCode::SUCCESS
 }

@@ -1,7 +1,7 @@
 #!/usr/bin/env bash
 # Builds the library and the Rust's own files in release, times one against the other in one run, and prints the tables in Markdown:
-# bash bench/run.sh [--short] [--install] [--write]. --short takes no mesh of a million faces; --install gets admesh and CGAL by apt; --write puts the
-# tables into docs/SPEED.md instead, below its mark.
+# bash bench/run.sh [--short] [--install] [--write]. --short takes no mesh of a million faces; --install gets admesh, CGAL and meshio by apt; --write puts
+# the tables into docs/SPEED.md instead, below its mark.
 set -eu
 cd "$(dirname "${BASH_SOURCE[0]}")/.."
 short='' install='' write=''

@@ -1,9 +1,9 @@
 #!/usr/bin/env python3
 """Times the calls against the Rust and prints the tables in Markdown: table.py FOLDER [--short] [--only CALL,...] [--shapes SHAPE,...].
 
-FOLDER is bench/run.sh's: the oracle, the leaves' times, and CGAL's program where CGAL is. Each figure is the median of five runs in processor time, in a
-process of its own. What does not end within its limit is said to be over it. CALL is repair, edges, loops, both (edges and then loops), check, patches, line
-or others."""
+FOLDER is bench/run.sh's: the oracle, the leaves' times, and CGAL's programs where CGAL is. Each figure is the median of five runs in processor time, in a
+process of its own. What does not end within its limit is said to be over it. CALL is repair, edges, loops, both (edges and then loops), check, patches, line,
+ply or others."""
 import os
 import re
 import resource
@@ -16,7 +16,8 @@ words = sys.argv[1:]
 folder = os.path.abspath(words.pop(0))
 oracle = os.path.join(folder, "oracle")
 short = "--short" in words
-only = words[words.index("--only") + 1].split(",") if "--only" in words else ["repair", "edges", "loops", "both", "check", "patches", "line", "others"]
+CALLS = ["repair", "edges", "loops", "both", "check", "patches", "line", "ply", "others"]
+only = words[words.index("--only") + 1].split(",") if "--only" in words else CALLS
 sizes = [10_000, 100_000] if short else [10_000, 100_000, 1_000_000]
 top = sizes[-1]
 shapes = [line.split("\t") for line in subprocess.run([oracle, "--shapes"], capture_output=True, text=True, check=True).stdout.splitlines()]
@@ -161,6 +162,14 @@ def targets():
         if call == "repair":
             grown += [(grows(alone, shape, way), f"{what}, {pass_name}") for alone, pass_name in (("repair8", "pass 5 alone"), ("repair16", "pass 4 alone")) for shape, what in crowded]
         target(rows, f"{call}, rooms {way}, any mesh: time of a face at {top:,} over that at {sizes[0]:,}", 3, grown)
+    for call, way in [(call, way) for call in ("write_ply", "read_ply") for way in WAYS if "ply" in only]:
+        base = "look" if way == "reused" else "copy"
+        seen = ratio(figure(call, "grid", top, way), figure(call, "grid", top, base))
+        if way == "reused":
+            target(rows, f"{PLY[call]}, {top:,} faces, rooms reused: times memcpy of the file's bytes and a look through the work room", 4, [(seen, "")])
+            target(rows, f"{PLY[call]}, rooms reused: time of a face at {top:,} over that at {sizes[0]:,}", 3, [(grows(call, "grid", way), "")])
+        else:
+            rows.append([f"{PLY[call]}, {top:,} faces, rooms {way}: times memcpy of the file's bytes", "—", "—" if seen is None else f"{seen:.3f}", "reported"])
     roots = [(float(value), name.strip()) for name, value in re.findall(r"^root +(.*?)  .*ratio ([0-9.]+)$", leaves(), re.M)]
     target(rows, "root: times the processor's own", 20, roots)
     table(["target", "at most", "worst seen", "met"], rows)
@@ -178,6 +187,44 @@ def ended(command):
     out = child.stdout.read()
     _, status, used = os.wait4(child.pid, 0)
     return (None, None, "") if status != 0 else ((used.ru_utime + used.ru_stime) * 1000, used.ru_maxrss / 1024, out)
+
+
+PLY = {"write_ply": "writing a PLY file", "read_ply": "reading a PLY file"}
+
+
+def median_of(command, place):
+    """The median of five runs of a program that prints milliseconds, those at this place; nothing if it fails or is not there."""
+    found = [ended(command)[2].split() for _ in range(5)] if command else []
+    times = sorted(float(words[place]) for words in found if len(words) > place)
+    return times[len(times) // 2] if times else None
+
+
+def meshio():
+    """The command that times meshio, where it is."""
+    for python in (sys.executable, "/usr/bin/python3"):
+        if os.path.exists(python) and subprocess.run([python, "-c", "import meshio"], capture_output=True).returncode == 0:
+            return [python, os.path.join(os.path.dirname(os.path.abspath(__file__)), "meshio_ply.py"), "mesh.ply", "out.ply"]
+    return None
+
+
+def ply():
+    """Reading and writing PLY files, against memcpy of the same bytes, and against CGAL and meshio where they are."""
+    print("### PLY files of a clean grid\n")
+    cgal = ["./cgal_ply", "mesh.ply", "out.ply"] if os.path.exists(os.path.join(folder, "cgal_ply")) else None
+    bases = ["copy", "look"]
+    rows = []
+    for size in sizes:
+        subprocess.run([oracle, "--write", "grid", str(size), os.path.join(folder, "mesh.ply")], check=True)
+        megabytes = os.path.getsize(os.path.join(folder, "mesh.ply")) / 1e6
+        for place, call in ((1, "write_ply"), (0, "read_ply")):
+            ours, plain = [figure(call, "grid", size, way) for way in WAYS], [figure(call, "grid", size, way) for way in bases]
+            ratios = [shown(f, plain[0]) for f in ours] + [shown(ours[0], plain[1])]
+            row = [PLY[call], f"{size:,}", number(megabytes)] + [milliseconds(f) for f in ours + plain] + ratios + [number(ours[0][2])]
+            rows.append(row + [number(median_of(command, place)) for command in (cgal, meshio())])
+    head = [f"{way} ms" for way in WAYS] + ["memcpy ms", "memcpy and look ms"] + [f"{way} / memcpy" for way in WAYS] + ["reused / memcpy and look"]
+    table(["", "faces", "MB of file"] + head + ["MB", "CGAL ms", "meshio ms"], rows)
+    print("memcpy: the file's bytes, to memory that was used before. And look: the work room, which each call must leave zero, is looked through once besides.")
+    print("CGAL: from and to a string in memory; meshio: from and to a file. Neither checks coordinates or corners.\n")
 
 
 def others():
@@ -218,6 +265,8 @@ if "patches" in only:
     against("Patches, 64 labels", "patches", plain)
 if "line" in only:
     against("Report line, eleven counts", "line", shapes[:1], ["reused"])
+if "ply" in only:
+    ply()
 growth()
 targets()
 if "others" in only:

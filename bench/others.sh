@@ -3,7 +3,7 @@
 set -eu
 if [ "$1" = --install ]; then
     shift
-    apt-get install -y admesh libcgal-dev python3-meshio >/dev/null
+    bash "$(dirname "${BASH_SOURCE[0]}")/../tests/install.sh" admesh libcgal-dev python3-meshio
 fi
 folder=$(mkdir -p "$1" && cd "$1" && pwd)
 cd "$(dirname "${BASH_SOURCE[0]}")/.."

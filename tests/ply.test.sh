@@ -149,7 +149,7 @@ meshio_python() {
     false
 }
 if ! { has_cgal && meshio_python && command -v assimp >/dev/null; }; then
-    DEBIAN_FRONTEND=noninteractive apt-get install -y --no-install-recommends -o Acquire::http::Timeout=15 libcgal-dev python3-meshio assimp-utils >/dev/null 2>&1
+    bash "$here/tests/install.sh" libcgal-dev python3-meshio assimp-utils
 fi
 if has_cgal && g++ -O1 -DNDEBUG -std=c++17 -o cgal_ply "$here/bench/cgal_ply.cpp" -lgmp -lmpfr 2>/dev/null; then
     for file in "${files[@]}"; do

@@ -22,7 +22,7 @@ cmp found wanted || exit 1
 
 # The same shell by the program itself, where it is or can be installed.
 if ! command -v admesh >/dev/null; then
-    apt-get install -y admesh >/dev/null 2>&1
+    bash "$here/tests/install.sh" admesh
 fi
 if command -v admesh >/dev/null; then
     python3 "$here/tests/stl.py" ascii text.stl || exit 1

@@ -124,9 +124,11 @@ def grows(call, shape, way):
 
 
 def growth():
-    print(f"### How time grows: time of a face at {top:,} faces over that at {sizes[0]:,}\n")
     without = (("loops", "rust"), ("check", "rust"))
     kinds = [(call, way) for call in ("repair", "edges", "loops", "check") for way in ("reused", "dirty", "rust") if call in only and (call, way) not in without]
+    if not kinds:
+        return
+    print(f"### How time grows: time of a face at {top:,} faces over that at {sizes[0]:,}\n")
     shown = lambda call, shape, way: "—" if grows(call, shape, way) is None else f"{grows(call, shape, way):.2f}"
     table(["mesh"] + [f"{call}, {way}" for call, way in kinds], [[what] + [shown(call, shape, way) for call, way in kinds] for shape, what in shapes])
 
@@ -166,7 +168,7 @@ def targets():
         base = "look" if way == "reused" else "copy"
         seen = ratio(figure(call, "grid", top, way), figure(call, "grid", top, base))
         if way == "reused":
-            target(rows, f"{PLY[call]}, {top:,} faces, rooms reused: times memcpy of the file's bytes and a look through the work room", 4, [(seen, "")])
+            target(rows, f"{PLY[call]}, {top:,} faces, rooms reused: times memcpy of the file's bytes and a look through the work room", 3, [(seen, "")])
             target(rows, f"{PLY[call]}, rooms reused: time of a face at {top:,} over that at {sizes[0]:,}", 3, [(grows(call, "grid", way), "")])
         else:
             rows.append([f"{PLY[call]}, {top:,} faces, rooms {way}: times memcpy of the file's bytes", "—", "—" if seen is None else f"{seen:.3f}", "reported"])

@@ -23,9 +23,9 @@ typedef struct {
     size_t length;
 } Bytes;
 
-/* So much memory; none is NULL, which the calls take too. */
+/* So much memory, all zero, since a call reads its rooms; none is NULL, which the calls take too. */
 static void *memory(size_t bytes) {
-    void *made = bytes == 0 ? NULL : malloc(bytes);
+    void *made = bytes == 0 ? NULL : calloc(bytes, 1);
     if (made == NULL && bytes != 0)
         exit(2);
     return made;

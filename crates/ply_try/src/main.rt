@@ -130,13 +130,21 @@ fn exact_rooms(points: &[f64], faces: &[u32]) {
     write_in(points, faces, &mut file, &mut work);
 }
 
-// No point; ten points; a coordinate that is none, with a corner that is none; such a corner alone; then one point.
+// Ten points and one face, whose file has a count of two digits, with a room one byte too short for it.
+fn byte_short(points: &[f64], faces: &[u32]) {
+    let mut file = [7u8; 425];
+    let mut work = [7u32; 288];
+    write_in(points, faces, &mut file, &mut work);
+}
+
+// No point; ten points; a coordinate that is none, with a corner that is none; such a corner alone; one point; then ten again.
 fn meshes() {
     write(&[], &[]);
     write(&[0.5; 30], &[9, 8, 7]);
     write(&[0.0, 0.0, 0.0, 1.0, 0.0 / 0.0, 2.0], &[0, 1, 2]);
     write(&[0.0, 0.0, 0.0], &[0, 0, 0, 0, 1, 0]);
     exact_rooms(&[0.0, -0.0, 1.0], &[0, 0, 0]);
+    byte_short(&[0.5; 30], &[9, 8, 7]);
 }
 
 fn main() {

@@ -1,58 +1,47 @@
 -- No refusal has the number 0, so that to C the number 0 says that a call was accepted. Assumes nothing.
-use mathlib.Core.Bool.{Bool, true, false}
-use mathlib.Core.List.{List, [], _∷_}
+use mathlib.Core.Bool.{Bool}
+use mathlib.Core.List.{List}
 use Prim.Native.Nat.{ℕ, _<_}
 use native.Mathlib.Omega.{arith}
 use lib.Ieee.{Float}
-use Rattle.rules.specs.Refusal.{Check, ok, no, decided, unless, at-first, no1, no1-counts, no2, no3-threshold, no3-options, no4, no5, no6, no9, no10}
-use Rattle.rules.specs.Rooms.{Answer, accepted, refused, outcome}
+use Rattle.rules.specs.Refusal.{Check, decided, unless, at-first, no1, no1-counts, no2, no3-threshold, no3-options, no4, no5, no6, no9, no10}
+use Rattle.rules.specs.Rooms.{Answer, outcome}
 use Rattle.rules.specs.Edges.{no7, no8}
 use Rattle.rules.specs.Patches.{Filter}
 use Rattle.rules.specs.Calls.{RepairRooms, EdgesRooms, LoopsRooms, PatchesRooms, repair, repair-check, find-edges, edges-check, find-loops, loops-check, check, check-check, find-patches, patches-check, write-line, line-check, StlRooms, read-stl, stl-check, ReadPlyRooms, read-ply, read-ply-check, WritePlyRooms, write-ply, write-ply-check, ply-counts, ply-counts-check}
 use Rattle.rules.specs.Stl.{no12}
 use Rattle.rules.specs.Ply.{no13, no14}
+use Rattle.rules.proofs.Rising.{All}
+use Rattle.rules.proofs.Decided.{If-found, found-by, found-first}
+use Rattle.rules.proofs.Called.{If-refused, outcome-number}
+
+-- a number is not 0
+abbrev Counts : ℕ → Type 0
+Counts n = 0 < n
 
 -- a refusal's number is not 0
 abbrev pub Numbered : Answer → Type 0
-Numbered (accepted entries) = Unit {0}
-Numbered (refused n p) = 0 < n
-
--- of a check that refuses
-abbrev Counts : Check → Type 0
-Counts ok = Unit {0}
-Counts (no n p) = 0 < n
-
--- of each check in a list
-abbrev All-count : List Check → Type 0
-All-count [] = Unit {0}
-All-count (c ∷ cs) = Counts c × All-count cs
+Numbered a = If-refused Counts a
 
 -- a check by a number that is not 0
-by-number : (n p : ℕ) (b : Bool) → 0 < n → Counts (unless n p b)
-unfolding unless
-by-number n p true h = tt
-by-number n p false h = h
+by-number : (n p : ℕ) (b : Bool) → 0 < n → If-found Counts (unless n p b)
+by-number = found-by Counts
 
 -- the one that decides is one of the list
-decides : (cs : List Check) → All-count cs → Counts (decided cs)
-unfolding decided
-decides [] h = tt
-decides (ok ∷ cs) h = decides cs (h .1)
-decides (no n p ∷ cs) h = h .0
+decides : (cs : List Check) → All (If-found Counts) cs → If-found Counts (decided cs)
+decides = found-first Counts
 
 -- the answer is the check's
-answers : {R : Type 0} (c : Check) (given after : R) (entries : List ℕ) → Counts c → Numbered (outcome c given entries after .answer)
-unfolding outcome
-answers ok given after entries h = tt
-answers (no n p) given after entries h = h
+answers : {R : Type 0} (c : Check) (given after : R) (entries : List ℕ) → If-found Counts c → Numbered (outcome c given entries after .answer)
+answers = outcome-number Counts
 
 -- 1, at a place
-one : (p l : ℕ) → Counts (no1 p l)
+one : (p l : ℕ) → If-found Counts (no1 p l)
 unfolding no1
 one p l = by-number 1 p _ (omega arith)
 
 -- 2
-two : (p n most : ℕ) → Counts (no2 p n most)
+two : (p n most : ℕ) → If-found Counts (no2 p n most)
 unfolding no2
 two p n most = by-number 2 p _ (omega arith)
 

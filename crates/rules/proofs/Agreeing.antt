@@ -47,7 +47,7 @@ module _ (fs : List Face) (v : ℕ) where
   turns k l t = share-sym v (face fs (at k)) (face fs (at l)) t
 
   -- there are as many fans as leaders
-  fans-count : length (fans fs v) ≡ count (leads joined n) (below n)
+  pub fans-count : length (fans fs v) ≡ count (leads joined n) (below n)
   unfolding fans
   fans-count = length-map (groups joined n) (map at) ∙ groups-length joined n
 

@@ -89,3 +89,27 @@ accepted-exactly cs = (decided-all cs, decided-ok cs)
 -- a call is refused with number n and place p exactly if that is what the first check that finds something gives
 pub refused-exactly : (cs : List Check) (n p : ℕ) → (decided cs ≡ no n p) ↔ ((i : ℕ) × FirstRefusal cs n p i)
 refused-exactly cs n p = (first-of cs n p, λ w. first-decides cs n p (w .0) (w .1))
+
+-- ---- the number that is found
+
+-- if a check finds something, Q holds of its number
+abbrev pub If-found : (ℕ → Type 0) → Check → Type 0
+If-found Q ok = Unit {0}
+If-found Q (no n p) = Q n
+
+-- a check that finds nothing
+pub found-none : (Q : ℕ → Type 0) (c : Check) → c ≡ ok → If-found Q c
+found-none Q c e = subst (If-found Q) (sym e) tt
+
+-- a check by a number of which Q holds
+pub found-by : (Q : ℕ → Type 0) (n p : ℕ) (b : Bool) → Q n → If-found Q (unless n p b)
+unfolding unless
+found-by Q n p true h = tt
+found-by Q n p false h = h
+
+-- the one that decides is one of the list
+pub found-first : (Q : ℕ → Type 0) (cs : List Check) → All (If-found Q) cs → If-found Q (decided cs)
+unfolding decided
+found-first Q [] h = tt
+found-first Q (ok ∷ cs) h = found-first Q cs (h .1)
+found-first Q (no n p ∷ cs) h = h .0

@@ -1,12 +1,13 @@
 -- Demand 3, the statement alone: what holds of every mesh that an accepted repair with all six options returns. To read it takes the rules' words
 -- (`specs/`) and the words below, and nothing of any engine. `Demand3.demand3` proves it, `Called.called3` says it of what the call leaves in its
 -- rooms, `Agreeing` compares its words with those of the passes, and `Teeth` tells which line fails without which pass. In it `T b` says that the test b
--- passes, `List·Memᴰ x xs` that x is among xs, and `getD xs k 0` is entry k of xs. Definitions only.
+-- passes, `List·Memᴰ x xs` that x is among xs, and `getD xs k 0` is entry k of xs. Below it stands what else holds of such a mesh, and what the edge check
+-- says of it (`Checked.check-says-yes` proves that). Definitions only.
 use mathlib.Core.Path.{_≡_}
 use mathlib.Core.Logic.{_⊎_, _≢_}
 use mathlib.Core.Bool.{Bool, not, _&&_}
 use mathlib.Core.List.{List, [], _∷_, map, List·Memᴰ}
-use Prim.Native.Nat.{ℕ, _+_, _*_, _≤_, _<_}
+use Prim.Native.Nat.{ℕ, _+_, _*_, _/_, _≤_, _<_}
 use lib.ListN.{length, getD}
 use lib.Dec.{T, eqb}
 use lib.Ieee.{Float}
@@ -18,7 +19,8 @@ use Rattle.rules.specs.Pass6.{used}
 use Rattle.rules.specs.Refusal.{ok}
 use Rattle.rules.specs.Edges.{boundary, loops}
 use Rattle.rules.specs.Repair.{repaired}
-use Rattle.rules.specs.Calls.{RepairRooms, repair-check, EdgesRooms, edges-check, LoopsRooms, loops-check}
+use Rattle.rules.specs.Rooms.{accepted}
+use Rattle.rules.specs.Calls.{RepairRooms, repair-check, EdgesRooms, edges-check, LoopsRooms, loops-check, check}
 
 -- ---- one fan
 
@@ -156,3 +158,19 @@ abbrev pub Claim-beside : ℕ → Type 0
 Claim-beside options =
     (points : List Float) (faces : List ℕ) (s : Float) (r : RepairRooms) → repair-check points faces s options r ≡ ok
     → Beside (repaired s options (pointsOf points) (facesOf faces))
+
+-- ---- the edge check
+
+-- enough work room for the edge check on P points and F faces
+abbrev pub Check-enough : ℕ → ℕ → List ℕ → Type 0
+Check-enough P F work = 16 * P + 64 * F + 64 ≤ length work
+
+-- given enough work room, the edge check accepts the faces xs, flat, over P points, and says yes to them
+abbrev pub Says-yes : ℕ → List ℕ → Type 0
+Says-yes P xs = (work : List ℕ) → Check-enough P (length xs / 3) work → check P xs work .answer ≡ accepted (1 ∷ [])
+
+-- this of every repair that is accepted with these options
+abbrev pub Claim-checked : ℕ → Type 0
+Claim-checked options =
+    (points : List Float) (faces : List ℕ) (s : Float) (r : RepairRooms) → repair-check points faces s options r ≡ ok
+    → (let m = repaired s options (pointsOf points) (facesOf faces) in Says-yes (length (m .points)) (flatFaces (m .faces)))

@@ -1,13 +1,13 @@
 -- What each pass is for: on a smallest mesh, the line of demand 3 that fails without it. No line fails without pass 1, 2 or 3: the demand is proved
--- without them. Without pass 1 a face may repeat a corner, and without pass 2 or 3 only the answer is another. The options are 63 without the pass's
--- bit: bits 0 to 5 are passes 1, 2, 3, 5, 4, 6. Assumes nothing.
+-- without them. Without pass 1 a face may repeat a corner, and without pass 2 or 3 only the answer is another. And which pass the edge check's yes takes.
+-- The options are 63 without the pass's bit: bits 0 to 5 are passes 1, 2, 3, 5, 4, 6. Assumes nothing.
 use mathlib.Core.Path.{_≡_, refl}
 use mathlib.Core.Bool.{true, false, not}
 use mathlib.Core.List.{List, [], _∷_, List·Memᴰ·head}
 use Prim.Native.Nat.{ℕ, _+_, _*_, _<_}
 use native.Mathlib.Omega.{arith}
 use lib.ListN.{length, take, replicate}
-use lib.Dec.{lit<}
+use lib.Dec.{lit<, lit≤}
 use lib.Ieee.{Float}
 use Rattle.rules.specs.Lists.{all, below, count, each}
 use Rattle.rules.specs.Mesh.{Point, Face, zero64, pointsOf, facesOf}
@@ -18,14 +18,15 @@ use Rattle.rules.specs.Pass5.{fans}
 use Rattle.rules.specs.Pass6.{used}
 use Rattle.rules.specs.Repair.{repaired}
 use Rattle.rules.specs.Refusal.{ok, no}
-use Rattle.rules.specs.Edges.{no8}
+use Rattle.rules.specs.Edges.{no8, sound}
 use Rattle.rules.specs.Calls.{RepairRooms}
 use Rattle.rules.specs.Bench.{legs, origins}
 use Rattle.rules.specs.Open.{every-rule}
-use Rattle.rules.proofs.Demand.{at, Claim, Claim-beside, Demand3, Beside, Distinct}
+use Rattle.rules.proofs.Demand.{at, Claim, Claim-beside, Claim-checked, Demand3, Beside, Distinct}
 use Rattle.rules.proofs.Rising.{All, all-at}
 use Rattle.rules.proofs.Agreeing.{groups-of-fan}
 use Rattle.rules.proofs.Demand3.{demand-opted}
+use Rattle.rules.proofs.Checked.{no-is-not-yes, checked-opted}
 
 -- ---- the meshes, each repaired with the threshold 0
 
@@ -106,6 +107,18 @@ pub every-used-by-6 :
 unfolding lonely origins every-rule
 every-used-by-6 = (refl, refl)
 
+-- whether the edge check says yes, with all six options and without pass 1, 4 or 5
+pub says-yes-by-1-4-and-5 :
+    (sound (folded 63 .faces) ≡ true) × (sound (folded 62 .faces) ≡ false) × (sound (opposed 63 .faces) ≡ true) × (sound (opposed 47 .faces) ≡ false)
+    × (sound (pinched 63 .faces) ≡ true) × (sound (pinched 55 .faces) ≡ false)
+unfolding folded opposed pinched legs origins every-rule
+says-yes-by-1-4-and-5 = (refl, refl, refl, refl, refl, refl)
+
+-- and without pass 2, 3 or 6
+pub says-yes-not-by-2-3-or-6 : (sound (doubled 61 .faces) ≡ true) × (sound (crowded 59 .faces) ≡ true) × (sound (lonely 31 .faces) ≡ true)
+unfolding doubled crowded lonely legs origins every-rule
+says-yes-not-by-2-3-or-6 = (refl, refl, refl)
+
 -- ---- so the demand fails without pass 4, 5 or 6, each at its own line, and holds without pass 1, 2 or 3
 
 -- without pass 1 a face may repeat a corner
@@ -153,3 +166,28 @@ unfolding lonely origins every-rule
 without6 claim =
     let d = claim (origins 1) [] zero64 (rooms 1 0) refl in
     d .every-used 0 (lit< tt)
+
+-- ---- the edge check's yes fails without pass 1, 4 or 5, and stays without pass 2 or 3. Without pass 6 there may be more points than the check takes
+
+-- without pass 1 a face may repeat a corner
+pub checked-without1 : Claim-checked 62 → ⊥
+unfolding folded origins every-rule
+checked-without1 claim = no-is-not-yes (claim (origins 2) (0 ∷ 0 ∷ 1 ∷ []) zero64 (rooms 2 1) refl (replicate 160 0) (lit≤ tt))
+
+-- without pass 2
+pub checked-without2 : Claim-checked 61
+checked-without2 = checked-opted false true
+
+-- without pass 3
+pub checked-without3 : Claim-checked 59
+checked-without3 = checked-opted true false
+
+-- without pass 4 a directed edge is walked twice
+pub checked-without4 : Claim-checked 47 → ⊥
+unfolding opposed legs every-rule
+checked-without4 claim = no-is-not-yes (claim (take 12 legs) (0 ∷ 1 ∷ 2 ∷ 0 ∷ 1 ∷ 3 ∷ []) zero64 (rooms 4 2) refl (replicate 256 0) (lit≤ tt))
+
+-- without pass 5 a point has two groups
+pub checked-without5 : Claim-checked 55 → ⊥
+unfolding pinched legs every-rule
+checked-without5 claim = no-is-not-yes (claim legs (0 ∷ 1 ∷ 2 ∷ 0 ∷ 3 ∷ 4 ∷ []) zero64 (rooms 5 2) refl (replicate 272 0) (lit≤ tt))

@@ -77,6 +77,14 @@ check-rows =
     ∷ row (checking 2 (0 ∷ 0 ∷ 1 ∷ [])) (checked-to 2 1 0)
     ∷ row (checking 2 (0 ∷ 1 ∷ 1 ∷ [])) (checked-to 2 1 0)
     ∷ row (checking 2 (0 ∷ 1 ∷ 0 ∷ [])) (checked-to 2 1 0)
+    -- two groups at a point: two faces that share a corner alone; two closed shells with a common tip; one patch, all of it joined across edges, that
+    -- meets point 2 twice
+    ∷ row (checking 5 (0 ∷ 1 ∷ 2 ∷ 0 ∷ 3 ∷ 4 ∷ [])) (checked-to 5 2 0)
+    ∷ row (checking 7 (0 ∷ 2 ∷ 1 ∷ 0 ∷ 1 ∷ 3 ∷ 1 ∷ 2 ∷ 3 ∷ 2 ∷ 0 ∷ 3 ∷ 0 ∷ 5 ∷ 4 ∷ 0 ∷ 4 ∷ 6 ∷ 4 ∷ 5 ∷ 6 ∷ 5 ∷ 0 ∷ 6 ∷ [])) (checked-to 7 8 0)
+    ∷ row (checking 5 (0 ∷ 1 ∷ 2 ∷ 3 ∷ 4 ∷ 2 ∷ 3 ∷ 0 ∷ 4 ∷ 1 ∷ 0 ∷ 3 ∷ [])) (checked-to 5 4 0)
+    -- one of the two shells; unused points, below, between and above the used ones
+    ∷ row (checking 4 (0 ∷ 2 ∷ 1 ∷ 0 ∷ 1 ∷ 3 ∷ 1 ∷ 2 ∷ 3 ∷ 2 ∷ 0 ∷ 3 ∷ [])) (checked-to 4 4 1)
+    ∷ row (checking 9 (4 ∷ 6 ∷ 2 ∷ 1 ∷ 7 ∷ 5 ∷ [])) (checked-to 9 2 1)
     ∷ []
 
 -- every row holds

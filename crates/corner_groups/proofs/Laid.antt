@@ -8,12 +8,13 @@ use native.Mathlib.Omega.{arith}
 use native.Mathlib.Numerals.{add-one}
 use native.Mathlib.Decide.{decLt}
 use lib.ListN.{length, getD}
-use lib.Dec.{T}
+use lib.Dec.{T, eqb, eqb→eq, eqb-refl}
 use Rattle.rows.specs.Region.{Apart.before, Apart.after, Holds}
 use Rattle.rules.specs.Mesh.{facesOf}
 use Rattle.rules.specs.Steps.{step, edge, same}
 use Rattle.rules.specs.Groups.{group, leads}
-use Rattle.rules.proofs.Groups.{Chain, Chain.stay, Chain.link, chain-end, group-chain, chain-group, covered, chain-group}
+use Rattle.rules.proofs.Tests.{both-ways}
+use Rattle.rules.proofs.Groups.{Chain, Chain.stay, Chain.link, chain-end, group-chain, chain-group, covered, group-self}
 use Rattle.rules.proofs.Leaders.{leads-le, leads-of, group-trans}
 use Rattle.rules.specs.Lists.{first}
 use Rattle.table.specs.Entries.{stepAt, under, keysOf, startOf}
@@ -43,6 +44,16 @@ module _ (joined : ℕ → ℕ → Bool) (n : ℕ) (turns : (x y : ℕ) → T (j
       let c = covered joined n turns x h in
       let e = leader-is joined n t x (c .0) h (c .1) (c .2) (c .3) in
       rw e (c .1, c .2, c .3)
+
+  -- a thing leads exactly if it is its own leader
+  pub leads-own : (x : ℕ) → x < n → eqb (leaderOf joined n x) x ≡ leads joined n x
+  leads-own x h = both-ways (eqb (leaderOf joined n x) x) (leads joined n x) to from
+    where
+      to : T (eqb (leaderOf joined n x) x) → T (leads joined n x)
+      to e = subst (λ y. T (leads joined n y)) (eqb→eq (leaderOf joined n x) x e) (leader-of x h .1)
+
+      from : T (leads joined n x) → T (eqb (leaderOf joined n x) x)
+      from l = let e = leader-is joined n t x x h h l (group-self joined n x h) in rw e (eqb-refl x)
 
   -- joined things have one leader
   pub one-leads : (x y : ℕ) → x < n → y < n → T (joined x y) → leaderOf joined n x ≡ leaderOf joined n y

@@ -1,4 +1,4 @@
--- The edge check's yes by a number: every directed edge is used at most once exactly when there are as many directed edges as steps of faces.
+-- The edge check's second test by a number: every directed edge is used at most once exactly when there are as many directed edges as steps of faces.
 -- Assumes nothing.
 use mathlib.Core.Path.{_≡_, refl, sym, ap, subst, _∙_}
 use mathlib.Core.Logic.{_⊎_, inl, inr}
@@ -14,9 +14,10 @@ use Rattle.rows.specs.Retain.{upTo}
 use Rattle.rows.proofs.FilterLaws as rows-laws
 use Rattle.sorting.proofs.ByKeys as sorting-laws
 use Rattle.rules.specs.Lists.{below, filter, count, all, each}
-use Rattle.rules.specs.Mesh.{Face}
+use Rattle.rules.specs.Mesh.{Face, corners}
 use Rattle.rules.specs.Float.{repeats}
 use Rattle.rules.specs.Steps.{Step, step, steps, same, entries, walkers, directed}
+use Rattle.rules.specs.Pass5.{fans}
 use Rattle.rules.specs.Edges.{sound}
 use Rattle.rules.proofs.Tests.{both-ways}
 use Rattle.rules.proofs.Lists.{length-each, length-below, each-same, map-each}
@@ -164,6 +165,8 @@ module _ (P : ℕ) (fs : List Face) (inside : Inside P fs) where
       (λ t. of-once fs (edges-once (eqb→eq (length (directed P fs)) (3 * length fs) t)))
 
   -- the edge check's yes
-  pub sound-is : sound fs ≡ (all (λ f. not (repeats f)) fs && eqb (length (directed P fs)) (3 * length fs))
+  pub sound-is :
+      sound fs
+      ≡ (all (λ f. not (repeats f)) fs && eqb (length (directed P fs)) (3 * length fs) && all (λ v. eqb (length (fans fs v)) 1) (each corners fs))
   unfolding sound
-  sound-is = ap (λ b. all (λ f. not (repeats f)) fs && b) once-is
+  sound-is = ap (λ b. all (λ f. not (repeats f)) fs && b && all (λ v. eqb (length (fans fs v)) 1) (each corners fs)) once-is

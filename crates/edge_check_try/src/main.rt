@@ -38,9 +38,9 @@ fn sevens(row: &[u32]) -> u64 {
 
 // Checks faces over a number of points, in a work room of a length, and writes what comes of it.
 fn run(count: usize, faces: &[u32], length: usize)
-    requires { ⌜ length ≤ 400 ⌝ }
+    requires { ⌜ length ≤ 700 ⌝ }
 {
-    let mut row = [7; 400];
+    let mut row = [7; 700];
     let work = &mut row[..length];
     match edge_check::check(count, faces, work) {
         Checked::Done(answer) => {
@@ -61,7 +61,7 @@ fn run(count: usize, faces: &[u32], length: usize)
     show::end_line();
 }
 
-// Each directed edge used at most once: no faces, a face, both sides of a face, a closed shell.
+// What passes: no faces, a face, both sides of a face, a closed shell.
 fn sound_ones() {
     let faces = [0, 1, 2, 0, 2, 1];
     run(0, &faces[..0], 64);
@@ -79,6 +79,45 @@ fn faulty_ones() {
     run(2, &[0, 1, 1], 160);
     run(2, &[1, 0, 1], 160);
     run(1, &[0, 0, 0], 144);
+}
+
+// Two groups of faces at a point: two faces that share a corner alone, two closed shells with a common tip, and one patch that meets a point twice.
+fn pinched_ones() {
+    let shells = [
+        0,
+        2,
+        1,
+        0,
+        1,
+        3,
+        1,
+        2,
+        3,
+        2,
+        0,
+        3,
+        0,
+        5,
+        4,
+        0,
+        4,
+        6,
+        4,
+        5,
+        6,
+        5,
+        0,
+        6,
+    ];
+    run(5, &[0, 1, 2, 0, 3, 4], 272);
+    run(7, &shells, 688);
+    run(5, &[0, 1, 2, 3, 4, 2, 3, 0, 4, 1, 0, 3], 400);
+}
+
+// Unused points don't matter: of a face, and of two that share nothing.
+fn unused_points() {
+    run(9, &[4, 6, 2], 272);
+    run(9, &[4, 6, 2, 3, 0, 8], 336);
 }
 
 // Refusals 1, 2, 5 and 6: nothing is written.
@@ -103,6 +142,8 @@ fn longer_rooms() {
 fn main() {
     sound_ones();
     faulty_ones();
+    pinched_ones();
+    unused_points();
     refusals();
     longer_rooms();
 }

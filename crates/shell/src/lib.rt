@@ -180,7 +180,7 @@ pub struct ShellCheck {
     pub yes: u64,
 }
 
-// The edge check: whether no face repeats a corner and every directed edge is used at most once.
+// The edge check: whether no face repeats a corner, every directed edge is used at most once, and the faces at each used point form one group.
 #[no_mangle]
 pub extern "C" fn shell_check(point_count: u64, faces: &[u32], work: &mut [u32]) -> ShellCheck
     ensures { λ r. ⌜ Given (r .number) (r .place) (r .yes ∷ []) (now (work .exit)) (rule.check «point_count» (now (faces .entry)) (now (work .entry))) ⌝ }

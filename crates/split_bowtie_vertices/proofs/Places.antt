@@ -1,5 +1,5 @@
 -- The sorted corners by place: the corners at v stand in one run, and after it none is at v. Assumes nothing.
-use mathlib.Core.Path.{_≡_, refl, sym, ap, _∙_, subst}
+use mathlib.Core.Path.{_≡_, refl, sym, ap, _∙_}
 use mathlib.Core.Logic.{_≢_}
 use mathlib.Core.Bool.{_&&_}
 use mathlib.Core.List.{List, _∷_, _++_}
@@ -8,24 +8,20 @@ use native.Mathlib.Omega.{arith}
 use native.Mathlib.Decide.{decLt}
 use lib.ListN.{length, getD, length-append, List·getD-append}
 use lib.Seq.{getD-append-add}
-use lib.Dec.{T, eqb, eqb→eq, eqb-refl, ltb}
+use lib.Dec.{eqb, ltb}
 use Rattle.rows.proofs.Regions.{getD-part, length-part}
 use Rattle.rules.specs.Lists.{below, each}
 use Rattle.rules.specs.Mesh.{Face, facesOf}
 use Rattle.rules.specs.Groups.{leads}
-use Rattle.rules.proofs.Tests.{both-ways}
 use Rattle.rules.proofs.Lists.{each-append}
 use Rattle.rules.proofs.Rising.{All, all-imp, all-each, all-at, all-from, below-at}
 use Rattle.rules.proofs.Counting.{count-below-le}
-use Rattle.rules.proofs.Groups.{group-self}
 use Rattle.table.proofs.Ids.{three-faces}
-use Rattle.flood.specs.Answers.{leaderOf}
-use Rattle.flood.proofs.Leading.{leader-is}
 use Rattle.splitting.specs.Corners.{cornerAt, joinedAt, cornersAt, extra, extras, base}
 use Rattle.splitting.proofs.AllAtOnce.{each-last}
 use Rattle.splitting.proofs.Entries.{as-many, corner-is, joined-turns}
 use Rattle.corner_groups.proofs.Joining.{corner-flat}
-use Rattle.corner_groups.proofs.Laid.{leader-of}
+use Rattle.corner_groups.proofs.Laid.{leads-own}
 use Rattle.corner_numbers.specs.Numbers.{extraBy, EndAsks, EndGives}
 use Rattle.split_bowtie_vertices.specs.Splits.{Rows}
 
@@ -171,15 +167,7 @@ module _ {ys : List ℕ} {P : ℕ} {w : List ℕ} (r : Rows ys P w) where
 
   -- a corner leads exactly if it is noted as its own first member
   leads-row : (id : ℕ) → id < length ys → eqb (getD w (10 * length ys + 2 + P + id) 0) id ≡ leads (joinedAt fs′) (length ys) id
-  leads-row id h = ap (λ x. eqb x id) (r .led .each id h) ∙ both-ways (eqb (leaderOf (joinedAt fs′) (length ys) id) id) (leads (joinedAt fs′) (length ys) id) to from
-    where
-      to : T (eqb (leaderOf (joinedAt fs′) (length ys) id) id) → T (leads (joinedAt fs′) (length ys) id)
-      to t = subst (λ x. T (leads (joinedAt fs′) (length ys) x)) (eqb→eq (leaderOf (joinedAt fs′) (length ys) id) id t) (leader-of (joinedAt fs′) (length ys) (joined-turns fs′) id h .1)
-
-      from : T (leads (joinedAt fs′) (length ys) id) → T (eqb (leaderOf (joinedAt fs′) (length ys) id) id)
-      from t =
-          let e = leader-is (joinedAt fs′) (length ys) (record { each = joined-turns fs′ }) id id h h t (group-self (joinedAt fs′) (length ys) id h) in
-          rw e (eqb-refl id)
+  leads-row id h = ap (λ x. eqb x id) (r .led .each id h) ∙ leads-own (joinedAt fs′) (length ys) (joined-turns fs′) id h
 
   -- the test on the rows is that on the corners
   pub extra-row : (v j : ℕ) → v < P → j < length (cornersAt fs′ v) → extraBy w (12 * length ys + 2 + P + before-of fs′ v) (10 * length ys + 2 + P) j ≡ extra fs′ v j

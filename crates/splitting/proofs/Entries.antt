@@ -1,24 +1,28 @@
 -- The entries at a point by the numbers of corners, and their groups among all corners. Assumes nothing.
 use mathlib.Core.Path.{_≡_, refl, sym, ap, _∙_, subst}
-use mathlib.Core.Bool.{Bool, not, Bool·not-not}
+use mathlib.Core.Bool.{Bool, true, false, not, _&&_, cond, Bool·not-not}
 use mathlib.Core.List.{List, [], _∷_, _++_, map, map-map, map-append, append-assoc}
 use Prim.Native.Nat.{ℕ, zero, suc, _+_, _*_, _/_, _≤_, _<_}
 use native.Mathlib.Omega.{arith}
 use native.Mathlib.Numerals.{add-one, add-two}
 use borrow.Author.Tests.{eq-eqb}
 use lib.ListN.{length, getD, length-map}
+use lib.Seq.{ext-getD}
 use lib.Dec.{T, eqb, eqb→eq, eqb-refl}
 use lib.Ieee.Fits.{and-i}
-use Rattle.rules.specs.Lists.{below, filter, each}
+use Rattle.rules.specs.Lists.{below, filter, count, each}
 use Rattle.rules.specs.Mesh.{Face, face, corners, flatFaces}
-use Rattle.rules.specs.Pass5.{entriesAt, share}
+use Rattle.rules.specs.Groups.{leads}
+use Rattle.rules.specs.Pass5.{entriesAt, share, fans}
 use Rattle.rules.proofs.Tests.{both-ways, and-elim}
-use Rattle.rules.proofs.Lists.{filter-append, filter-map, getD-map-in}
-use Rattle.rules.proofs.Rising.{all-at, all-imp, all-filter, below-all, map-same, Up, up-at, stay-up}
+use Rattle.rules.proofs.Lists.{length-below, filter-append, filter-map, getD-map-in}
+use Rattle.rules.proofs.Rising.{all-at, all-imp, all-filter, below-all, getD-below, map-same, Up, up-at, stay-up}
 use Rattle.rules.proofs.Members.{mem-filter, mem-below, mem-index}
+use Rattle.rules.proofs.Counting.{count-map, count-below-agree}
 use Rattle.rules.proofs.Flat.{face-at, faces-flat, length-flat-faces}
 use Rattle.rules.proofs.Splitting.{share-sym}
-use Rattle.rules.proofs.Classes.{Class}
+use Rattle.rules.proofs.Classes.{Class, leads-same}
+use Rattle.rules.proofs.Agreeing.{fans-count}
 use Rattle.splitting.specs.Corners.{cornerAt, joinedAt, cornersAt}
 use Rattle.splitting.proofs.AllAtOnce.{each-last}
 
@@ -90,6 +94,18 @@ one-point fs x y t = eqb→eq (cornerAt fs x) (cornerAt fs y) (and-elim (eqb (co
 filter-up : (p : ℕ → Bool) (n : ℕ) → Up 0 (filter p (below n))
 filter-up p n = subst (λ q. Up 0 (filter q (below n))) (λ j i. Bool·not-not (p i) j) (stay-up (λ i. not (p i)) n)
 
+-- what passes one test after the other passes both
+filter-both : (p q : ℕ → Bool) (xs : List ℕ) → filter p (filter q xs) ≡ filter (λ x. q x && p x) xs
+unfolding filter
+filter-both p q [] = refl
+filter-both p q (x ∷ xs) = go (q x) (filter-both p q xs)
+  where
+    go :
+        (b : Bool) → filter p (filter q xs) ≡ filter (λ y. q y && p y) xs
+        → filter p (cond b (x ∷ filter q xs) (filter q xs)) ≡ cond (b && p x) (x ∷ filter (λ y. q y && p y) xs) (filter (λ y. q y && p y) xs)
+    go true e = ap (λ l. cond (p x) (x ∷ l) l) e
+    go false e = e
+
 module _ (fs : List Face) (v : ℕ) where
   -- the k-th corner at v
   abbrev pub corner : ℕ → ℕ
@@ -148,3 +164,23 @@ module _ (fs : List Face) (v : ℕ) where
     where
       closes : (k y : ℕ) → k < length (entriesAt fs v) → T (joinedAt fs (corner k) y) → cornerAt fs y ≡ v
       closes k y h t = sym (one-point fs (corner k) y t) ∙ corner-is k h .1
+
+  -- ---- the groups at v, counted among all corners
+
+  -- the corners at v, by their places
+  by-place : map corner (below (length (entriesAt fs v))) ≡ cornersAt fs v
+  by-place =
+      ext-getD 0 (map corner (below (length (entriesAt fs v)))) (cornersAt fs v) (length-map (below (length (entriesAt fs v))) corner ∙ length-below (length (entriesAt fs v)) ∙ as-many)
+      (λ i h.
+      let k : i < length (entriesAt fs v) = omega (arith, length-map (below (length (entriesAt fs v))) corner, length-below (length (entriesAt fs v))) in
+      getD-map-in corner (below (length (entriesAt fs v))) i 0 0 (omega (arith, length-below (length (entriesAt fs v)))) ∙ ap corner (getD-below (length (entriesAt fs v)) i k))
+
+  -- there are as many groups at v as corners at v that stand first in their group among all corners
+  pub fans-leaders : length (fans fs v) ≡ count (λ id. eqb (cornerAt fs id) v && leads (joinedAt fs) (3 * length fs) id) (below (3 * length fs))
+  unfolding cornersAt count
+  fans-leaders =
+      fans-count fs v
+      ∙ count-below-agree (leads joined (length (entriesAt fs v))) (λ k. leads (joinedAt fs) (3 * length fs) (corner k)) (length (entriesAt fs v)) (leads-same class)
+      ∙ sym (count-map (leads (joinedAt fs) (3 * length fs)) corner (below (length (entriesAt fs v))))
+      ∙ ap (count (leads (joinedAt fs) (3 * length fs))) by-place
+      ∙ ap length (filter-both (leads (joinedAt fs) (3 * length fs)) (λ id. eqb (cornerAt fs id) v) (below (3 * length fs)))

@@ -1,12 +1,17 @@
--- `edge_check::sound` meets its contract: a repeated corner decides, or the number of directed edges. Assumes nothing.
+-- `edge_check::sound` meets its contract: a repeated corner decides, or the number of directed edges, or the groups. Assumes nothing.
 use mathlib.Core.Path.{sym, _∙_}
-use Rattle.edge_check.proofs.Tabling.{table-asks, not-distinct, by-runs}
+use native.Mathlib.Omega.{arith}
+use Rattle.edge_check.proofs.Tabling.{table-asks, not-distinct, not-once, by-groups}
 use borrow.Author.Needs.{needs}
+use borrow.Author.Tests.{not-true, not-false}
 use Rattle.edge_check.proofs.sound.Statement.{statement}
 use Rattle.edge_check.proofs.sound.Tie as tie
 
 distinct-requires : tie.Need-distinct-requires
 distinct-requires c κs = search needs
+
+returns : tie.Need-returns
+returns c = not-distinct (c .before .before .before .before .pre) (sym (not-true _ (c .if1 .taken)) ∙ c .before .distinct .ensures)
 
 table-requires : tie.Need-table-requires
 table-requires c κs = table-asks (c .before .before .before .before .before .pre)
@@ -14,13 +19,24 @@ table-requires c κs = table-asks (c .before .before .before .before .before .pr
 same-length : tie.Need-same-length
 same-length c = search needs
 
-returns : tie.Need-returns
-returns c =
-    let t = c .before .before .before .before in
-    by-runs (c .before .before .before .before .before .before .before .before .pre) (sym (t .if1 .taken) ∙ t .before .distinct .ensures) (c .before .before .table .ensures)
-
 returns-2 : tie.Need-returns-2
-returns-2 c = not-distinct (c .before .before .before .before .pre) (sym (c .if1 .left) ∙ c .before .distinct .ensures)
+returns-2 c =
+    let t = c .before .before .before in
+    let d = t .before .before in
+    not-once (d .before .before .before .before .pre) (sym (not-false _ (d .if1 .left)) ∙ d .before .distinct .ensures) (t .table .ensures) (c .if2 .taken)
+
+one-group-requires : tie.Need-one-group-requires
+one-group-requires c κs = search needs
+
+same-length-2 : tie.Need-same-length-2
+same-length-2 c = search needs
+
+returns-3 : tie.Need-returns-3
+returns-3 c =
+    let g = c .before .before in
+    let t = g .before .before .before .before .before in
+    let d = t .before .before in
+    by-groups (d .before .before .before .before .pre) (sym (not-false _ (d .if1 .left)) ∙ d .before .distinct .ensures) (t .table .ensures) (omega arith) (g .one-group .ensures)
 
 pub sound-spec : {M : Type 1} → statement M
-sound-spec = tie.close (tie.spec distinct-requires table-requires same-length returns returns-2)
+sound-spec = tie.close (tie.spec distinct-requires returns table-requires same-length returns-2 one-group-requires same-length-2 returns-3)

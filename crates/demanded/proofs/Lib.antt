@@ -1,3 +1,4 @@
 pub mod Mended
 pub mod Edged
 pub mod GoneAlong
+pub mod Sound

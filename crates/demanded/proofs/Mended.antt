@@ -8,7 +8,7 @@ use Rattle.rules.specs.Mesh.{pointsOf, facesOf}
 use Rattle.rules.specs.State.{State, report-counts}
 use Rattle.rules.specs.Rooms.{accepted}
 use Rattle.rules.specs.Calls.{EdgesRooms, LoopsRooms, repair, find-edges, find-loops}
-use Rattle.rules.proofs.Demand.{Demand3, Beside, Looped, Edges-enough, Loops-enough}
+use Rattle.rules.proofs.Demand.{Demand3, Beside, Looped, Edges-enough, Loops-enough, Says-yes}
 use Rattle.rules.proofs.Called.{Called3, called3, left}
 use Rattle.repair.specs.declared.Repaired.the-variants.{Done}
 use Rattle.repair.specs.Answers.{roomsOf, outcomeOf}
@@ -50,6 +50,10 @@ module _ (points : List Float) (faces : List ℕ) (s : Float) (ps : List Float) 
   demanded-loop-call =
       subst (λ o. (q : LoopsRooms) → Loops-enough (length (take a (o .rooms .out-points)) / 3) (length (take b (o .rooms .out-faces)) / 3) q
       → (k : List ℕ) × (find-loops (take a (o .rooms .out-points)) (take b (o .rooms .out-faces)) q .answer ≡ accepted k)) (sym e) (said .loop-call)
+
+  -- given enough work room, their edge check says yes to it
+  pub demanded-yes : Says-yes (length (take a ps′) / 3) (take b xs′)
+  demanded-yes = subst (λ o. Says-yes (length (take a (o .rooms .out-points)) / 3) (take b (o .rooms .out-faces))) (sym e) (said .check-call)
 
   -- each boundary edge of it is in exactly one loop
   pub demanded-loops : Looped (length (take a ps′) / 3) (facesOf (take b xs′))

@@ -1,9 +1,10 @@
 -- Demand 3 of what C gets: the mesh that `shell_repair` leaves in its rooms, by the entries that it tells, that `shell_edges` and `shell_loops` accept
--- it, and the loops that the latter then leaves.
+-- it, the loops that the latter then leaves, and that `shell_check` says yes to it; and that what `shell_check` says yes to is refused neither 7 nor 8.
 -- The number 0 says that the rules accepted the call, and of that call the rules' demand speaks. Assumes nothing.
 use mathlib.Core.Path.{_≡_, sym, ap, _∙_, subst}
 use mathlib.Core.List.{List, [], _∷_}
-use Prim.Native.Nat.{ℕ, _+_, _*_, _/_}
+use Prim.Native.Nat.{ℕ, _+_, _*_, _/_, _<_}
+use native.Mathlib.Omega.{arith}
 use lib.ListN.{length, getD, take}
 use lib.Ieee.{Float}
 use Rattle.rules.specs.Mesh.{pointsOf, facesOf, flatPoints, flatFaces, zero64}
@@ -13,16 +14,18 @@ use Rattle.rules.specs.Repair.{repaired}
 use Rattle.rules.specs.RepairCall.{RepairRooms, repair-check, repair}
 use Rattle.rules.specs.EdgesCall.{EdgesRooms, find-edges}
 use Rattle.rules.specs.LoopsCall.{LoopsRooms, find-loops}
+use Rattle.rules.specs.CheckCall.{check}
 use Rattle.rules.proofs.Flat.{length-flat-points, length-flat-faces}
-use Rattle.rules.proofs.Demand.{Demand3, Beside, Edges-enough, Loops-enough}
-use Rattle.rules.proofs.Called.{Called3, called3, outcome-ok, filled-front}
+use Rattle.rules.proofs.Demand.{Demand3, Beside, Edges-enough, Loops-enough, Check-enough, Says-yes}
+use Rattle.rules.proofs.Called.{Called3, called3, outcome-ok, filled-front, Fine, check-fine}
 use Rattle.demanded.proofs.GoneAlong.{Gone-along, gone-along}
-use Rattle.shell.specs.Told.{Given}
+use Rattle.shell.specs.Told.{Given, told}
 use Rattle.shell.specs.declared.ShellRepaired.{ShellRepaired}
 use Rattle.shell.specs.declared.ShellEdges.{ShellEdges}
 use Rattle.shell.specs.declared.ShellLoops.{ShellLoops}
+use Rattle.shell.specs.declared.ShellCheck.{ShellCheck}
 use Rattle.one_answer.proofs.Numbered.{repair-numbered, loops-numbered}
-use Rattle.demanded_in_c.proofs.Zero.{zero-accepted, accepted-zero}
+use Rattle.demanded_in_c.proofs.Zero.{zero-accepted, accepted-zero, one-accepted, number-below}
 
 -- what `shell_repair` ensures with options 63, of its rooms before and after and of what it gives back
 abbrev pub Repaired-as : List Float → List ℕ → Float → RepairRooms → RepairRooms → ShellRepaired → Type 0
@@ -35,6 +38,10 @@ Edges-as points faces before after r = Given (r .number) (r .place) (r .edges �
 -- what `shell_loops` ensures
 abbrev pub Loops-as : List Float → List ℕ → LoopsRooms → LoopsRooms → ShellLoops → Type 0
 Loops-as points faces before after r = Given (r .number) (r .place) (r .«loop_vertices» ∷ r .«loop_ends» ∷ []) after (find-loops points faces before)
+
+-- what `shell_check` ensures
+abbrev pub Check-as : ℕ → List ℕ → List ℕ → List ℕ → ShellCheck → Type 0
+Check-as P faces before after r = Given (r .number) (r .place) (r .yes ∷ []) after (check P faces before)
 
 -- the points that stand in the rooms, flat, by the entries that are told
 abbrev pub points-in : ShellRepaired → RepairRooms → List Float
@@ -63,6 +70,20 @@ pub shell-gone-along :
 shell-gone-along points faces before after r g zero =
     subst (λ q. Gone-along (facesOf faces) (take (r .«loop_vertices») (q .loop-vertices)) (take (r .«loop_ends») (q .loop-ends))) (sym (g .after))
     (gone-along points faces before _ (zero-accepted (loops-numbered points faces before) g zero))
+
+-- what `shell_check` says yes to
+module _ (points : List Float) (faces before after : List ℕ) (t : ShellCheck) (g : Check-as (length points / 3) faces before after t) (one : t .yes ≡ 1) where
+  -- the rules' word on the other calls
+  fine : Fine points faces
+  fine = check-fine points faces before (one-accepted g one)
+
+  -- the number of `shell_edges` is below 7
+  pub shell-fine-edges : (room after′ : EdgesRooms) (r : ShellEdges) → Edges-as points faces room after′ r → r .number < 7
+  shell-fine-edges room after′ r h = number-below 7 (omega arith) (fine .edge-call room) h
+
+  -- and so is that of `shell_loops`
+  pub shell-fine-loops : (room after′ : LoopsRooms) (r : ShellLoops) → Loops-as points faces room after′ r → r .number < 7
+  shell-fine-loops room after′ r h = number-below 7 (omega arith) (fine .loop-call room) h
 
 module _ (points : List Float) (faces : List ℕ) (s : Float) (before after : RepairRooms) (r : ShellRepaired) (g : Repaired-as points faces s before after r) (zero : r .number ≡ 0) where
   -- the rules accepted it
@@ -123,3 +144,15 @@ module _ (points : List Float) (faces : List ℕ) (s : Float) (before after : Re
       → Gone-along (facesOf (faces-in r after)) (take (t .«loop_vertices») (after′ .loop-vertices)) (take (t .«loop_ends») (after′ .loop-ends))
   shell-demanded-loops room after′ t enough h =
       shell-gone-along (points-in r after) (faces-in r after) room after′ t h (shell-demanded-loop-call room after′ t enough h)
+
+  -- given enough work room, `shell_check` on it gives number 0 and yes
+  pub shell-demanded-yes :
+      (room after′ : List ℕ) (t : ShellCheck) → Check-enough (r .points / 3) (r .faces / 3) room → Check-as (r .points / 3) (faces-in r after) room after′ t
+      → (t .number ≡ 0) × (t .yes ≡ 1)
+  shell-demanded-yes room after′ t enough h =
+      let a = says-yes room (room-for (λ P F. Check-enough P F room) enough) in
+      let k = subst (λ P. Check-as (P / 3) (faces-in r after) room after′ t) (sym (shell-demanded-entries .0)) h in
+      (accepted-zero a k, ap (λ l. getD l 2 0) (k .answer ∙ ap (told 1) a))
+    where
+      says-yes : Says-yes (length (points-in r after) / 3) (faces-in r after)
+      says-yes = subst (λ w. Says-yes (length (points-in r w) / 3) (faces-in r w)) (sym (g .after)) (said .check-call)

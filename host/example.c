@@ -1,16 +1,17 @@
 /* The panel builder's way to call the library: mend a shell, say what was done, check it, list its edges and its boundary, write it as a PLY file for the
- * layout program and read it back, and sort its patches. Edges are listed of a shell that is not mended too, where the loops are refused. */
+ * layout program and read it back, and sort its patches. Shells that are not mended are checked too, and their edges listed: of one the loops are refused, and
+ * of one, two bodies that share a tip, only the check says that it is not sound. */
 #include "shell.h"
 #include <stdio.h>
 #include <string.h>
 
 /* The calls, their rooms and the places of a report are those of the header's edition. */
-#if SHELL_VERSION != 5
-#error "written for edition 5 of shell.h"
+#if SHELL_VERSION != 6
+#error "written for edition 6 of shell.h"
 #endif
 
-/* Rooms for shells of up to 5 points and 5 faces. A repair may add 3 points a face, so the calls after it want a work room for that many. */
-enum { P = 5, F = 5, MOST = P + 3 * F };
+/* Rooms for shells of up to 7 points and 8 faces. A repair may add 3 points a face, so the calls after it want a work room for that many. */
+enum { P = 7, F = 8, MOST = P + 3 * F };
 static double mended[SHELL_POINTS_ROOM(P, F)], lengths[SHELL_LENGTHS_ROOM(F)];
 static uint32_t triples[SHELL_FACES_ROOM(F)], report[SHELL_REPORT_ROOM], work[SHELL_WORK_ROOM(MOST, F)];
 static uint32_t edges[SHELL_EDGES_ROOM(F)], face_edges[SHELL_FACE_EDGES_ROOM(F)], loop_vertices[SHELL_LOOP_VERTICES_ROOM(F)], loop_ends[SHELL_LOOP_ENDS_ROOM(F)];
@@ -22,6 +23,15 @@ static uint32_t read_faces[SHELL_PLY_FACES_ROOM(F)];
 static int refused(const char *call, uint32_t number, uint32_t place) {
     printf("%s: refused %u at %u\n", call, number, place);
     return 1;
+}
+
+/* Says whether a shell is sound, so that a finger can be followed across its edges and around its points; it must be so or not. */
+static int check(size_t point_count, const uint32_t *faces, size_t faces_len, int must) {
+    ShellCheck sound = shell_check(point_count, faces, faces_len, ROOM(work));
+    if (sound.number != SHELL_ACCEPTED)
+        return refused("check", sound.number, sound.place);
+    printf("  sound: %s\n", sound.yes ? "yes" : "no");
+    return sound.yes != (uint64_t)must;
 }
 
 /* Edges with their lengths. */
@@ -59,10 +69,10 @@ static int list(const double *points, size_t points_len, const uint32_t *faces, 
     return list_edges(points, points_len, faces, faces_len) || list_loops(points, points_len, faces, faces_len);
 }
 
-/* A shell as it is scanned: its lengths are wanted, also where its boundary is not simple. */
+/* A shell as it is scanned, which is not sound: its lengths are wanted, also where its boundary is not simple. */
 static int measure(const char *name, const double *points, size_t points_len, const uint32_t *faces, size_t faces_len) {
     printf("%s, not mended\n", name);
-    return list(points, points_len, faces, faces_len);
+    return check(points_len / 3, faces, faces_len, 0) || list(points, points_len, faces, faces_len);
 }
 
 /* A shell as a PLY file and back. A program that does not know the file asks for its counts first, and makes rooms of 3 times as many entries. */
@@ -100,11 +110,8 @@ static int mend(const char *name, const double *points, size_t points_len, const
     if (report[SHELL_REPEATED_REMOVED] + report[SHELL_THIN_REMOVED] > 0)
         printf("  of the degenerate faces %u repeat a corner, %u are thin\n", report[SHELL_REPEATED_REMOVED], report[SHELL_THIN_REMOVED]);
 
-    ShellCheck sound = shell_check(repaired.points / 3, triples, repaired.faces, ROOM(work));
-    if (sound.number != SHELL_ACCEPTED)
-        return refused("check", sound.number, sound.place);
-    printf("  sound: %s\n", sound.yes ? "yes" : "no");
-    return sound.yes != 1 || list(mended, repaired.points, triples, repaired.faces) || there_and_back(mended, repaired.points, triples, repaired.faces);
+    return check(repaired.points / 3, triples, repaired.faces, 1) || list(mended, repaired.points, triples, repaired.faces) ||
+           there_and_back(mended, repaired.points, triples, repaired.faces);
 }
 
 /* Two patches of two faces, a square of side 1 and one of side 3: which of them is the part, by area? */
@@ -124,10 +131,12 @@ static int patches(void) {
 
 int main(void) {
     const double cross[] = {0, 0, 0, 1, 0, 0, 0, 1, 0, -1, 0, 0, 0, -1, 0}, legs[] = {0, 0, 0, 1, 0, 0, 0, 1, 0, 0, -1, 0, 0, 0, 1},
-                 cube[] = {0, 0, 0, 1, 0, 0, 0, 1, 0, 0, 0, 1, 1, 1, 1}, row[] = {0, 0, 0, 1, 0, 0, 2, 0, 0, 3, 0, 0, 0, 1, 0};
+                 cube[] = {0, 0, 0, 1, 0, 0, 0, 1, 0, 0, 0, 1, 1, 1, 1}, row[] = {0, 0, 0, 1, 0, 0, 2, 0, 0, 3, 0, 0, 0, 1, 0},
+                 tips[] = {0, 0, 0, 1, 0, 1, 0, 1, 1, -1, -1, 1, 1, 0, -1, 0, 1, -1, -1, -1, -1};
     const uint32_t bowtie[] = {0, 1, 2, 0, 3, 4}, crowded[] = {0, 1, 2, 0, 1, 3, 0, 1, 4}, moebius[] = {0, 1, 2, 1, 2, 3, 2, 3, 4, 3, 4, 0, 4, 0, 1},
-                   crumbs[] = {0, 1, 4, 0, 0, 1, 0, 1, 2, 0, 2, 3, 1, 2, 3};
+                   crumbs[] = {0, 1, 4, 0, 0, 1, 0, 1, 2, 0, 2, 3, 1, 2, 3},
+                   hourglass[] = {0, 2, 1, 0, 1, 3, 1, 2, 3, 2, 0, 3, 0, 4, 5, 0, 6, 4, 4, 6, 5, 5, 6, 0};
     return mend("bowtie", ROOM(cross), ROOM(bowtie)) || mend("three faces on an edge", ROOM(legs), ROOM(crowded)) ||
            mend("Moebius strip", ROOM(cube), ROOM(moebius)) || mend("crumbs", ROOM(row), ROOM(crumbs)) || measure("bowtie", ROOM(cross), ROOM(bowtie)) ||
-           patches();
+           measure("hourglass", ROOM(tips), ROOM(hourglass)) || mend("hourglass", ROOM(tips), ROOM(hourglass)) || patches();
 }

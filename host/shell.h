@@ -20,13 +20,14 @@
 extern "C" {
 #endif
 
-/* The edition of this header: a higher number where a call, a room or a report is another, or a call is new, so that a program can tell whether it was
- * written for it. Edition 5 has the three calls for PLY files and refusals 13 and 14; all else is as in edition 3, so an object file that was compiled against
- * that one may be linked, and there is no edition 4. In edition 3 shell_edges lists the edges and shell_loops the boundary loops, each in rooms of its own; in
- * edition 2 shell_edges has the rooms and the answers of both. A report has eleven counts in each; where no edition is defined it has ten, and a program that
- * was built for those and lends ten is refused, SHELL_SHORT_ROOM at place 2. An object file that was compiled against edition 2 or none must not be linked: it
- * hands over other rooms. */
-#define SHELL_VERSION 5
+/* The edition of this header: a higher number where a call, a room, a report or the meaning of an answer is another, or a call is new, so that a program can
+ * tell whether it was written for it. In edition 6 the edge check says no to more meshes: to those too in which the faces at a point form several groups. All
+ * else is as in edition 5, which has the three calls for PLY files and refusals 13 and 14 beside what edition 3 has; there is no edition 4. So an object file
+ * that was compiled against edition 3 or 5 may be linked. In edition 3 shell_edges lists the edges and shell_loops the boundary loops, each in rooms of its
+ * own; in edition 2 shell_edges has the rooms and the answers of both. A report has eleven counts in each; where no edition is defined it has ten, and a
+ * program that was built for those and lends ten is refused, SHELL_SHORT_ROOM at place 2. An object file that was compiled against edition 2 or none must not
+ * be linked: it hands over other rooms. */
+#define SHELL_VERSION 6
 
 /* The numbers a call may give back, and what `place` then is. */
 enum {
@@ -110,9 +111,9 @@ enum {
 };
 
 /* The repair, for a degeneracy threshold 0 <= s <= 1 and options: the mended points, the mended faces, and the eleven counts of the report. With all
- * options no face that comes out repeats a corner and no directed edge is walked twice, so the edge check says yes; and the edge call and the loop call
- * accept it. What comes out may have up to P + 3F points. A face before the first that leaves or changes is stored once in its room (counted,
- * host/stores.c). Rooms, in this order: SHELL_POINTS_ROOM(P, F), SHELL_FACES_ROOM(F), SHELL_REPORT_ROOM, SHELL_WORK_ROOM(P, F). */
+ * options the edge check says yes to what comes out, and the edge call and the loop call accept it: no face repeats a corner, no directed edge is walked
+ * twice, and the faces at each point are one fan. What comes out may have up to P + 3F points. A face before the first that leaves or changes is stored once
+ * in its room (counted, host/stores.c). Rooms, in this order: SHELL_POINTS_ROOM(P, F), SHELL_FACES_ROOM(F), SHELL_REPORT_ROOM, SHELL_WORK_ROOM(P, F). */
 typedef struct {
     uint32_t number, place;
     uint64_t points, faces, counts;
@@ -145,7 +146,10 @@ typedef struct {
 ShellLoops shell_loops(const double *points, size_t points_len, const uint32_t *faces, size_t faces_len, uint32_t *loop_vertices, size_t loop_vertices_len,
                        uint32_t *loop_ends, size_t loop_ends_len, uint32_t *work, size_t work_len);
 
-/* The edge check: `yes` is 1 exactly when no face repeats a corner and every directed edge is used at most once. Room: SHELL_WORK_ROOM(P, F). */
+/* The edge check: `yes` is 1 exactly when no face repeats a corner, every directed edge is used at most once, and the faces at each used point form one
+ * group. Two faces at a point are joined if they share another corner, and a group is what is joined one to the next; so two cones that share their tip alone
+ * get a no. Unused points do not matter. What it says yes to is not refused SHELL_CROWDED_EDGE or SHELL_BAD_BOUNDARY by the edge call or the loop call. Room:
+ * SHELL_WORK_ROOM(P, F). */
 typedef struct {
     uint32_t number, place;
     uint64_t yes;

@@ -1,4 +1,5 @@
 /* Mends a shell from the mould shop or the layout program: shellfix [-s THRESHOLD] [-o OUT.ply] IN
+ * Or checks it as it is: shellfix -c IN
  *
  * Reads a binary STL file, or a PLY file of the form that shell.h tells, repairs it with all options, checks it, and prints what was mended and how many edges
  * and boundary loops it has then. Where degenerate faces were removed it says how many of them repeat a corner and how many are thin: a scanner is adjusted by
@@ -6,8 +7,12 @@
  * refusal is printed in words with its number and place; of a PLY file that is not of the form, with the first line of its header that differs; where only the
  * loops are refused, after the number of edges and with the place of the vertex at fault. For a large file each stage is told on standard error. Exit status:
  * 0; 1 for a refusal, or for a shell that the check does not pass, and then nothing is written; 2 if the words or the threshold are not understood, a file
- * cannot be read or written, or memory runs out. */
+ * cannot be read or written, or memory runs out.
+ *
+ * With -c nothing is mended. Where the check says no, what is wrong is told in words: faces that repeat a corner, directed edges that are walked more than
+ * once, points where several surfaces touch; of each kind how many there are, and where the first is. The exit status is then 3. */
 #define _XOPEN_SOURCE 700
+#include "faults.h"
 #include "shell.h"
 #include <ctype.h>
 #include <errno.h>
@@ -22,6 +27,9 @@
 #define THRESHOLD "1e-12"
 #define LARGE 100000u
 #define LARGE_FILE 5000000u
+
+/* The exit statuses. */
+enum { SOUND = 0, REFUSED = 1, TROUBLE = 2, NOT_SOUND = 3 };
 
 /* What a refusal's number says. */
 static const char *words(uint32_t number) {
@@ -66,7 +74,7 @@ static void *room(size_t entries, size_t size) {
     void *made = calloc(entries ? entries : 1, size);
     if (made == NULL) {
         fprintf(stderr, "shellfix: no memory for %zu entries\n", entries);
-        exit(2);
+        exit(TROUBLE);
     }
     return made;
 }
@@ -87,7 +95,7 @@ static uint8_t *read_file(const char *name, size_t *length) {
     }
     if (bytes == NULL || ferror(file)) {
         fprintf(stderr, "shellfix: cannot read %s: %s\n", name, strerror(errno));
-        exit(2);
+        exit(TROUBLE);
     }
     fclose(file);
     *length = n;
@@ -250,13 +258,14 @@ static int print_report(const uint32_t *report, const char *threshold) {
     return 1;
 }
 
-/* The edge check's answer. */
+/* The edge check's answer, as an exit status. */
 static int check(const Mesh *mesh, uint32_t *work, size_t work_length) {
+    stage(mesh, "checking");
     ShellCheck sound = shell_check(mesh->point_count, mesh->faces, 3 * mesh->face_count, work, work_length);
     if (!accepted("check", sound.number, sound.place))
-        return 0;
+        return REFUSED;
     printf("sound: %s\n", sound.yes ? "yes" : "no");
-    return sound.yes == 1;
+    return sound.yes ? SOUND : NOT_SOUND;
 }
 
 /* The edge call's answer, without what it lists. */
@@ -305,8 +314,7 @@ static int describe(const Mesh *mended, const uint32_t *report, const char *thre
     uint32_t *work = room(work_length, sizeof *work);
     printf("mended: %zu points, %zu faces\n", mended->point_count, mended->face_count);
     int good = print_report(report, threshold);
-    stage(mended, "checking");
-    good = good && check(mended, work, work_length);
+    good = good && check(mended, work, work_length) == SOUND;
     stage(mended, "listing the edges and loops of");
     good = good && count_edges(mended, work, work_length);
     free(work);
@@ -318,7 +326,7 @@ static _Noreturn void cannot_write(const char *name, const char *part) {
     fprintf(stderr, "shellfix: cannot write %s: %s\n", name, strerror(errno));
     if (part != NULL)
         remove(part);
-    exit(2);
+    exit(TROUBLE);
 }
 
 /* Opens a new file beside the one of this name, and tells its name. NULL if that cannot be done. */
@@ -387,30 +395,86 @@ static int write_mesh(const Mesh *mesh, const char *name) {
     return good;
 }
 
-/* What the words ask for: a file to read and, if any, one to write, a threshold as it is written and as a number, and whether only help is wanted. */
+/* A point's number, and where it lies. */
+static void print_point(const Mesh *mesh, uint32_t v) {
+    const double *at = mesh->points + 3 * (size_t)v;
+    printf("point %u at %.9g %.9g %.9g", v, at[0], at[1], at[2]);
+}
+
+/* The directed edges that are walked more than once: how many, and the first with two faces that walk it. */
+static void print_walked(const Mesh *mesh, const Faults *found) {
+    printf("%zu directed edges that are walked more than once; the first leads from ", found->walked);
+    print_point(mesh, found->from);
+    printf(" to ");
+    print_point(mesh, found->to);
+    if (found->by[0] == found->by[1])
+        printf(", and face %zu walks it more than once\n", found->by[0]);
+    else
+        printf(", and faces %zu and %zu walk it\n", found->by[0], found->by[1]);
+}
+
+/* What is wrong with a mesh that the check says no to, a line for each kind of fault. */
+static void print_faults(const Mesh *mesh, const Faults *found) {
+    const uint32_t *face = mesh->faces + 3 * found->face;
+    if (found->repeating > 0)
+        printf("%zu faces that repeat a corner; the first is face %zu, with corners %u %u %u\n", found->repeating, found->face, face[0], face[1], face[2]);
+    if (found->walked > 0)
+        print_walked(mesh, found);
+    if (found->tied > 0) {
+        printf("%zu points where several surfaces touch; the first is ", found->tied);
+        print_point(mesh, found->point);
+        printf(", whose faces form %zu groups\n", found->groups);
+    }
+    if (found->repeating == 0 && found->walked == 0 && found->tied == 0)
+        printf("the library says no, and shellfix finds nothing wrong: one of them has a fault\n");
+}
+
+/* Checks a mesh as it is, and says what is wrong if it is not sound; the exit status. */
+static int judge(const Mesh *mesh) {
+    size_t work_length = SHELL_WORK_ROOM(mesh->point_count, mesh->face_count);
+    uint32_t *work = room(work_length, sizeof *work);
+    int status = check(mesh, work, work_length);
+    Faults found;
+    free(work);
+    if (status == NOT_SOUND && find_faults(mesh->faces, mesh->face_count, mesh->point_count, &found))
+        print_faults(mesh, &found);
+    else if (status == NOT_SOUND)
+        fprintf(stderr, "shellfix: no memory to find out what is wrong\n");
+    return status;
+}
+
+/* What the words ask for: a file to read and, if any, one to write, a threshold as it is written and as a number, whether the shell is only checked, and
+ * whether only help is wanted. */
 typedef struct {
     const char *name, *output, *threshold;
     double s;
-    int help;
+    int check, help;
 } Asked;
 
-/* The mesh of the file, mended, described, and written if that is asked for. */
-static int mend_file(const uint8_t *file, size_t length, const Asked *asked) {
-    Mesh mesh, mended;
+/* Mends a mesh, describes what came out, and writes it if that is asked for; the exit status. */
+static int mend_mesh(const Mesh *mesh, const Asked *asked) {
+    Mesh mended;
     uint32_t report[SHELL_REPORT_ROOM] = {0};
-    int good = read_mesh(file, length, &mesh);
-    if (good) {
+    stage(mesh, "repairing");
+    int good = mend(mesh, asked->s, &mended, report) && describe(&mended, report, asked->threshold);
+    if (good && asked->output != NULL) {
+        stage(&mended, "writing");
+        good = write_mesh(&mended, asked->output);
+    }
+    free(mended.points), free(mended.faces);
+    return good ? SOUND : REFUSED;
+}
+
+/* Reads the mesh of a file, and mends it or only checks it; the exit status. */
+static int take_file(const uint8_t *file, size_t length, const Asked *asked) {
+    Mesh mesh;
+    int status = REFUSED;
+    if (read_mesh(file, length, &mesh)) {
         printf("read: %zu points, %zu faces\n", mesh.point_count, mesh.face_count);
-        stage(&mesh, "repairing");
-        good = mend(&mesh, asked->s, &mended, report) && describe(&mended, report, asked->threshold);
-        if (good && asked->output != NULL) {
-            stage(&mended, "writing");
-            good = write_mesh(&mended, asked->output);
-        }
-        free(mended.points), free(mended.faces);
+        status = asked->check ? judge(&mesh) : mend_mesh(&mesh, asked);
     }
     free(mesh.points), free(mesh.faces);
-    return good;
+    return status;
 }
 
 /* Whether a word is a number from 0 to 1 and nothing besides, and that number; if not, says why. */
@@ -430,9 +494,12 @@ static int read_threshold(const char *word, Asked *asked) {
 }
 
 /* The options, by a letter or by a name. */
-static const char letters[] = ":s:o:h";
-static const struct option options[] = {
-    {"threshold", required_argument, NULL, 's'}, {"output", required_argument, NULL, 'o'}, {"help", no_argument, NULL, 'h'}, {NULL, 0, NULL, 0}};
+static const char letters[] = ":s:o:ch";
+static const struct option options[] = {{"threshold", required_argument, NULL, 's'},
+                                        {"output", required_argument, NULL, 'o'},
+                                        {"check", no_argument, NULL, 'c'},
+                                        {"help", no_argument, NULL, 'h'},
+                                        {NULL, 0, NULL, 0}};
 
 /* Says what is wrong with an option: it wants a word behind it, or takes none, or there is no such option. */
 static int bad_option(int found, char **given) {
@@ -459,6 +526,9 @@ static int take_option(int found, char **given, Asked *asked) {
         }
         asked->output = optarg;
         return 1;
+    case 'c':
+        asked->check = 1;
+        return 1;
     case 'h':
         asked->help = 1;
         return 1;
@@ -473,6 +543,10 @@ static int read_words(int count, char **given, Asked *asked) {
     while ((found = getopt_long(count, given, letters, options, NULL)) != -1)
         if (!take_option(found, given, asked))
             return 0;
+    if (asked->check && !asked->help && (asked->threshold != NULL || asked->output != NULL)) {
+        fprintf(stderr, "shellfix: with -c nothing is mended, so -%c has nothing to do\n", asked->threshold != NULL ? 's' : 'o');
+        return 0;
+    }
     if (optind + 1 < count)
         fprintf(stderr, "shellfix: one file at a time, and not %s too\n", given[optind + 1]);
     asked->name = optind + 1 == count ? given[optind] : NULL;
@@ -482,37 +556,42 @@ static int read_words(int count, char **given, Asked *asked) {
 /* How it is called, and what --help says besides. */
 static const char usage[] =
     "usage: shellfix [-s THRESHOLD] [-o OUT.ply] IN\n"
+    "       shellfix -c IN\n"
     "  IN: a binary STL file, or a PLY file of the form that -o writes\n"
     "  -s, --threshold THRESHOLD: from 0 to 1; a face is thin up to this sine of the angle at its first corner; " THRESHOLD " where none is given\n"
     "  -o, --output OUT.ply: the mended shell is written to this file, as binary PLY\n"
+    "  -c, --check: the shell is checked as it is, and not mended\n"
     "  -h, --help: this text\n";
-static const char more[] = "Mends the shell, and prints what was mended, whether it is sound, and how many edges and boundary loops it has then.\n"
-                           "Exit status: 0; 1 where the file or the shell is refused, and then nothing is written; 2 where the words are not understood,\n"
-                           "or a file cannot be read or written.\n";
+static const char more[] =
+    "Mends the shell, and prints what was mended, whether it is sound, and how many edges and boundary loops it has then.\n"
+    "With -c it prints whether the shell is sound, and if not what is wrong: faces that repeat a corner, directed edges that are walked more than\n"
+    "once, points where several surfaces touch; of each how many there are, and the first. Faces and points are counted from 0.\n"
+    "Exit status: 0; 1 where the file or the shell is refused, and then nothing is written; 2 where the words are not understood,\n"
+    "or a file cannot be read or written; 3 where a shell that is only checked is not sound.\n";
 
 /* The exit status, but for 2 where something that was printed did not arrive. */
 static int ended(int status) {
     if (fflush(stdout) == 0 && !ferror(stdout))
         return status;
     fprintf(stderr, "shellfix: cannot print: %s\n", strerror(errno));
-    return 2;
+    return TROUBLE;
 }
 
 int main(int count, char **given) {
-    Asked asked = {NULL, NULL, NULL, 0, 0};
-    if (!read_threshold(THRESHOLD, &asked) || !read_words(count, given, &asked)) {
+    Asked asked = {NULL, NULL, NULL, 0, 0, 0};
+    if (!read_words(count, given, &asked) || (asked.threshold == NULL && !read_threshold(THRESHOLD, &asked))) {
         fputs(usage, stderr);
-        return 2;
+        return TROUBLE;
     }
     if (asked.help) {
         printf("%s%s", usage, more);
-        return ended(0);
+        return ended(SOUND);
     }
     size_t length;
     uint8_t *file = read_file(asked.name, &length);
     if (length >= LARGE_FILE)
         fprintf(stderr, "shellfix: reading %zu bytes\n", length);
-    int good = mend_file(file, length, &asked);
+    int status = take_file(file, length, &asked);
     free(file);
-    return ended(good ? 0 : 1);
+    return ended(status);
 }

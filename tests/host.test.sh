@@ -1,9 +1,9 @@
 #!/usr/bin/env bash
 # The library in a C program: the example prints what it must, the header is good for C++, recorded answers come out through the calls with every
 # room as it must be, degenerate faces are counted by kind and their sums printed up to the limits, the edges of bowties are listed though their loops are
-# refused, in work rooms of every kind, damaged meshes are after a repair what is proved of them and go to a PLY file and back, what fuzzing found worth keeping
-# comes out as the documents say, and a call takes no memory but its rooms and no more stack than is promised; a sample under valgrind too, so that nothing
-# outside a room is touched.
+# refused, in work rooms of every kind, the edge check answers by its rule on every small mesh and what is found wrong is what the rule says, damaged meshes are
+# after a repair what is proved of them and go to a PLY file and back, what fuzzing found worth keeping comes out as the documents say, and a call takes no memory
+# but its rooms and no more stack than is promised; a sample under valgrind too, so that nothing outside a room is touched.
 set -u
 here=$(cd "$(dirname "${BASH_SOURCE[0]}")/.." && pwd)
 room=$(mktemp -d) || exit 1
@@ -14,6 +14,7 @@ flags=(-std=c11 -Wall -Wextra -Wpedantic -Werror -O2 -g -ffp-contract=off -I.)
 for program in example kinds bowties replay chain stack; do
     gcc "${flags[@]}" -o "$program" "$here/host/$program.c" libshell.a -lm || exit 1
 done
+gcc "${flags[@]}" -o checks "$here"/host/{checks,faults}.c libshell.a || exit 1
 g++ -std=c++17 -Wall -Werror -fsyntax-only -x c++ shell.h || exit 1
 # A call takes no memory but its rooms and the stack, and keeps nothing: the library names no function of the system but these, and has no data of its own.
 if nm -u libshell.a | sed -n 's/^ *U //p' | grep -vxE 'memset|memcpy|memmove|memcmp|bcmp' || nm libshell.a | grep -E ' [bBcCdD] '; then
@@ -24,6 +25,7 @@ fi
 diff found "$here/host/example.out" || exit 1
 ./kinds || exit 1
 ./bowties || exit 1
+./checks 100000 || exit 1
 # A program that hands the edge call the rooms of the loops too, as edition 2 has it, does not compile; and one that asks for that edition is told so.
 cat >both.c <<'END'
 #include "shell.h"
@@ -72,6 +74,7 @@ if command -v valgrind >/dev/null; then
     diff found "$here/host/example.out" || exit 1
     "${watched[@]}" ./kinds || exit 1
     "${watched[@]}" ./bowties || exit 1
+    "${watched[@]}" ./checks 1000 || exit 1
     "${watched[@]}" ./replay "$here/tests/cases/lib.cases.bin" "$here/tests/cases/lib.answers.bin" || exit 1
     "${watched[@]}" ./chain 300 || exit 1
     "${watched[@]}" "$here/target/bin/meshfix" <"$here/examples/shell.txt" >found || exit 1

@@ -8,9 +8,9 @@ room=$(mktemp -d) || exit 1
 trap 'rm -rf "$room"' EXIT
 bash "$here/host/build.sh" "$room" || exit 1
 cd "$room" || exit 1
-for program in ply shellfix; do
-    gcc -std=c11 -Wall -Wextra -Wpedantic -Werror -O2 -g -I. -o "$program" "$here/host/$program.c" libshell.a || exit 1
-done
+flags=(-std=c11 -Wall -Wextra -Wpedantic -Werror -O2 -g -I.)
+gcc "${flags[@]}" -o ply "$here/host/ply.c" libshell.a || exit 1
+gcc "${flags[@]}" -o shellfix "$here"/host/{shellfix,faults}.c libshell.a || exit 1
 
 # Both directions.
 python3 "$here/tests/ply.py" make made || exit 1

@@ -8,9 +8,9 @@ room=$(mktemp -d) || exit 1
 trap 'rm -rf "$room"' EXIT
 bash "$here/host/build.sh" "$room" || exit 1
 cd "$room" || exit 1
-for program in corners shellfix; do
-    gcc -std=c11 -Wall -Wextra -Wpedantic -Werror -O2 -g -I. -o "$program" "$here/host/$program.c" libshell.a || exit 1
-done
+flags=(-std=c11 -Wall -Wextra -Wpedantic -Werror -O2 -g -I.)
+gcc "${flags[@]}" -o corners "$here/host/corners.c" libshell.a || exit 1
+gcc "${flags[@]}" -o shellfix "$here"/host/{shellfix,faults}.c libshell.a || exit 1
 
 # Files of the tests' own writer, and those of other programs that are stored.
 python3 "$here/tests/stl.py" make made || exit 1
@@ -74,7 +74,7 @@ int main(void) {
     return 0;
 }
 END
-gcc -std=c11 -Wall -Wextra -Wpedantic -Werror -O2 -g -I. "-I$here/host" -o untied untied.c libshell.a || exit 1
+gcc "${flags[@]}" "-I$here/host" -o untied untied.c "$here/host/faults.c" libshell.a || exit 1
 {
     fixed made/by-admesh.stl
     fixed made/by-assimp.stl

@@ -1,9 +1,10 @@
 /* The chain repair, check, edges, loops, and writing to a PLY file and reading it, on damaged meshes, from a fixed seed: `chain MESHES`. After a repair with
  * all six options each mesh must be what is proved of it: the check says yes, the edge call and the loop call accept, each boundary edge stands in exactly one
  * loop, each directed edge is walked at most once, every point is used and has one fan, each face is an input face in input order, as many faces as repeat a
- * corner are counted so, and the counts add up. Before the repair the edge call must accept whatever the loop call accepts or refuses for its boundary, and
- * refuse the same where an edge is crowded. Before and after it the mesh is read from the PLY file that it is written to with the same bits. The first mesh
- * that differs is printed. */
+ * corner are counted so, and the counts add up. Before the repair the check must say yes exactly if no face repeats a corner, each directed edge is walked at
+ * most once and each point that is used has one fan, and where it says yes the edge call and the loop call must accept; the edge call must accept whatever the
+ * loop call accepts or refuses for its boundary, and refuse the same where an edge is crowded. Before and after it the mesh is read from the PLY file that it
+ * is written to with the same bits. The first mesh that differs is printed. */
 #include "shell.h"
 #include <stdio.h>
 #include <stdlib.h>
@@ -156,13 +157,20 @@ static Mesh damaged(void) {
     return m;
 }
 
-/* A bowtie, three faces on an edge, and a Moebius strip. */
+/* A bowtie, three faces on an edge, a Moebius strip, two bodies with a common tip, and one patch that has two fans at a point. */
+enum { PLAIN = 5 };
 static Mesh plain(size_t which) {
-    static const Mesh three[] = {
+    static const Mesh five[PLAIN] = {
         {{0, 0, 0, 1, 0, 0, 0, 1, 0, -1, 0, 0, 0, -1, 0}, 1e-12, {0, 1, 2, 0, 3, 4}, 5, 2},
         {{0, 0, 0, 1, 0, 0, 0, 1, 0, 0, -1, 0, 0, 0, 1}, 1e-12, {0, 1, 2, 0, 1, 3, 0, 1, 4}, 5, 3},
-        {{0, 0, 0, 1, 0, 0, 0, 1, 0, 0, 0, 1, 1, 1, 1}, 1e-12, {0, 1, 2, 1, 2, 3, 2, 3, 4, 3, 4, 0, 4, 0, 1}, 5, 5}};
-    return three[which];
+        {{0, 0, 0, 1, 0, 0, 0, 1, 0, 0, 0, 1, 1, 1, 1}, 1e-12, {0, 1, 2, 1, 2, 3, 2, 3, 4, 3, 4, 0, 4, 0, 1}, 5, 5},
+        {{0, 0, 0, 1, 0, 1, 0, 1, 1, -1, -1, 1, 1, 0, -1, 0, 1, -1, -1, -1, -1},
+         1e-12,
+         {0, 2, 1, 0, 1, 3, 1, 2, 3, 2, 0, 3, 0, 5, 4, 0, 4, 6, 4, 5, 6, 5, 0, 6},
+         7,
+         8},
+        {{1, 0, 0, 0, 1, 0, 0, 0, 0, -1, 0, 0, 0, 0, 1}, 1e-12, {0, 1, 2, 3, 4, 2, 3, 0, 4, 1, 0, 3}, 5, 4}};
+    return five[which];
 }
 
 static void print(const Mesh *m) {
@@ -194,10 +202,10 @@ static void free_edges(Rooms *r) {
     free(r->loop_ends);
 }
 
-/* What all meshes together had: those that were refused before the repair, and those of them whose edges are listed all the same; boundary edges and loops
- * after the repair, and degenerate faces of both kinds before it; bytes of PLY files. */
+/* What all meshes together had: those that are sound before the repair, those that are not for the fans at a point alone, and those whose edges are listed
+ * though their loops are refused; boundary edges and loops after the repair, and degenerate faces of both kinds before it; bytes of PLY files. */
 typedef struct {
-    uint64_t refused, listed, boundary, loops, repeated, thin, bytes;
+    uint64_t sound, tied, listed, boundary, loops, repeated, thin, bytes;
 } Sums;
 
 /* Whether a PLY file is counted and read as this mesh, in rooms that are just large enough. */
@@ -239,54 +247,12 @@ static const char *there_and_back(const double *points, size_t P, const uint32_t
     return found;
 }
 
-/* Counts whether the mesh is refused as it is, by the check, the edge call or the loop call, and whether its edges are listed though its loops are refused; says
- * how the answers of the two calls do not fit together, or NULL. */
-static const char *unmended(const Mesh *m, Sums *sums) {
-    Rooms r = {.work = room(SHELL_WORK_ROOM(m->P, m->F), 4)};
-    ShellCheck check = shell_check(m->P, m->faces, 3 * m->F, r.work, SHELL_WORK_ROOM(m->P, m->F));
-    find_edges(&r, m->points, m->P, m->faces, m->F);
-    free_edges(&r);
-    free(r.work);
-    int crowded = r.found.number == SHELL_CROWDED_EDGE, listed = r.found.number == SHELL_ACCEPTED && r.loops.number == SHELL_BAD_BOUNDARY;
-    sums->refused += !check.yes || r.loops.number != SHELL_ACCEPTED;
-    sums->listed += listed;
-    if (crowded && (r.loops.number != r.found.number || r.loops.place != r.found.place))
-        return "the loop call tells another crowded edge than the edge call";
-    return crowded || listed || (r.found.number == SHELL_ACCEPTED && r.loops.number == SHELL_ACCEPTED) ? NULL : "the edge call or the loop call refuses otherwise";
-}
-
 /* How many faces have two corners with the same number. */
 static uint32_t repeated(const Mesh *m) {
     uint32_t count = 0;
     for (const uint32_t *face = m->faces; face < m->faces + 3 * m->F; face += 3)
         count += face[0] == face[1] || face[1] == face[2] || face[2] == face[0];
     return count;
-}
-
-/* The two sums of the report: faces and points. */
-static int adds_up(const Mesh *m, const uint32_t *report, size_t P, size_t F) {
-    uint32_t removed = report[SHELL_REPEATED_REMOVED] + report[SHELL_THIN_REMOVED] + report[SHELL_DUPLICATE_FACES_REMOVED] +
-                       report[SHELL_FACES_DROPPED_AT_NONMANIFOLD] + report[SHELL_FACES_DROPPED_FOR_ORIENTATION];
-    return m->F == F + removed && m->P + report[SHELL_POINTS_ADDED_BY_SPLITTING] == P + report[SHELL_ISOLATED_VERTICES_REMOVED];
-}
-
-/* Whether a face of the output stands where the input's does, corners 1 and 2 exchanged or not. */
-static int stands(const Mesh *m, const uint32_t *was, const double *points, const uint32_t *is) {
-    int same = 1, exchanged = 1;
-    for (int k = 0; k < 3; k++) {
-        same = same && memcmp(m->points + 3 * was[k], points + 3 * is[k], 24) == 0;
-        exchanged = exchanged && memcmp(m->points + 3 * was[k], points + 3 * is[(3 - k) % 3], 24) == 0;
-    }
-    return same || exchanged;
-}
-
-/* Whether the faces of the output are input faces, in input order. */
-static int in_order(const Mesh *m, const Rooms *r, size_t F) {
-    size_t k = 0;
-    for (size_t i = 0; i < m->F && k < F; i++)
-        if (stands(m, m->faces + 3 * i, r->points, r->faces + 3 * k))
-            k++;
-    return k == F;
 }
 
 static int has(const uint32_t *face, uint32_t v) { return face[0] == v || face[1] == v || face[2] == v; }
@@ -321,6 +287,76 @@ static unsigned char *steps(const uint32_t *faces, size_t P, size_t F) {
     for (size_t i = 0; i < 3 * F; i++)
         table[faces[i] * P + faces[i % 3 == 2 ? i - 2 : i + 1]]++;
     return table;
+}
+
+/* Whether each directed edge is walked at most once. */
+static int each_once(const uint32_t *faces, size_t P, size_t F) {
+    unsigned char *walked = steps(faces, P, F);
+    int ok = 1;
+    for (size_t i = 0; i < P * P; i++)
+        ok = ok && walked[i] <= 1;
+    free(walked);
+    return ok;
+}
+
+/* Whether each point that is used has one fan. */
+static int all_fans(const uint32_t *faces, size_t P, size_t F) {
+    int ok = 1;
+    for (uint32_t v = 0; v < P; v++) {
+        int used = 0;
+        for (size_t i = 0; i < F; i++)
+            used = used || has(faces + 3 * i, v);
+        ok = ok && (!used || one_fan(faces, F, v));
+    }
+    return ok;
+}
+
+/* Says how the check, the edge call and the loop call do not fit together for a mesh as it is, or NULL; counts what they answer. */
+static const char *unmended(const Mesh *m, Sums *sums) {
+    Rooms r = {.work = room(SHELL_WORK_ROOM(m->P, m->F), 4)};
+    ShellCheck check = shell_check(m->P, m->faces, 3 * m->F, r.work, SHELL_WORK_ROOM(m->P, m->F));
+    find_edges(&r, m->points, m->P, m->faces, m->F);
+    free_edges(&r);
+    free(r.work);
+    int once = repeated(m) == 0 && each_once(m->faces, m->P, m->F), sound = once && all_fans(m->faces, m->P, m->F);
+    int accepted = r.found.number == SHELL_ACCEPTED && r.loops.number == SHELL_ACCEPTED;
+    int crowded = r.found.number == SHELL_CROWDED_EDGE, listed = r.found.number == SHELL_ACCEPTED && r.loops.number == SHELL_BAD_BOUNDARY;
+    sums->sound += sound;
+    sums->tied += once && !sound;
+    sums->listed += listed;
+    if (check.number != SHELL_ACCEPTED || check.yes != (uint64_t)sound)
+        return sound ? "the check says no to what is sound" : "the check says yes to what is not sound";
+    if (sound && !accepted)
+        return "the edge call or the loop call refuses what the check says yes to";
+    if (crowded && (r.loops.number != r.found.number || r.loops.place != r.found.place))
+        return "the loop call tells another crowded edge than the edge call";
+    return crowded || listed || accepted ? NULL : "the edge call or the loop call refuses otherwise";
+}
+
+/* The two sums of the report: faces and points. */
+static int adds_up(const Mesh *m, const uint32_t *report, size_t P, size_t F) {
+    uint32_t removed = report[SHELL_REPEATED_REMOVED] + report[SHELL_THIN_REMOVED] + report[SHELL_DUPLICATE_FACES_REMOVED] +
+                       report[SHELL_FACES_DROPPED_AT_NONMANIFOLD] + report[SHELL_FACES_DROPPED_FOR_ORIENTATION];
+    return m->F == F + removed && m->P + report[SHELL_POINTS_ADDED_BY_SPLITTING] == P + report[SHELL_ISOLATED_VERTICES_REMOVED];
+}
+
+/* Whether a face of the output stands where the input's does, corners 1 and 2 exchanged or not. */
+static int stands(const Mesh *m, const uint32_t *was, const double *points, const uint32_t *is) {
+    int same = 1, exchanged = 1;
+    for (int k = 0; k < 3; k++) {
+        same = same && memcmp(m->points + 3 * was[k], points + 3 * is[k], 24) == 0;
+        exchanged = exchanged && memcmp(m->points + 3 * was[k], points + 3 * is[(3 - k) % 3], 24) == 0;
+    }
+    return same || exchanged;
+}
+
+/* Whether the faces of the output are input faces, in input order. */
+static int in_order(const Mesh *m, const Rooms *r, size_t F) {
+    size_t k = 0;
+    for (size_t i = 0; i < m->F && k < F; i++)
+        if (stands(m, m->faces + 3 * i, r->points, r->faces + 3 * k))
+            k++;
+    return k == F;
 }
 
 /* How often the loops do: each is listed against its walk. */
@@ -398,9 +434,9 @@ int main(int count, char **names) {
         return 2;
     }
     unsigned long meshes = strtoul(names[1], NULL, 10);
-    Sums sums = {0, 0, 0, 0, 0, 0, 0};
+    Sums sums = {0, 0, 0, 0, 0, 0, 0, 0};
     for (unsigned long k = 0; k < meshes; k++) {
-        Mesh m = k < 3 ? plain(k) : damaged();
+        Mesh m = k < PLAIN ? plain(k) : damaged();
         const char *found = chain(&m, &sums);
         if (found == NULL)
             found = unmended(&m, &sums);
@@ -412,9 +448,9 @@ int main(int count, char **names) {
             return 1;
         }
     }
-    printf("chain: %lu meshes, %lu of them refused before the repair, %lu with edges but no loops; it removes %lu faces that repeat a corner and %lu thin ones; "
-           "after it %lu boundary edges in %lu loops; %lu bytes of PLY files there and back\n",
-           meshes, (unsigned long)sums.refused, (unsigned long)sums.listed, (unsigned long)sums.repeated, (unsigned long)sums.thin,
+    printf("chain: %lu meshes, %lu of them sound before the repair, %lu not sound for the fans at a point alone, %lu with edges but no loops; it removes %lu "
+           "faces that repeat a corner and %lu thin ones; after it %lu boundary edges in %lu loops; %lu bytes of PLY files there and back\n",
+           meshes, (unsigned long)sums.sound, (unsigned long)sums.tied, (unsigned long)sums.listed, (unsigned long)sums.repeated, (unsigned long)sums.thin,
            (unsigned long)sums.boundary, (unsigned long)sums.loops, (unsigned long)sums.bytes);
     return 0;
 }

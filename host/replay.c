@@ -10,6 +10,9 @@
  * call. 6 is that of the call that has the room, 8 that of the loop call; what the other call must then give, the record does not say, and it is found here by
  * document 01's rule.
  *
+ * A recorded answer of call 3 may be document 01's: its check does not ask for the groups of faces at a point. A recorded yes is a yes here only where those
+ * are one at each point, by the rule in plain C; a recorded no is one here too.
+ *
  * No call for PLY files was recorded. Points and faces of call 2 are written to one: refused 1, 2, 4 and 5 as recorded, and accepted else; and so are those
  * that a recorded repair gives. What is written must be read again as it was. */
 #include "shell.h"
@@ -429,6 +432,55 @@ static int both(int (*replay)(Words *, Recorded, int), Words *w, Recorded want) 
     return replay(w, want, 1) && ok;
 }
 
+/* A corner of a face with one of the two other corners: their points, and the corner. */
+typedef struct {
+    uint64_t at, beside, corner;
+} Side;
+
+static int by_points(const void *one, const void *other) {
+    const Side *x = one, *y = other;
+    return x->at != y->at ? (x->at < y->at ? -1 : 1) : (x->beside > y->beside) - (x->beside < y->beside);
+}
+
+/* The sides of all corners, sorted by their points: those that follow each other with the same two points join their corners. */
+static Side *sides(Row faces) {
+    Side *all = (Side *)zeros(6 * faces.count);
+    for (uint64_t c = 0; c < faces.count; c++)
+        for (uint64_t k = 0; k < 2; k++)
+            all[2 * c + k] = (Side){entry(faces, c), entry(faces, c - c % 3 + (c % 3 + 1 + k) % 3), c};
+    qsort(all, 2 * faces.count, sizeof *all, by_points);
+    return all;
+}
+
+/* The corner that a corner is led to, one after the other. */
+static uint64_t led(uint64_t *next, uint64_t c) {
+    for (; next[c] != c; c = next[c])
+        next[c] = next[next[c]];
+    return c;
+}
+
+/* Whether the faces at each used point form one group: corners at a point are joined where their faces share another one, and all that are joined are led to
+ * the same corner. There are then as many such corners as used points. */
+static int one_group_each(Row faces) {
+    Side *all = sides(faces);
+    uint64_t *next = zeros(faces.count), groups = 0, used = 0;
+    for (uint64_t c = 0; c < faces.count; c++)
+        next[c] = c;
+    for (uint64_t i = 1; i < 2 * faces.count; i++)
+        if (by_points(all + i - 1, all + i) == 0 && all[i].at != all[i].beside)
+            next[led(next, all[i].corner)] = led(next, all[i - 1].corner);
+    for (uint64_t c = 0; c < faces.count; c++)
+        groups += next[c] == c;
+    for (uint64_t i = 0; i < 2 * faces.count; i++)
+        used += i == 0 || all[i - 1].at != all[i].at;
+    free(all);
+    free(next);
+    return groups == used;
+}
+
+/* How many recorded answers of call 3 are another here. */
+static unsigned long other_checks;
+
 static int replay_check(Words *w, Recorded want) {
     uint64_t points = one(w);
     Row faces = array(w), rooms = array(w);
@@ -436,7 +488,8 @@ static int replay_check(Words *w, Recorded want) {
     uint32_t *corners = numbers(faces), *work = lent(length, 4);
     ShellCheck got = shell_check(points, corners, faces.count, work, length);
     uint64_t stated = want.number == 0 ? SHELL_WORK_ROOM(points, faces.count / 3) : 0;
-    uint64_t yes = want.number == 0 ? entry(want.row[0], 0) : 0;
+    uint64_t was = want.number == 0 ? entry(want.row[0], 0) : 0, yes = was && one_group_each(faces);
+    other_checks += was != yes;
     int ok = got.number == want.number && got.place == want.place && got.yes == yes && holds(work, 4, length, stated, NOTHING);
     free(corners);
     free(work);
@@ -559,7 +612,8 @@ int main(int count, char **names) {
     }
     free(cases.words);
     free(answers.words);
-    printf("replay: as recorded repair %lu, edges and loops %lu, check %lu, patches %lu, line %lu; to a PLY file and back %lu; different %lu\n", same[1],
-           same[2], same[3], same[4], same[5], files, different);
+    printf("replay: as recorded repair %lu, edges and loops %lu, check %lu (a recorded yes is a no here %lu times), patches %lu, line %lu; to a PLY file and back "
+           "%lu; different %lu\n",
+           same[1], same[2], same[3], other_checks, same[4], same[5], files, different);
     return different != 0 || !(same[1] && same[2] && same[3] && same[4] && same[5] && files);
 }

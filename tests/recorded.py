@@ -11,7 +11,10 @@ that repeat a corner, as it is counted here, and their sum the recorded count; t
 
 A recorded answer of call 2 has edges and loops together, in six rooms, and is asked of both calls in one claim: rooms 0, 1, 2, 5 of the edge call, 3, 4, 5 of
 the loop call. 6 is that of the call that has the room, 8 that of the loop call; what the other call must then give, the record does not say, and it is found
-here by document 01's rule."""
+here by document 01's rule.
+
+A recorded answer of call 3 may be document 01's, whose check does not ask for groups: a recorded yes is a yes only where the faces at each used point form one
+group, as it is found here."""
 import collections
 import glob
 import math
@@ -278,6 +281,20 @@ def both(points, faces, lengths, number, place, answers):
     return found, rows(wanted)
 
 
+def one_group_each(faces):
+    """Whether the faces at each used point form one group: those that share another corner with one of it belong to it."""
+    triples = list(zip(*[iter(faces)] * 3))
+    for v in set(faces):
+        left = [set(face) - {v} for face in triples if v in face]
+        group, met = set(), [left.pop()]
+        while met:
+            group = group.union(*met)
+            met, left = [others for others in left if group & others], [others for others in left if not group & others]
+        if left:
+            return False
+    return True
+
+
 def claim(call, case, answer, turn):
     """One of the library's cases: the call's outcome by the rules, and what was recorded, with every room. The turn says how a line's count is parted."""
     w, a = Words(case), Words(answer)
@@ -302,7 +319,7 @@ def claim(call, case, answer, turn):
         kinds, stated = [DIRTY32], [16 * P + 64 * (len(faces) // 3) + 64]
         found = "checking %d %s (replicate %d %d)" % (P, listed(faces), lengths[0], DIRTY32)
         if number == 0:
-            entries, answers = answers[0], []
+            entries, answers = [int(answers[0] == [1] and one_group_each(faces))], []
     elif call == 4:
         points, faces, labels, C = w.array(), w.array(), w.array(), w.one()
         pairs = [(w.one(), w.one()) for _ in range(5)]

@@ -1,11 +1,12 @@
 /* A fuzz target: bytes become an input of one of the calls and rooms for it; one of the edge call is asked of the loop call too. Number, place, counts and
- * every entry of every room must be those of the documents (document.c, passes.c, ply.c); of what a repair with all six options gives, demand 3 must hold, the
- * check must say yes, and the edge call and the loop call accept; a PLY file that is written must be read as what was written, and one that is read be written
- * again. */
+ * every entry of every room must be those of the documents (document.c, passes.c, ply.c); of what a repair with all six options gives, demand 3 must hold and
+ * the check say yes; what the check says yes to, the edge call and the loop call must accept; a PLY file that is written must be read as what was written, and
+ * one that is read be written again. */
 #define _DEFAULT_SOURCE
 #include "blocks.h"
 #include "document.h"
 #include "lend.h"
+#include "uses.h"
 #include <math.h>
 #include <stdio.h>
 #include <stdlib.h>
@@ -365,6 +366,17 @@ static void *copy(const void *from, size_t bytes) {
     return bytes == 0 ? to : memcpy(to, from, bytes);
 }
 
+/* What is promised of faces that the check says yes to, on any points. */
+static void after_yes(const Asked *a, const Look *look, const double *points, void **r) {
+    Asked edges = {.call = EDGES, .P = a->P, .faces = a->faces, .faces_len = a->faces_len, .points = points, .points_len = 3 * a->P}, loops = edges;
+    Look exact = {look->dirt, look->front, 0, 0, 0, look->seed};
+    loops.call = LOOPS;
+    if (try(&edges, &exact, r).number != 0)
+        wrong(a, "the edge call refuses what the check says yes to");
+    if (try(&loops, &exact, r).number != 0)
+        wrong(a, "the loop call refuses what the check says yes to");
+}
+
 /* What is promised of a mesh that is mended with all six options. */
 static void after_repair(const Asked *a, const Look *look, const Given *g, void **r) {
     size_t P = g->entries[0] / 3, F = g->entries[1] / 3;
@@ -374,15 +386,10 @@ static void after_repair(const Asked *a, const Look *look, const Given *g, void 
     if (what != NULL)
         wrong(a, what);
     Asked check = {.call = CHECK, .P = P, .faces = faces, .faces_len = 3 * F};
-    Asked edges = {.call = EDGES, .P = P, .faces = faces, .faces_len = 3 * F, .points = points, .points_len = 3 * P}, loops = edges;
-    loops.call = LOOPS;
     Look exact = {look->dirt, look->front, 0, 0, 0, look->seed};
     if (try(&check, &exact, r).entries[0] != 1)
         wrong(a, "the check says no to what came out");
-    if (try(&edges, &exact, r).number != 0)
-        wrong(a, "the edge call refuses what came out");
-    if (try(&loops, &exact, r).number != 0)
-        wrong(a, "the loop call refuses what came out");
+    after_yes(&check, look, points, r);
     free(points);
     free(faces);
 }
@@ -440,6 +447,11 @@ int LLVMFuzzerTestOneInput(const uint8_t *data, size_t size) {
     Given g = try(&a, &look, r);
     if (a.call == REPAIR && g.number == 0 && a.options == 63)
         after_repair(&a, &look, &g, r);
+    if (a.call == CHECK && g.number == 0 && g.entries[0] == 1) {
+        double *points = row(3 * a.P, 8);
+        after_yes(&a, &look, points, r);
+        free(points);
+    }
     if (a.call == EDGES) {
         Asked loops = a;
         loops.call = LOOPS;

@@ -164,7 +164,7 @@ static void answer_loops(const Asked *a, Wanted *w) {
 }
 
 /* Whether no face repeats a corner and each directed edge is used at most once. */
-static int sound(const uint32_t *faces, size_t n) {
+static int each_once(const uint32_t *faces, size_t n) {
     Use *all = uses(faces, n, 1);
     int yes = 1;
     for (size_t i = 0; i < n; i++)
@@ -172,6 +172,52 @@ static int sound(const uint32_t *faces, size_t n) {
     free(all);
     return yes;
 }
+
+static uint32_t first_of(uint32_t *parent, uint32_t i) {
+    while (parent[i] != i)
+        i = parent[i] = parent[parent[i]];
+    return i;
+}
+
+/* The corner of its face at which a use has the vertex v. */
+static uint32_t corner_at(const uint32_t *faces, Use use, uint32_t v) {
+    uint32_t k = use.entry % 3, from = use.entry - k;
+    return from + (faces[from + (k + 1) % 3] == v ? (k + 1) % 3 : (k + 2) % 3);
+}
+
+/* For each corner, where no face repeats one, a parent at the same point: at either end of an edge the corners of its users are joined. */
+static uint32_t *groups(const uint32_t *faces, size_t n) {
+    Use *all = uses(faces, n, 0);
+    uint32_t *parent = row(n, 4);
+    for (uint32_t i = 0; i < n; i++)
+        parent[i] = i;
+    for (size_t i = 1; i < n; i++)
+        if (same_edge(all[i - 1], all[i])) {
+            parent[first_of(parent, corner_at(faces, all[i], all[i].low))] = first_of(parent, corner_at(faces, all[i - 1], all[i].low));
+            parent[first_of(parent, corner_at(faces, all[i], all[i].high))] = first_of(parent, corner_at(faces, all[i - 1], all[i].high));
+        }
+    free(all);
+    return parent;
+}
+
+/* Whether the faces at each used point, where none repeats a corner, form one group; if asked, whether each point is used too. */
+static int one_group(const uint32_t *faces, size_t n, size_t P, int all_used) {
+    uint32_t *parent = groups(faces, n), *group = row(P, 4);
+    int ok = 1;
+    for (uint32_t i = 0; i < n; i++) {
+        uint32_t first = 1 + first_of(parent, i);
+        ok = ok && (group[faces[i]] == 0 || group[faces[i]] == first);
+        group[faces[i]] = first;
+    }
+    for (size_t v = 0; v < P && all_used; v++)
+        ok = ok && group[v] != 0;
+    free(parent);
+    free(group);
+    return ok;
+}
+
+/* The edge check: whether no face repeats a corner, each directed edge is used at most once, and the faces at each used point form one group. */
+static int sound(const uint32_t *faces, size_t n, size_t P) { return each_once(faces, n) && one_group(faces, n, P, 0); }
 
 static double area(const double *a, const double *b, const double *c) {
     double x[3], y[3];
@@ -259,7 +305,7 @@ Wanted document_answer(const Asked *a) {
     if (a->call == LOOPS)
         answer_loops(a, &w);
     if (a->call == CHECK)
-        w.entries[0] = sound(a->faces, a->faces_len);
+        w.entries[0] = sound(a->faces, a->faces_len, a->P);
     if (a->call == PATCHES)
         answer_patches(a, &w);
     if (a->call == LINE)
@@ -286,43 +332,6 @@ static int stands(const double *was_points, const uint32_t *was, const double *p
     return same || exchanged;
 }
 
-static uint32_t first_of(uint32_t *parent, uint32_t i) {
-    while (parent[i] != i)
-        i = parent[i] = parent[parent[i]];
-    return i;
-}
-
-/* The corner of its face at which a use has the vertex v. */
-static uint32_t corner_at(const uint32_t *faces, Use use, uint32_t v) {
-    uint32_t k = use.entry % 3, from = use.entry - k;
-    return from + (faces[from + (k + 1) % 3] == v ? (k + 1) % 3 : (k + 2) % 3);
-}
-
-/* Whether each point has a face, and its faces are joined over shared edges at it. */
-static int one_fan(const uint32_t *faces, size_t n, size_t P) {
-    Use *all = uses(faces, n, 0);
-    uint32_t *parent = row(n, 4), *fan = row(P, 4);
-    int ok = 1;
-    for (uint32_t i = 0; i < n; i++)
-        parent[i] = i;
-    for (size_t i = 1; i < n; i++)
-        if (same_edge(all[i - 1], all[i])) {
-            parent[first_of(parent, corner_at(faces, all[i], all[i].low))] = first_of(parent, corner_at(faces, all[i - 1], all[i].low));
-            parent[first_of(parent, corner_at(faces, all[i], all[i].high))] = first_of(parent, corner_at(faces, all[i - 1], all[i].high));
-        }
-    for (uint32_t i = 0; i < n; i++) {
-        uint32_t first = 1 + first_of(parent, i);
-        ok = ok && (fan[faces[i]] == 0 || fan[faces[i]] == first);
-        fan[faces[i]] = first;
-    }
-    for (size_t v = 0; v < P; v++)
-        ok = ok && fan[v] != 0;
-    free(all);
-    free(parent);
-    free(fan);
-    return ok;
-}
-
 const char *document_demand(const Asked *a, const double *points, size_t P, const uint32_t *faces, size_t F, const uint32_t *report) {
     size_t was = a->faces_len / 3, k = 0;
     if (was != F + report[0] + report[1] + report[2] + report[4] + report[5] || a->P + report[7] != P + report[10])
@@ -334,7 +343,7 @@ const char *document_demand(const Asked *a, const double *points, size_t P, cons
         k += stands(a->points, a->faces + 3 * i, points, faces + 3 * k);
     if (k != F)
         return "a face is no input face";
-    if (!sound(faces, 3 * F))
+    if (!each_once(faces, 3 * F))
         return "a directed edge is walked twice";
-    return one_fan(faces, 3 * F, P) ? NULL : "a point has not one fan";
+    return one_group(faces, 3 * F, P, 1) ? NULL : "a point has not one fan";
 }

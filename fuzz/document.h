@@ -1,4 +1,4 @@
-/* What document 01, with items 2, 3 and 5 of document 02, says that a call must answer, in plain C and from the documents alone, so that it shares nothing
+/* What document 01, with items 2, 3, 5 and 6 of document 02, says that a call must answer, in plain C and from the documents alone, so that it shares nothing
  * with the library. */
 #ifndef JOGASMUN_DOCUMENT_H
 #define JOGASMUN_DOCUMENT_H

@@ -6,12 +6,13 @@ use crate::lent::Lent;
 use crate::ply::{self, Parts};
 use crate::refuse;
 use crate::there::{self, Outcome};
+use std::collections::BTreeMap;
 
 /// What is wrong: something in the reply, in a room, behind a room; repeated and thin faces exchanged, or all counted as one of the two; a short room
 /// told by its place in a list of the rooms of edges and loops together; 8 told as 7, or before 7; a boundary that is not simple refused by the edge
 /// call, or only where its work room is dirty; dirt left behind zeros; loops listed as they are walked; or the whole answer is that of another input,
 /// without one bit of the options or limits, with the threshold's neighbour, without the second count, or with a sum of the first two that has lost its
-/// 33rd bit. Of PLY files: points and faces counted in exchange; -0 lost; corners exchanged; bytes from the highest down; a byte behind the file changed;
+/// 33rd bit; a check that hourglasses pass, one that asks for patches where it must ask for groups, one that unused points fail. Of PLY files: points and faces counted in exchange; -0 lost; corners exchanged; bytes from the highest down; a byte behind the file changed;
 /// 4 before 14; a negative corner taken; leading zeros, a trailing byte, or counts beyond 64 bits taken.
 #[derive(Clone, Copy, PartialEq, Debug)]
 pub enum Fault {
@@ -42,6 +43,9 @@ pub enum Fault {
     EightFirst,
     DirtLeft,
     LoopsWalked,
+    HourglassPasses,
+    PatchesAsked,
+    UnusedFails,
     Miscounted,
     MinusZeroLost,
     CornersExchanged,
@@ -63,7 +67,7 @@ pub fn faults(call: Call) -> Vec<Fault> {
         Call::Edges => all.extend([AnswerOfTwoFaces, NotCleared, RoomOfBoth, DirtLeft, BowtieRefused, BowtieRefusedInDirt]),
         Call::Loops => all.extend([AnswerOfTwoFaces, NotCleared, RoomOfBoth, DirtLeft, EightAsSeven, EightFirst, LoopsWalked]),
         Call::Patches => all.extend([AnswerOfTwoFaces, NotCleared]),
-        Call::Check => all.push(AnswerOfTwoFaces),
+        Call::Check => all.extend([AnswerOfTwoFaces, HourglassPasses, PatchesAsked, UnusedFails]),
         Call::Line => all.extend([SecondLeftOut, SumWraps]),
         Call::WritePly => all.extend([AnswerOfTwoFaces, MinusZeroLost, CornersExchanged, HighByteFirst, BehindFile]),
         Call::ReadPly => all.extend([AnswerOfTwoFaces, NotCleared, MinusZeroLost, CornersExchanged, HighByteFirst, Miscounted]),
@@ -93,6 +97,33 @@ pub fn play(case: &Case, outcome: &Outcome, rooms: &mut [Lent]) -> Reply {
 /// Refused 8 at the lowest vertex at which the boundary is not simple, if there is one.
 fn eight(case: &Case) -> Option<Outcome> {
     refuse::fault(case).map(|v| there::refused(case.call, 8, v))
+}
+
+/// The outcome of an edge check that says so.
+fn says(yes: bool) -> Outcome {
+    Outcome { number: 0, place: 0, counts: vec![yes as u64], rows: vec![] }
+}
+
+/// Whether the faces at each used point belong to one patch: to faces that are joined across edges, anywhere in the mesh.
+fn one_patch_each(case: &Case) -> bool {
+    let (faces, mut users, mut patch) = (case.triples(), BTreeMap::<_, Vec<usize>>::new(), BTreeMap::new());
+    let edges = |[a, b, c]: [u32; 3]| [(a, b), (b, c), (c, a)].map(|(a, b)| (a.min(b), a.max(b)));
+    faces.iter().enumerate().for_each(|(i, &face)| edges(face).into_iter().for_each(|edge| users.entry(edge).or_default().push(i)));
+    for start in 0..faces.len() {
+        let mut left = vec![start];
+        while let Some(i) = left.pop() {
+            if patch.insert(i, *patch.get(&i).unwrap_or(&start)).is_none() {
+                left.extend(edges(faces[i]).iter().flat_map(|edge| users[edge].clone()));
+            }
+        }
+    }
+    let mut at = BTreeMap::new();
+    faces.iter().enumerate().all(|(i, face)| face.iter().all(|v| at.insert(*v, patch[&i]).is_none_or(|before| before == patch[&i])))
+}
+
+/// Whether each point is a corner of some face.
+fn all_used(case: &Case) -> bool {
+    (0..case.p()).all(|v| case.faces.iter().any(|&corner| corner as u64 == v))
 }
 
 /// Lists each loop as it is walked.
@@ -173,6 +204,9 @@ impl Fault {
             Fault::BowtieRefused if wanted.number == 0 => return eight(case),
             Fault::BowtieRefusedInDirt if wanted.number == 0 && dirty => return eight(case),
             Fault::EightFirst if wanted.number == 7 => return eight(case),
+            Fault::HourglassPasses if wanted.number == 0 => return Some(says(there::walked_once(case))),
+            Fault::PatchesAsked if wanted.number == 0 => return Some(says(there::walked_once(case) && one_patch_each(case))),
+            Fault::UnusedFails if wanted.number == 0 => return Some(says(there::sound(case) && all_used(case))),
             Fault::MinusZeroLost | Fault::CornersExchanged | Fault::HighByteFirst if wanted.number == 0 => return Some(otherwise(self, case)),
             Fault::FourFirst if wanted.number == 14 => return refuse::vertices_first(case).map(|(n, place)| there::refused(case.call, n, place)),
             Fault::NegativeTaken if wanted.number == 5 => return negative(case),

@@ -73,7 +73,7 @@ fn same(case: &Case) -> bool {
 /// Edges and loops, with a zero and with a dirty work room.
 const LISTED: [(Call, u32); 4] = [(Call::Edges, 1), (Call::Edges, 0), (Call::Loops, 1), (Call::Loops, 0)];
 
-/// The large mesh through each call that the library has; edges and loops of the mended one, and of one that keeps its bowties.
+/// The large mesh through each call that the library has; edges, loops and check of the mended one, and of one that keeps its bowties.
 pub fn run(faces: usize) -> ExitCode {
     let mesh = scanned(faces, &mut Random::new(1));
     let points: Vec<f64> = mesh.points.into_iter().flatten().collect();
@@ -95,7 +95,7 @@ pub fn run(faces: usize) -> ExitCode {
         }
     }
     println!("with its bowties");
-    for (call, options) in LISTED {
+    for (call, options) in LISTED.into_iter().chain([(Call::Check, 1), (Call::Check, 0)]) {
         all &= !here::has(call) || same(&asked(call, &tied_points, &tied_triples, options));
     }
     if all { ExitCode::SUCCESS } else { ExitCode::from(1) }

@@ -1,5 +1,5 @@
-//! Meshes of more than 4,096 faces with a fault planted somewhere, through the edge call and the loop call with a zero work room, with a dirty one, and
-//! with two that are zero in front: number and place of the refusal, and every buffer.
+//! Meshes of more than 4,096 faces with a fault planted somewhere, through the edge call, the loop call and the edge check with a zero work room, with a
+//! dirty one, and with two that are zero in front: number and place of the refusal or the check's answer, and every buffer.
 
 use crate::case::{Call, Case};
 use crate::meshes::Mesh;
@@ -55,28 +55,44 @@ fn difference(mut case: Case, seed: u64, expected: &there::Outcome) -> Option<St
     None
 }
 
-/// So many meshes; a run in which one of the ends of either call is never met fails too.
+/// How a call ends. A no of the edge check for groups alone is told apart.
+fn end(case: &Case, outcome: &there::Outcome) -> &'static str {
+    match (case.call, outcome.number) {
+        (Call::Check, 0) if outcome.counts == [1] => "says yes",
+        (Call::Check, 0) if there::walked_once(case) => "says no for groups alone",
+        (Call::Check, 0) => "says no",
+        (_, 0) => "accepts",
+        (_, 7) => "refuses 7",
+        (_, 8) => "refuses 8",
+        _ => "refuses otherwise",
+    }
+}
+
+/// The ends of the calls; each must be met.
+const ENDS: [(&str, &[&str]); 3] = [
+    ("edges", &["accepts", "refuses 7"]),
+    ("loops", &["accepts", "refuses 7", "refuses 8"]),
+    ("check", &["says yes", "says no", "says no for groups alone"]),
+];
+
+/// So many meshes; a run in which one of the ends of a call is never met fails too.
 pub fn run(meshes: u64) -> ExitCode {
-    let mut ends: BTreeMap<(&str, u32), usize> =
-        [(("edges", 0), 0), (("edges", 7), 0), (("loops", 0), 0), (("loops", 7), 0), (("loops", 8), 0)].into();
+    let mut ends: BTreeMap<(&str, &str), usize> = ENDS.iter().flat_map(|(call, all)| all.iter().map(|end| ((*call, *end), 0))).collect();
     for seed in 0..meshes {
         let mesh = planted(&mut Random::new(seed));
         let points: Vec<f64> = mesh.points.into_iter().flatten().collect();
         let triples: Vec<u32> = mesh.faces.into_iter().flatten().collect();
-        for call in [Call::Edges, Call::Loops] {
+        for call in [Call::Edges, Call::Loops, Call::Check] {
             let case = large::asked(call, &points, &triples, 0);
             let expected = there::outcome(&case);
+            *ends.entry((call.name(), end(&case, &expected))).or_default() += 1;
             if let Some(what) = difference(case, seed, &expected) {
                 println!("planted mesh {seed}, {what}");
                 return ExitCode::from(1);
             }
-            *ends.entry((call.name(), expected.number)).or_default() += 1;
         }
     }
-    let told: Vec<String> = ends
-        .iter()
-        .map(|((call, number), times)| format!("{call} {times} {}", if *number == 0 { "accepted".into() } else { format!("refused {number}") }))
-        .collect();
+    let told: Vec<String> = ends.iter().map(|((call, end), times)| format!("{call} {end} {times}")).collect();
     println!("planted meshes: {}; the same in each work room", told.join(", "));
     if ends.values().all(|&times| times > 0) { ExitCode::SUCCESS } else { ExitCode::from(1) }
 }

@@ -1,7 +1,7 @@
 //! Recorded answers, in the word form of tests/cases/FORMAT.md, against what the harness expects: so its own refusals and its Rust are tested too.
 //! They are document 01's, with one count of degenerate faces: a report room is lent one entry longer, a line gets the count in two parts, and of a
 //! report the sum of the two is compared. Edges and loops are one call there, of six rooms: a record of it is asked of both calls, as far as it speaks
-//! of each.
+//! of each. A recorded answer of the edge check may be document 01's, which does not ask for groups at a point.
 
 use crate::case::{CALLS, Call, Case, EXACT, Room};
 use crate::{compare, print, there};
@@ -145,8 +145,11 @@ fn as_recorded(case: &Case, recorded: &Answer) -> bool {
     if (number, place) != (outcome.number as u64, outcome.place as u64) {
         return false;
     }
-    if number != 0 || case.call == Call::Check {
-        return number != 0 || rows == [outcome.counts];
+    if number == 0 && case.call == Call::Check {
+        return rows == [outcome.counts] || rows == [[there::walked_once(case) as u64]];
+    }
+    if number != 0 {
+        return true;
     }
     let word = |bytes: &[u8]| bytes.iter().rev().fold(0, |word, byte| word << 8 | *byte as u64);
     let sizes = case.stated();

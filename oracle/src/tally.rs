@@ -3,7 +3,7 @@
 use crate::case::{Call, Case, REPORT};
 use crate::ply::Parts;
 use crate::refuse;
-use crate::there::Outcome;
+use crate::there::{self, Outcome};
 use std::cmp::Ordering;
 use std::collections::{BTreeMap, BTreeSet};
 
@@ -84,6 +84,7 @@ impl Tally {
             Call::Check => {
                 count("yes", counts[0] == 1);
                 count("no", counts[0] == 0);
+                count("no for groups alone", counts[0] == 0 && there::walked_once(case));
             }
             Call::Patches => {
                 let flags: Vec<u32> = (0..counts[2] as usize).map(|i| number(&rows[2], i)).collect();

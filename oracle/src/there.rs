@@ -10,7 +10,7 @@ use engeom::normals::compute_face_normal;
 use engeom::patches::{PatchFilter, PatchLabels, PatchStats};
 use engeom::repair::{RepairOpts, RepairReport, repair_buffers};
 use engeom::{Mesh3, Point3, na};
-use std::collections::BTreeSet;
+use std::collections::{BTreeMap, BTreeSet};
 
 /// What a call must give back: number and place, the counts, and the bytes that stand in each answer room.
 #[derive(Clone)]
@@ -189,10 +189,41 @@ fn loops(case: &Case) -> (Vec<u64>, Vec<Vec<u8>>) {
     (rows.iter().map(|row| row.len() as u64 / 4).collect(), rows)
 }
 
-/// The edge check, which the Rust does not have: no face repeats a corner, and every directed edge is used at most once.
-fn sound(case: &Case) -> bool {
+/// The edge check, which the Rust does not have: no face repeats a corner, every directed edge is used at most once, and the faces at each used point form
+/// one group.
+pub fn sound(case: &Case) -> bool {
+    walked_once(case) && one_group_each(case)
+}
+
+/// Whether no face repeats a corner, and every directed edge is used at most once: document 01's check.
+pub fn walked_once(case: &Case) -> bool {
     let mut used = BTreeSet::new();
     case.triples().into_iter().all(|[a, b, c]| a != b && b != c && c != a && used.insert((a, b)) && used.insert((b, c)) && used.insert((c, a)))
+}
+
+/// Whether the faces at each used point, where none repeats a corner, form one group: from the first of them all are reached, from face to face with another
+/// corner in common.
+fn one_group_each(case: &Case) -> bool {
+    let mut at: BTreeMap<u32, Vec<[u32; 2]>> = BTreeMap::new();
+    for [a, b, c] in case.triples() {
+        at.entry(a).or_default().push([b, c]);
+        at.entry(b).or_default().push([c, a]);
+        at.entry(c).or_default().push([a, b]);
+    }
+    at.into_values().all(|others| reached(&others) == others.len())
+}
+
+/// How many of these pairs are reached from the first, from pair to pair with a number in common.
+fn reached(pairs: &[[u32; 2]]) -> usize {
+    let mut with: BTreeMap<u32, Vec<usize>> = BTreeMap::new();
+    pairs.iter().enumerate().for_each(|(i, pair)| pair.iter().for_each(|&v| with.entry(v).or_default().push(i)));
+    let (mut found, mut left) = (BTreeSet::from([0]), vec![0]);
+    while let Some(i) = left.pop() {
+        // A number is looked at once: whoever has it is then found.
+        let others = pairs[i].iter().filter_map(|v| with.remove(v)).flatten();
+        left.extend(others.filter(|&j| found.insert(j)));
+    }
+    found.len()
 }
 
 /// A mesh written to a PLY file: count and row.

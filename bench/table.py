@@ -164,6 +164,9 @@ def targets():
         if call == "repair":
             grown += [(grows(alone, shape, way), f"{what}, {pass_name}") for alone, pass_name in (("repair8", "pass 5 alone"), ("repair16", "pass 4 alone")) for shape, what in crowded]
         target(rows, f"{call}, rooms {way}, any mesh: time of a face at {top:,} over that at {sizes[0]:,}", 3, grown)
+    for shape in [shape for shape in ("grid", "fan", "apart") if shape in names and "check" in only]:
+        seen = ratio(figure("check", shape, top, "reused"), figure("repair8", shape, top, "reused"))
+        rows.append([f"check, {names[shape]}, {top:,} faces, rooms reused: times a repair with pass 5 alone", "—", "—" if seen is None else f"{seen:.3f}", "reported"])
     for call, way in [(call, way) for call in ("write_ply", "read_ply") for way in WAYS if "ply" in only]:
         base = "look" if way == "reused" else "copy"
         seen = ratio(figure(call, "grid", top, way), figure(call, "grid", top, base))

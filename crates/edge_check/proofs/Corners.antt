@@ -44,7 +44,7 @@ repeats-at xs j = repeats (face (facesOf xs) j)
 
 -- what a read past the end of a list of faces gives
 none : Face
-none = record { a = 0; b = 0; c = 0 }
+none = record { a = 0; b = 0; c = 0; origin = 0 }
 
 module _ (xs : List ℕ) (i : ℕ) where
   -- none of all faces does

@@ -29,7 +29,7 @@ use Rattle.edge_check.proofs.Directed.{sound-is}
 inside : {P : ℕ} {xs : List ℕ} → Faces P xs → Inside P (facesOf xs)
 unfolding face
 inside {P} {xs} a =
-    all-from (Corners-below P) (record { a = 0; b = 0; c = 0 }) (facesOf xs)
+    all-from (Corners-below P) (record { a = 0; b = 0; c = 0; origin = 0 }) (facesOf xs)
     (λ i l.
     let h : i < length xs / 3 = omega (arith, length-faces xs) in
     rw (face-in xs i h) (a .below (3 * i) (omega arith), a .below (3 * i + 1) (omega arith), a .below (3 * i + 2) (omega arith)))

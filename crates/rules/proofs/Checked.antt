@@ -28,7 +28,8 @@ use Rattle.rules.proofs.Counting.{count-some, some-count}
 use Rattle.rules.proofs.Decided.{decided-ok, unless-is}
 use Rattle.rules.proofs.Firsts.{at-first-ok}
 use Rattle.rules.proofs.Pigeons.{few-points}
-use Rattle.rules.proofs.Flat.{faces-flat, length-flat-faces}
+use Rattle.rules.proofs.Flat.{length-flat-faces}
+use Rattle.rules.proofs.Relabel.{flat-alike, inside-alike, sound-alike}
 use Rattle.rules.proofs.Manifold.{opted}
 use Rattle.rules.proofs.Groups.{covered}
 use Rattle.rules.proofs.Leaders.{groups-length}
@@ -53,7 +54,7 @@ pub some-fan : (fs : List Face) (v : ℕ) → List·Memᴰ v (each corners fs) �
 unfolding fans face
 some-fan fs v m =
     let w = mem-each-of corners v fs m in
-    let k = mem-index (record { a = 0; b = 0; c = 0 }) (w .0) fs (w .1) in
+    let k = mem-index (record { a = 0; b = 0; c = 0; origin = 0 }) (w .0) fs (w .1) in
     let a = entry-of fs v (k .0) (k .1) (mem-has v (corners (face fs (k .0))) (subst (λ f. List·Memᴰ v (corners f)) (sym (k .2)) (w .2))) in
     let n = length (entriesAt fs v) in
     let j : ℕ → ℕ → Bool = λ k l. share v (face fs (getD (entriesAt fs v) k 0)) (face fs (getD (entriesAt fs v) l 0)) in
@@ -91,7 +92,7 @@ sound-demanded m once fan beside =
     sound-of (m .faces) (beside .is-distinct) once
     (λ v k.
     let w = mem-each-of corners v (m .faces) k in
-    groups-of-fan (m .faces) v (λ i h. beside .is-distinct (face (m .faces) i) (mem-at (m .faces) i (record { a = 0; b = 0; c = 0 }) h)) (fan v (inside (w .0) (w .1) (w .2))))
+    groups-of-fan (m .faces) v (λ i h. beside .is-distinct (face (m .faces) i) (mem-at (m .faces) i (record { a = 0; b = 0; c = 0; origin = 0 }) h)) (fan v (inside (w .0) (w .1) (w .2))))
   where
     inside : {v : ℕ} (f : Face) → List·Memᴰ f (m .faces) → List·Memᴰ v (corners f) → v < length (m .points)
     inside {v} f k c = let b = beside .corners-inside f k in all-in (λ x. x < length (m .points)) v (corners f) (b .0, (b .1, (b .2, tt))) c
@@ -108,7 +109,7 @@ pub check-accepts :
     → check-check P (flatFaces fs) work ≡ ok
 unfolding check-check no1 no2
 check-accepts P fs few few-faces inside work enough =
-    rw (f-is, faces-flat fs)
+    rw f-is
     (decided-ok _ (
       unless-is 1 1 (eqb (length (flatFaces fs) % 3) 0) (eq-eqb (length (flatFaces fs) % 3) 0 (omega (arith, length-flat-faces fs))),
       (
@@ -116,7 +117,7 @@ check-accepts P fs few few-faces inside work enough =
         (
           unless-is 2 1 (leb (length fs) most-faces) (le-leb (length fs) most-faces few-faces),
           (
-            no5-ok P fs inside,
+            no5-ok P (facesOf (flatFaces fs)) (inside-alike (facesOf (flatFaces fs)) fs (flat-alike fs) P inside),
             (
               check6-ok P (length fs) work (subst (λ F. Check-enough P F work) f-is enough),
               tt,
@@ -132,7 +133,7 @@ check-accepts P fs few few-faces inside work enough =
 -- a check whose refusals are none says yes where the rule does
 yes-of : (P : ℕ) (fs : List Face) (work : List ℕ) → check-check P (flatFaces fs) work ≡ ok → sound fs ≡ true → check P (flatFaces fs) work .answer ≡ accepted (1 ∷ [])
 unfolding check outcome
-yes-of P fs work e t = rw (e, faces-flat fs, t)
+yes-of P fs work e t = rw (e, sound-alike (facesOf (flatFaces fs)) fs (flat-alike fs), t)
 
 -- the edge check says yes to a mesh that meets demand 3, where no face repeats a corner and there are not too many faces
 pub says-yes : (ps : List Point) (fs : List Face) (m : State) → length fs ≤ most-faces → Demand3 ps fs m → Beside m → Says-yes (length (m .points)) (flatFaces (m .faces))
@@ -185,7 +186,7 @@ module _ (fs : List Face) (said : sound fs ≡ true) where
   pub yes-fan : (v : ℕ) → OneFan fs v
   unfolding face
   yes-fan v i j hi hj ti tj =
-      let used = mem-each corners (face fs i) v fs (mem-at fs i (record { a = 0; b = 0; c = 0 }) hi) (has-mem v (corners (face fs i)) ti) in
+      let used = mem-each corners (face fs i) v fs (mem-at fs i (record { a = 0; b = 0; c = 0; origin = 0 }) hi) (has-mem v (corners (face fs i)) ti) in
       let one = eqb→eq (length (fans fs v)) 1 (all-in (λ u. T (eqb (length (fans fs u)) 1)) v (each corners fs) (all-elim (λ u. eqb (length (fans fs u)) 1) (each corners fs) (parts .2)) used) in
       fan-of-groups fs v (omega (arith, one)) i j hi hj ti tj
 

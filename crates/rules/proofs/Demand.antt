@@ -50,18 +50,14 @@ positions ps f = map (point ps) (corners f)
 abbrev pub Lies : List Point → Face → List Point → Face → Type 0
 Lies ps f ps′ g = (positions ps′ g ≡ positions ps f) ⊎ (positions ps′ g ≡ positions ps (exchanged f))
 
--- each face of fs′ over ps′ is a different face of fs over ps, in their order, and lies where that one does
+-- each face of fs′ over ps′ is a different face of fs over ps, in their order, by its origin, and lies where that one does
 pub record Traced (ps : List Point) (fs : List Face) (ps′ : List Point) (fs′ : List Face) : Type 0 where
-  -- which face of fs each face of fs′ is
-  pub origins : List ℕ
-  -- one number for each
-  pub one-each : length origins ≡ length fs′
-  -- the numbers rise: no two are the same, and the order is kept
-  pub rising : (k l : ℕ) → k < l → l < length origins → getD origins k 0 < getD origins l 0
+  -- origins rise: no two are the same, and the order is kept
+  pub rising : (k l : ℕ) → k < l → l < length fs′ → face fs′ k .origin < face fs′ l .origin
   -- they are numbers of faces of fs
-  pub inputs : (k : ℕ) → k < length origins → getD origins k 0 < length fs
-  -- the corners lie where they lay, at most the last two exchanged
-  pub places : (k : ℕ) → k < length fs′ → Lies ps (face fs (getD origins k 0)) ps′ (face fs′ k)
+  pub inputs : (k : ℕ) → k < length fs′ → face fs′ k .origin < length fs
+  -- the corners lie where those of that face lay, at most the last two exchanged
+  pub places : (k : ℕ) → k < length fs′ → Lies ps (face fs (face fs′ k .origin)) ps′ (face fs′ k)
 
 -- ---- counts
 

@@ -130,7 +130,7 @@ module _ (fs : List Face) (once : Once fs) (v : ℕ) (fan : OneFan fs v) (f : Fa
   alone g mg cg = go (mem-index zero-face f fs mf) (mem-index zero-face g fs mg)
     where
       zero-face : Face
-      zero-face = record { a = 0; b = 0; c = 0 }
+      zero-face = record { a = 0; b = 0; c = 0; origin = 0 }
 
       go : (i : ℕ) × (i < length fs) × (getD fs i zero-face ≡ f) → (j : ℕ) × (j < length fs) × (getD fs j zero-face ≡ g) → g ≡ f
       go (i, hi, ei) (j, hj, ej) =

@@ -94,12 +94,13 @@ origin = record { x = zero64; y = zero64; z = zero64 }
 
 -- the face that stands beyond a list of faces
 abbrev nowhere : Face
-nowhere = record { a = 0; b = 0; c = 0 }
+nowhere = record { a = 0; b = 0; c = 0; origin = 0 }
 
--- a mesh whose coordinates are f64 and whose corners are u32, with counts that a file can tell
+-- a mesh whose coordinates are f64 and whose corners are u32, with counts that a file can tell; each face is its own origin
 pub record Writable (ps : List Point) (fs : List Face) : Type 0 where
   pub points-fit : (i : ℕ) → i < length ps → Fits (point ps i)
   pub corners-small : (i : ℕ) → i < length fs → Small (face fs i)
+  pub own-origins : (i : ℕ) → i < length fs → face fs i .origin ≡ i
   pub few-points : length ps < 10 ^ 20
   pub few-faces : length fs < 10 ^ 20
 
@@ -219,7 +220,7 @@ module _ (ps : List Point) (fs : List Face) (w : Writable ps fs) where
     unfolding triple-at
     triple-is =
         let s = w .corners-small i h in
-        same-face _ (face fs i) (at-f 1 ∙ triple-a (face fs i) s behind-f) (at-f 5 ∙ triple-b (face fs i) s behind-f) (at-f 9 ∙ triple-c (face fs i) s behind-f)
+        same-face _ (face fs i) (at-f 1 ∙ triple-a (face fs i) s behind-f) (at-f 5 ∙ triple-b (face fs i) s behind-f) (at-f 9 ∙ triple-c (face fs i) s behind-f) (sym (w .own-origins i h))
 
     -- and its count is 3
     count-is : getD (ply ps fs) (face-place (ply ps fs) i) 0 ≡ 3

@@ -37,6 +37,7 @@ rooms P F =
       out-points = replicate (3 * (P + 3 * F)) zero64;
       out-faces = replicate (3 * F) 0;
       report = replicate report-counts 0;
+      origins = replicate F 0;
       work = replicate (16 * P + 64 * F + 64) 0;
     }
 
@@ -126,7 +127,7 @@ pub beside-without1 : Claim-beside 62 → ⊥
 unfolding folded origins every-rule
 beside-without1 claim =
     let d : Beside (folded 62) = claim (origins 2) (0 ∷ 0 ∷ 1 ∷ []) zero64 (rooms 2 1) refl in
-    d .is-distinct (record { a = 0; b = 0; c = 1 }) (List·Memᴰ·head refl) .0 refl
+    d .is-distinct (record { a = 0; b = 0; c = 1; origin = 0 }) (List·Memᴰ·head refl) .0 refl
 
 -- and the demand holds
 pub without1 : Claim 62
@@ -157,7 +158,7 @@ without5 claim =
   where
     no-two-fans : (ps : List Point) (fs : List Face) (m : State) (v : ℕ) → v < length (m .points) → All Distinct (m .faces) → Demand3 ps fs m → length (fans (m .faces) v) ≡ 2 → ⊥
     no-two-fans ps fs m v h distinct d e =
-        let l = groups-of-fan (m .faces) v (λ i k. all-at Distinct (m .faces) (record { a = 0; b = 0; c = 0 }) i distinct k) (d .one-fan v h) in
+        let l = groups-of-fan (m .faces) v (λ i k. all-at Distinct (m .faces) (record { a = 0; b = 0; c = 0; origin = 0 }) i distinct k) (d .one-fan v h) in
         omega (arith, l, e)
 
 -- without pass 6 a point is unused

@@ -66,12 +66,12 @@ left stated beyond answer = answer ++ replicate (stated - length answer) 0 ++ (b
 -- ---- repair
 
 -- the rooms of a repair, of the given lengths
-unfoldable pub repair-lent : ℕ → ℕ → ℕ → ℕ → RepairRooms
-repair-lent a b c d = record { out-points = dirty a; out-faces = replicate b 7; report = replicate c 7; work = replicate d 7 }
+unfoldable pub repair-lent : ℕ → ℕ → ℕ → ℕ → ℕ → RepairRooms
+repair-lent a b c d e = record { out-points = dirty a; out-faces = replicate b 7; report = replicate c 7; origins = replicate d 7; work = replicate e 7 }
 
 -- the answer and every room
 unfoldable pub repair-shown : Outcome RepairRooms → List (List ℕ)
-repair-shown o = said (o .answer) ∷ bits-of (o .rooms .out-points) ∷ o .rooms .out-faces ∷ o .rooms .report ∷ o .rooms .work ∷ []
+repair-shown o = said (o .answer) ∷ bits-of (o .rooms .out-points) ∷ o .rooms .out-faces ∷ o .rooms .report ∷ o .rooms .origins ∷ o .rooms .work ∷ []
 
 -- a repair of points and a threshold, both by their bits, in rooms one entry too long
 unfoldable pub repairing : List ℕ → List ℕ → ℕ → ℕ → List (List ℕ)
@@ -80,13 +80,13 @@ repairing points faces s options =
     let F = length faces / 3 in
     repair-shown
     (repair (floats points) faces (ofBits binary64 s) options
-    (repair-lent (3 * (P + 3 * F) + 1) (3 * F + 1) 12 (16 * P + 64 * F + 65)))
+    (repair-lent (3 * (P + 3 * F) + 1) (3 * F + 1) 12 (F + 1) (16 * P + 64 * F + 65)))
 
 -- what a repair of P points and F faces leaves there
-unfoldable pub repaired-to : ℕ → ℕ → List ℕ → List ℕ → List ℕ → List (List ℕ)
-repaired-to P F points faces report =
-    (length points ∷ length faces ∷ 11 ∷ [])
-    ∷ left (3 * (P + 3 * F)) dirt points ∷ left (3 * F) 7 faces ∷ left 11 7 report ∷ left (16 * P + 64 * F + 64) 7 [] ∷ []
+unfoldable pub repaired-to : ℕ → ℕ → List ℕ → List ℕ → List ℕ → List ℕ → List (List ℕ)
+repaired-to P F points faces report origins =
+    (length points ∷ length faces ∷ 11 ∷ length origins ∷ [])
+    ∷ left (3 * (P + 3 * F)) dirt points ∷ left (3 * F) 7 faces ∷ left 11 7 report ∷ left F 7 origins ∷ left (16 * P + 64 * F + 64) 7 [] ∷ []
 
 -- ---- edges
 

@@ -41,6 +41,7 @@ repairing points faces s options =
       out-points = replicate (3 * (P + 3 * F)) zero64;
       out-faces = replicate (3 * F) 0;
       report = replicate report-counts 0;
+      origins = replicate F 0;
       work = replicate (work-room P F) 0;
     }) .answer)
     ∷ []
@@ -139,7 +140,7 @@ not-starred =
     row (mended legs (0 ∷ 1 ∷ 2 ∷ []) 1 one64) ((5 ∷ []) ∷ [] ∷ (1 ∷ replicate 9 0) ∷ [])
     ∷ row (mended legs (0 ∷ 1 ∷ 2 ∷ []) 1 below-one64) ((5 ∷ []) ∷ (0 ∷ 1 ∷ 2 ∷ []) ∷ replicate 10 0 ∷ [])
     -- coordinate 2^100 passes; the next f64 is refused 4
-    ∷ row (repairing (zero64 ∷ fin true 1 (pos 100) ∷ fin false 1 (pos 100) ∷ []) [] zero64 0) ((3 ∷ 0 ∷ 11 ∷ []) ∷ [])
+    ∷ row (repairing (zero64 ∷ fin true 1 (pos 100) ∷ fin false 1 (pos 100) ∷ []) [] zero64 0) ((3 ∷ 0 ∷ 11 ∷ 0 ∷ []) ∷ [])
     ∷ row (repairing (origins 1 ++ (fin false (2 ^ 52 + 1) (pos 48) ∷ zero64 ∷ zero64 ∷ [])) [] zero64 0) ((4 ∷ 1 ∷ []) ∷ [])
     -- faces 0 1 2; 0 3 4: loop call refused 8, and the edge call accepts. Three faces on one edge: refused 7 by both
     ∷ row (looping 5 (0 ∷ 1 ∷ 2 ∷ 0 ∷ 3 ∷ 4 ∷ [])) ((8 ∷ 0 ∷ []) ∷ [])
@@ -207,8 +208,12 @@ refusals =
     -- 6 at the first room that is too short
     ∷ row (answered (check 0 [] (replicate 63 0) .answer) ∷ []) ((6 ∷ 0 ∷ []) ∷ [])
     ∷ row
-    (answered (repair [] [] zero64 0 (record { out-points = []; out-faces = []; report = replicate 10 0; work = [] }) .answer) ∷ [])
+    (answered (repair [] [] zero64 0 (record { out-points = []; out-faces = []; report = replicate 10 0; origins = []; work = [] }) .answer) ∷ [])
     ((6 ∷ 2 ∷ []) ∷ [])
+    -- the origins before the work room
+    ∷ row
+    (answered (repair (origins 1) (0 ∷ 0 ∷ 0 ∷ []) zero64 0 (record { out-points = origins 4; out-faces = replicate 3 0; report = replicate 11 0; origins = []; work = [] }) .answer) ∷ [])
+    ((6 ∷ 3 ∷ []) ∷ [])
     -- 7: the position among all sorted unique edges; 8: the lowest vertex at fault
     ∷ row (edging 5 (0 ∷ 1 ∷ 2 ∷ 1 ∷ 2 ∷ 3 ∷ 1 ∷ 2 ∷ 4 ∷ [])) ((7 ∷ 2 ∷ []) ∷ [])
     ∷ row (looping 5 (0 ∷ 1 ∷ 2 ∷ 3 ∷ 4 ∷ 2 ∷ [])) ((8 ∷ 2 ∷ []) ∷ [])
@@ -243,10 +248,10 @@ answers =
     ∷ row
     (let o =
     repair (origins 2) (0 ∷ 0 ∷ 1 ∷ []) zero64 33
-    (record { out-points = replicate 16 one64; out-faces = replicate 4 7; report = replicate 12 7; work = replicate 161 7 }) in
-    answered (o .answer) ∷ bits (o .rooms .out-points) ∷ o .rooms .out-faces ∷ o .rooms .report ∷ o .rooms .work ∷ [])
-    ((0 ∷ 0 ∷ 11 ∷ []) ∷ (replicate 15 0 ++ (0x3ff0_0000_0000_0000 ∷ [])) ∷ (0 ∷ 0 ∷ 0 ∷ 7 ∷ []) ∷ (1 ∷ replicate 9 0 ++ (2 ∷ 7 ∷ []))
-    ∷ (replicate 160 0 ++ (7 ∷ [])) ∷ [])
+    (record { out-points = replicate 16 one64; out-faces = replicate 4 7; report = replicate 12 7; origins = replicate 2 7; work = replicate 161 7 }) in
+    answered (o .answer) ∷ bits (o .rooms .out-points) ∷ o .rooms .out-faces ∷ o .rooms .report ∷ o .rooms .origins ∷ o .rooms .work ∷ [])
+    ((0 ∷ 0 ∷ 11 ∷ 0 ∷ []) ∷ (replicate 15 0 ++ (0x3ff0_0000_0000_0000 ∷ [])) ∷ (0 ∷ 0 ∷ 0 ∷ 7 ∷ []) ∷ (1 ∷ replicate 9 0 ++ (2 ∷ 7 ∷ []))
+    ∷ (0 ∷ 7 ∷ []) ∷ (replicate 160 0 ++ (7 ∷ [])) ∷ [])
     -- a face of the unit legs: its area and its box
     ∷ row (patching legs (0 ∷ 1 ∷ 2 ∷ []) (0 ∷ []) 1 all-kept)
     ((1 ∷ 7 ∷ 1 ∷ []) ∷ (1 ∷ [])

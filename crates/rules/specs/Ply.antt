@@ -75,7 +75,7 @@ face-place file i = length (header-in file) + 24 * vertices-in file + 13 * i
 
 -- face i of the file; an index below 0 is a u32 from 2^31 on, which no P that is accepted is above
 unfoldable pub triple-at : List ℕ → ℕ → Face
-triple-at file i = let at = face-place file i in record { a = u32-at file (at + 1); b = u32-at file (at + 5); c = u32-at file (at + 9) }
+triple-at file i = let at = face-place file i in record { a = u32-at file (at + 1); b = u32-at file (at + 5); c = u32-at file (at + 9); origin = i }
 
 -- all vertices
 unfoldable pub points-of : List ℕ → List Point

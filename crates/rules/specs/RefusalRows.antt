@@ -16,12 +16,12 @@ use Rattle.rules.specs.Open.{every-rule}
 use Rattle.rules.specs.Bench.{Row}
 
 -- a repair in rooms of the given lengths
-repair-at : List ℕ → List ℕ → ℕ → ℕ → ℕ → ℕ → ℕ → ℕ → List (List ℕ)
-repair-at points faces s options a b c d = repair-shown (repair (floats points) faces (ofBits binary64 s) options (repair-lent a b c d))
+repair-at : List ℕ → List ℕ → ℕ → ℕ → ℕ → ℕ → ℕ → ℕ → ℕ → List (List ℕ)
+repair-at points faces s options a b c d e = repair-shown (repair (floats points) faces (ofBits binary64 s) options (repair-lent a b c d e))
 
 -- number n with place p, and those rooms as they were
-repair-kept : ℕ → ℕ → ℕ → ℕ → ℕ → ℕ → List (List ℕ)
-repair-kept n p a b c d = (n ∷ p ∷ []) ∷ replicate a dirt ∷ replicate b 7 ∷ replicate c 7 ∷ replicate d 7 ∷ []
+repair-kept : ℕ → ℕ → ℕ → ℕ → ℕ → ℕ → ℕ → List (List ℕ)
+repair-kept n p a b c d e = (n ∷ p ∷ []) ∷ replicate a dirt ∷ replicate b 7 ∷ replicate c 7 ∷ replicate d 7 ∷ replicate e 7 ∷ []
 
 -- an edge call in rooms of the given lengths
 edges-at : List ℕ → List ℕ → ℕ → ℕ → ℕ → ℕ → List (List ℕ)
@@ -52,38 +52,40 @@ patches-kept n p a b c d = (n ∷ p ∷ []) ∷ replicate a 7 ∷ replicate b di
 pub repair-refusals : List Row
 repair-refusals =
     -- rooms exactly as long as stated for one point and one face, and each of them one short; a refusal changes no room
-    row (repair-at (0 ∷ 0 ∷ 0 ∷ []) (0 ∷ 0 ∷ 0 ∷ []) 0 0 12 3 11 144) ((3 ∷ 3 ∷ 11 ∷ []) ∷ replicate 12 0 ∷ replicate 3 0 ∷ replicate 11 0 ∷ replicate 144 0 ∷ [])
-    ∷ row (repair-at (0 ∷ 0 ∷ 0 ∷ []) (0 ∷ 0 ∷ 0 ∷ []) 0 0 11 3 11 144) (repair-kept 6 0 11 3 11 144)
-    ∷ row (repair-at (0 ∷ 0 ∷ 0 ∷ []) (0 ∷ 0 ∷ 0 ∷ []) 0 0 12 2 11 144) (repair-kept 6 1 12 2 11 144)
-    ∷ row (repair-at (0 ∷ 0 ∷ 0 ∷ []) (0 ∷ 0 ∷ 0 ∷ []) 0 0 12 3 10 144) (repair-kept 6 2 12 3 10 144)
-    ∷ row (repair-at (0 ∷ 0 ∷ 0 ∷ []) (0 ∷ 0 ∷ 0 ∷ []) 0 0 12 3 11 143) (repair-kept 6 3 12 3 11 143)
+    row (repair-at (0 ∷ 0 ∷ 0 ∷ []) (0 ∷ 0 ∷ 0 ∷ []) 0 0 12 3 11 1 144) ((3 ∷ 3 ∷ 11 ∷ 1 ∷ []) ∷ replicate 12 0 ∷ replicate 3 0 ∷ replicate 11 0 ∷ replicate 1 0 ∷ replicate 144 0 ∷ [])
+    ∷ row (repair-at (0 ∷ 0 ∷ 0 ∷ []) (0 ∷ 0 ∷ 0 ∷ []) 0 0 11 3 11 1 144) (repair-kept 6 0 11 3 11 1 144)
+    ∷ row (repair-at (0 ∷ 0 ∷ 0 ∷ []) (0 ∷ 0 ∷ 0 ∷ []) 0 0 12 2 11 1 144) (repair-kept 6 1 12 2 11 1 144)
+    ∷ row (repair-at (0 ∷ 0 ∷ 0 ∷ []) (0 ∷ 0 ∷ 0 ∷ []) 0 0 12 3 10 1 144) (repair-kept 6 2 12 3 10 1 144)
+    ∷ row (repair-at (0 ∷ 0 ∷ 0 ∷ []) (0 ∷ 0 ∷ 0 ∷ []) 0 0 12 3 11 0 144) (repair-kept 6 3 12 3 11 0 144)
+    ∷ row (repair-at (0 ∷ 0 ∷ 0 ∷ []) (0 ∷ 0 ∷ 0 ∷ []) 0 0 12 3 11 1 143) (repair-kept 6 4 12 3 11 1 143)
     -- of two short rooms the first
-    ∷ row (repair-at (0 ∷ 0 ∷ 0 ∷ []) (0 ∷ 0 ∷ 0 ∷ []) 0 0 12 2 11 0) (repair-kept 6 1 12 2 11 0)
+    ∷ row (repair-at (0 ∷ 0 ∷ 0 ∷ []) (0 ∷ 0 ∷ 0 ∷ []) 0 0 12 2 11 1 0) (repair-kept 6 1 12 2 11 1 0)
+    ∷ row (repair-at (0 ∷ 0 ∷ 0 ∷ []) (0 ∷ 0 ∷ 0 ∷ []) 0 0 12 3 11 0 143) (repair-kept 6 3 12 3 11 0 143)
     -- two faults in one input, for each two neighbouring numbers: 1 at the points before 1 at the faces, 1 before 3
-    ∷ row (repair-at (0 ∷ 0 ∷ []) (0 ∷ []) 0 0 0 0 0 0) (repair-kept 1 0 0 0 0 0)
-    ∷ row (repair-at [] (0 ∷ []) 0x7ff8_0000_0000_0000 64 0 0 0 0) (repair-kept 1 1 0 0 0 0)
+    ∷ row (repair-at (0 ∷ 0 ∷ []) (0 ∷ []) 0 0 0 0 0 0 0) (repair-kept 1 0 0 0 0 0 0)
+    ∷ row (repair-at [] (0 ∷ []) 0x7ff8_0000_0000_0000 64 0 0 0 0 0) (repair-kept 1 1 0 0 0 0 0)
     -- 3 at the threshold before 3 at the options; 3 before 4
-    ∷ row (repair-at (0 ∷ 0 ∷ 0 ∷ []) (0 ∷ 0 ∷ 0 ∷ []) 0x7ff8_0000_0000_0000 64 0 0 0 0) (repair-kept 3 0 0 0 0 0)
-    ∷ row (repair-at (0x7ff8_0000_0000_0000 ∷ 0 ∷ 0 ∷ []) (0 ∷ 0 ∷ 0 ∷ []) 0 64 0 0 0 0) (repair-kept 3 1 0 0 0 0)
+    ∷ row (repair-at (0 ∷ 0 ∷ 0 ∷ []) (0 ∷ 0 ∷ 0 ∷ []) 0x7ff8_0000_0000_0000 64 0 0 0 0 0) (repair-kept 3 0 0 0 0 0 0)
+    ∷ row (repair-at (0x7ff8_0000_0000_0000 ∷ 0 ∷ 0 ∷ []) (0 ∷ 0 ∷ 0 ∷ []) 0 64 0 0 0 0 0) (repair-kept 3 1 0 0 0 0 0)
     -- 4 before 5; 5 before 6
-    ∷ row (repair-at (0x7ff8_0000_0000_0000 ∷ 0 ∷ 0 ∷ []) (0 ∷ 0 ∷ 1 ∷ []) 0 0 0 0 0 0) (repair-kept 4 0 0 0 0 0)
-    ∷ row (repair-at (0 ∷ 0 ∷ 0 ∷ []) (0 ∷ 0 ∷ 1 ∷ []) 0 0 0 0 0 0) (repair-kept 5 0 0 0 0 0)
+    ∷ row (repair-at (0x7ff8_0000_0000_0000 ∷ 0 ∷ 0 ∷ []) (0 ∷ 0 ∷ 1 ∷ []) 0 0 0 0 0 0 0) (repair-kept 4 0 0 0 0 0 0)
+    ∷ row (repair-at (0 ∷ 0 ∷ 0 ∷ []) (0 ∷ 0 ∷ 1 ∷ []) 0 0 0 0 0 0 0) (repair-kept 5 0 0 0 0 0 0)
     -- the limits from both sides, before 6: s from 0 to 1, options up to 63
-    ∷ row (repair-at (0 ∷ 0 ∷ 0 ∷ []) (0 ∷ 0 ∷ 0 ∷ []) 0x3ff0_0000_0000_0000 63 0 0 0 0) (repair-kept 6 0 0 0 0 0)
-    ∷ row (repair-at (0 ∷ 0 ∷ 0 ∷ []) (0 ∷ 0 ∷ 0 ∷ []) 0x3ff0_0000_0000_0001 63 0 0 0 0) (repair-kept 3 0 0 0 0 0)
-    ∷ row (repair-at (0 ∷ 0 ∷ 0 ∷ []) (0 ∷ 0 ∷ 0 ∷ []) 0x8000_0000_0000_0000 63 0 0 0 0) (repair-kept 6 0 0 0 0 0)
-    ∷ row (repair-at (0 ∷ 0 ∷ 0 ∷ []) (0 ∷ 0 ∷ 0 ∷ []) 0x8000_0000_0000_0001 63 0 0 0 0) (repair-kept 3 0 0 0 0 0)
-    ∷ row (repair-at (0 ∷ 0 ∷ 0 ∷ []) (0 ∷ 0 ∷ 0 ∷ []) 0 64 0 0 0 0) (repair-kept 3 1 0 0 0 0)
+    ∷ row (repair-at (0 ∷ 0 ∷ 0 ∷ []) (0 ∷ 0 ∷ 0 ∷ []) 0x3ff0_0000_0000_0000 63 0 0 0 0 0) (repair-kept 6 0 0 0 0 0 0)
+    ∷ row (repair-at (0 ∷ 0 ∷ 0 ∷ []) (0 ∷ 0 ∷ 0 ∷ []) 0x3ff0_0000_0000_0001 63 0 0 0 0 0) (repair-kept 3 0 0 0 0 0 0)
+    ∷ row (repair-at (0 ∷ 0 ∷ 0 ∷ []) (0 ∷ 0 ∷ 0 ∷ []) 0x8000_0000_0000_0000 63 0 0 0 0 0) (repair-kept 6 0 0 0 0 0 0)
+    ∷ row (repair-at (0 ∷ 0 ∷ 0 ∷ []) (0 ∷ 0 ∷ 0 ∷ []) 0x8000_0000_0000_0001 63 0 0 0 0 0) (repair-kept 3 0 0 0 0 0 0)
+    ∷ row (repair-at (0 ∷ 0 ∷ 0 ∷ []) (0 ∷ 0 ∷ 0 ∷ []) 0 64 0 0 0 0 0) (repair-kept 3 1 0 0 0 0 0)
     -- coordinates up to 2^100 in magnitude, each of the three; the first point at fault
-    ∷ row (repair-at (0x4630_0000_0000_0000 ∷ 0xc630_0000_0000_0000 ∷ 0x4630_0000_0000_0000 ∷ []) [] 0 0 0 0 0 0) (repair-kept 6 0 0 0 0 0)
-    ∷ row (repair-at (0 ∷ 0 ∷ 0 ∷ 0x4630_0000_0000_0001 ∷ 0 ∷ 0 ∷ []) [] 0 0 0 0 0 0) (repair-kept 4 1 0 0 0 0)
-    ∷ row (repair-at (0 ∷ 0xc630_0000_0000_0001 ∷ 0 ∷ 0x4630_0000_0000_0001 ∷ 0 ∷ 0 ∷ []) [] 0 0 0 0 0 0) (repair-kept 4 0 0 0 0 0)
-    ∷ row (repair-at (0 ∷ 0 ∷ 0x4630_0000_0000_0001 ∷ []) [] 0 0 0 0 0 0) (repair-kept 4 0 0 0 0 0)
+    ∷ row (repair-at (0x4630_0000_0000_0000 ∷ 0xc630_0000_0000_0000 ∷ 0x4630_0000_0000_0000 ∷ []) [] 0 0 0 0 0 0 0) (repair-kept 6 0 0 0 0 0 0)
+    ∷ row (repair-at (0 ∷ 0 ∷ 0 ∷ 0x4630_0000_0000_0001 ∷ 0 ∷ 0 ∷ []) [] 0 0 0 0 0 0 0) (repair-kept 4 1 0 0 0 0 0)
+    ∷ row (repair-at (0 ∷ 0xc630_0000_0000_0001 ∷ 0 ∷ 0x4630_0000_0000_0001 ∷ 0 ∷ 0 ∷ []) [] 0 0 0 0 0 0 0) (repair-kept 4 0 0 0 0 0 0)
+    ∷ row (repair-at (0 ∷ 0 ∷ 0x4630_0000_0000_0001 ∷ []) [] 0 0 0 0 0 0 0) (repair-kept 4 0 0 0 0 0 0)
     -- corners below P, each of the three; the first face at fault
-    ∷ row (repair-at (replicate 6 0) (1 ∷ 1 ∷ 1 ∷ []) 0 0 0 0 0 0) (repair-kept 6 0 0 0 0 0)
-    ∷ row (repair-at (replicate 6 0) (1 ∷ 0 ∷ 1 ∷ 2 ∷ 0 ∷ 0 ∷ []) 0 0 0 0 0 0) (repair-kept 5 1 0 0 0 0)
-    ∷ row (repair-at (replicate 6 0) (1 ∷ 0 ∷ 1 ∷ 0 ∷ 2 ∷ 0 ∷ []) 0 0 0 0 0 0) (repair-kept 5 1 0 0 0 0)
-    ∷ row (repair-at (replicate 6 0) (1 ∷ 0 ∷ 1 ∷ 0 ∷ 0 ∷ 2 ∷ []) 0 0 0 0 0 0) (repair-kept 5 1 0 0 0 0)
+    ∷ row (repair-at (replicate 6 0) (1 ∷ 1 ∷ 1 ∷ []) 0 0 0 0 0 0 0) (repair-kept 6 0 0 0 0 0 0)
+    ∷ row (repair-at (replicate 6 0) (1 ∷ 0 ∷ 1 ∷ 2 ∷ 0 ∷ 0 ∷ []) 0 0 0 0 0 0 0) (repair-kept 5 1 0 0 0 0 0)
+    ∷ row (repair-at (replicate 6 0) (1 ∷ 0 ∷ 1 ∷ 0 ∷ 2 ∷ 0 ∷ []) 0 0 0 0 0 0 0) (repair-kept 5 1 0 0 0 0 0)
+    ∷ row (repair-at (replicate 6 0) (1 ∷ 0 ∷ 1 ∷ 0 ∷ 0 ∷ 2 ∷ []) 0 0 0 0 0 0 0) (repair-kept 5 1 0 0 0 0 0)
     ∷ []
 
 -- every row holds

@@ -49,7 +49,7 @@ module _ {P : ℕ} {xs : List ℕ} (f : Faces P xs) where
   pub inside : Inside P (facesOf xs)
   unfolding face
   inside =
-      all-from (Corners-below P) (record { a = 0; b = 0; c = 0 }) (facesOf xs)
+      all-from (Corners-below P) (record { a = 0; b = 0; c = 0; origin = 0 }) (facesOf xs)
       (λ i l.
       let h : i < length xs / 3 = omega (arith, length-faces xs) in
       rw (face-in xs i h) (f .below (3 * i) (omega arith), f .below (3 * i + 1) (omega arith), f .below (3 * i + 2) (omega arith)))

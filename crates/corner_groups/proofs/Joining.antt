@@ -71,7 +71,7 @@ module _ (xs : List ℕ) (whole : length xs % 3 ≡ 0) where
   pub corner-mem : (id : ℕ) → id < length xs → List·Memᴰ (at id) (corners (face fs (id / 3)))
   corner-mem id h = subst (λ f. List·Memᴰ (at id) (corners f)) (sym (face-at xs (id / 3) (omega arith))) (go (which id))
     where
-      go : (id ≡ 3 * (id / 3)) ⊎ ((id ≡ 3 * (id / 3) + 1) ⊎ (id ≡ 3 * (id / 3) + 2)) → List·Memᴰ (at id) (corners (record { a = at (3 * (id / 3)); b = at (3 * (id / 3) + 1); c = at (3 * (id / 3) + 2) }))
+      go : (id ≡ 3 * (id / 3)) ⊎ ((id ≡ 3 * (id / 3) + 1) ⊎ (id ≡ 3 * (id / 3) + 2)) → List·Memᴰ (at id) (corners (record { a = at (3 * (id / 3)); b = at (3 * (id / 3) + 1); c = at (3 * (id / 3) + 2); origin = id / 3 }))
       go (inl e) = List·Memᴰ·head (ap at e)
       go (inr (inl e)) = List·Memᴰ·tail (List·Memᴰ·head (ap at e))
       go (inr (inr e)) = List·Memᴰ·tail (List·Memᴰ·tail (List·Memᴰ·head (ap at e)))

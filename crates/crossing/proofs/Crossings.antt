@@ -313,7 +313,7 @@ module _ {w xs : List ℕ} {n j : ℕ} (p : FaceAsks w xs n j) where
       }
 
   -- the face as it stands
-  stands : face (walkOf (facesOf xs) n w .faces) j ≡ turn (getD w (3 + j) 0) (record { a = a; b = b; c = c })
+  stands : face (walkOf (facesOf xs) n w .faces) j ≡ turn (getD w (3 + j) 0) (record { a = a; b = b; c = c; origin = j })
   stands =
       let u = face-bounds in
       turned-at (facesOf xs) n w (omega (arith, u)) j (p .here) ∙ ap (turn (getD w (3 + j) 0)) (face-in xs j (omega (arith, u)))
@@ -325,7 +325,7 @@ module _ {w xs : List ℕ} {n j : ℕ} (p : FaceAsks w xs n j) where
       record {
         only = g .only;
         going = g .going;
-        walk = g .walk ∙ ap (λ f. through (across j) (walkOf (facesOf xs) n w) (steps f)) (sym (stands ∙ ap (λ s. turn s (record { a = a; b = b; c = c })) e));
+        walk = g .walk ∙ ap (λ f. through (across j) (walkOf (facesOf xs) n w) (steps f)) (sym (stands ∙ ap (λ s. turn s (record { a = a; b = b; c = c; origin = j })) e));
       }
 
   -- another
@@ -337,5 +337,5 @@ module _ {w xs : List ℕ} {n j : ℕ} (p : FaceAsks w xs n j) where
         going = g .going;
         walk = g .walk
             ∙ ap (λ f. through (across j) (walkOf (facesOf xs) n w) (steps f))
-            (sym (stands ∙ ap (λ s. cond s (exchanged (record { a = a; b = b; c = c })) (record { a = a; b = b; c = c })) (ne-eqb (getD w (3 + j) 0) 2 e)));
+            (sym (stands ∙ ap (λ s. cond s (exchanged (record { a = a; b = b; c = c; origin = j })) (record { a = a; b = b; c = c; origin = j })) (ne-eqb (getD w (3 + j) 0) 2 e)));
       }

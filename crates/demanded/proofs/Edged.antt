@@ -46,15 +46,15 @@ loops-done-if (looped.Done a b) h = tt
 loops-done-if (looped.Refused n p) h = h
 
 -- after an accepted repair with options 63, on what stands in the rooms
-module _ (points : List Float) (faces : List ℕ) (s : Float) (ps : List Float) (xs rs w : List ℕ) {ps′ : List Float} {xs′ rs′ w′ : List ℕ} {a b : ℕ}
-    (e : repaired-as.outcomeOf (repaired.Done a b) ps′ xs′ rs′ w′ ≡ repair points faces s 63 (repaired-as.roomsOf ps xs rs w)) where
+module _ (points : List Float) (faces : List ℕ) (s : Float) (ps : List Float) (xs rs os w : List ℕ) {ps′ : List Float} {xs′ rs′ os′ w′ : List ℕ} {a b n : ℕ}
+    (e : repaired-as.outcomeOf (repaired.Done a b n) ps′ xs′ rs′ os′ w′ ≡ repair points faces s 63 (repaired-as.roomsOf ps xs rs os w)) where
   -- the edge call is done
   pub edged :
       (q q′ : EdgesRooms) (f : Found) → Edges-enough (length (take a ps′) / 3) (length (take b xs′) / 3) q
       → edged-as.outcomeOf f q′ ≡ find-edges (take a ps′) (take b xs′) q → Edges-done f
   unfolding Is-accepted
   edged q q′ f enough o =
-      let k = demanded-edges points faces s ps xs rs w e q enough in
+      let k = demanded-edges points faces s ps xs rs os w e q enough in
       edges-done-if f (subst Is-accepted (sym (ap (λ t. t .answer) o ∙ k .1)) tt)
 
   -- and so is the loop call
@@ -63,5 +63,5 @@ module _ (points : List Float) (faces : List ℕ) (s : Float) (ps : List Float) 
       → looped-as.outcomeOf f q′ ≡ find-loops (take a ps′) (take b xs′) q → Loops-done f
   unfolding Is-accepted
   looped-too q q′ f enough o =
-      let k = demanded-loop-call points faces s ps xs rs w e q enough in
+      let k = demanded-loop-call points faces s ps xs rs os w e q enough in
       loops-done-if f (subst Is-accepted (sym (ap (λ t. t .answer) o ∙ k .1)) tt)

@@ -85,9 +85,9 @@ done-along points faces q q′ (Refused n p) h o = h
 
 -- after an accepted repair with options 63 the loop call on what stands in the rooms is done, and goes along each boundary edge exactly once
 pub looped-along :
-    (points : List Float) (faces : List ℕ) (s : Float) (ps : List Float) (xs rs w : List ℕ) {ps′ : List Float} {xs′ rs′ w′ : List ℕ} {a b : ℕ}
-    → repaired-as.outcomeOf (repaired.Done a b) ps′ xs′ rs′ w′ ≡ repair points faces s 63 (repaired-as.roomsOf ps xs rs w)
+    (points : List Float) (faces : List ℕ) (s : Float) (ps : List Float) (xs rs os w : List ℕ) {ps′ : List Float} {xs′ rs′ os′ w′ : List ℕ} {a b n : ℕ}
+    → repaired-as.outcomeOf (repaired.Done a b n) ps′ xs′ rs′ os′ w′ ≡ repair points faces s 63 (repaired-as.roomsOf ps xs rs os w)
     → (q q′ : LoopsRooms) (f : answer.Looped) → Loops-enough (length (take a ps′) / 3) (length (take b xs′) / 3) q
     → outcomeOf f q′ ≡ find-loops (take a ps′) (take b xs′) q → Done-along (facesOf (take b xs′)) f q′
-looped-along points faces s ps xs rs w {ps′} {xs′} {rs′} {w′} {a} {b} e q q′ f enough o =
-    done-along (take a ps′) (take b xs′) q q′ f (looped-too points faces s ps xs rs w e q q′ f enough o) o
+looped-along points faces s ps xs rs os w {ps′} {xs′} {rs′} {os′} {w′} {a} {b} e q q′ f enough o =
+    done-along (take a ps′) (take b xs′) q q′ f (looped-too points faces s ps xs rs os w e q q′ f enough o) o

@@ -12,7 +12,7 @@ use Rattle.rows.specs.Region.{Only, Holds}
 use Rattle.rows.proofs.Regions.{only-none, only-next, holds-none, holds-next}
 use Rattle.rules.specs.Lists.{below, filter, count}
 use Rattle.rules.specs.Mesh.{Point, Face, pointsOf, face}
-use Rattle.rules.specs.Float.{Shape, shape, is-repeated, is-thin}
+use Rattle.rules.specs.Float.{Shape, repeats, shape, is-repeated, is-thin}
 use Rattle.rules.specs.Pass1.{repeated1, thin1, marked1}
 use Rattle.rules.proofs.Lists.{count-below}
 use Rattle.rules.proofs.Counting.{count-below-le}
@@ -61,13 +61,18 @@ module _ {ps : List Float} {s : Float} {xs : List ℕ} {n : ℕ} {w₀ w : List 
   pub corners-in : i < n → Corners ps (getD xs (3 * i) 0) (getD xs (3 * i + 1) 0) (getD xs (3 * i + 2) 0)
   corners-in h = record { a-in = p .stand .inside (3 * i) (omega arith); b-in = p .stand .inside (3 * i + 1) (omega arith); c-in = p .stand .inside (3 * i + 2) (omega arith) }
 
+  -- what is measured of three corners is the shape of face i, whatever its origin is
+  measured : {x : Shape} → i < n → x ≡ shape s (pointsOf ps) (faceOf (getD xs (3 * i) 0) (getD xs (3 * i + 1) 0) (getD xs (3 * i + 2) 0)) → x ≡ shape s (pointsOf ps) (face (standing xs n) i)
+  unfolding shape repeats
+  measured h d = d ∙ ap (shape s (pointsOf ps)) (sym (standing-face xs n (p .stand .fit) i h))
+
   -- a turn flags one face more, and counts it if it repeats a corner
   pub again :
       {x : Shape} {f g : ℕ} → i < n → x ≡ shape s (pointsOf ps) (faceOf (getD xs (3 * i) 0) (getD xs (3 * i + 1) 0) (getD xs (3 * i + 2) 0))
       → f ≡ flagOf (is-repeated x || is-thin x) → g ≡ flagOf (is-repeated x) → Marked ps s xs n w₀ (set w i f) (k + g) (i + 1)
   again {x} {f} {g} h d e c =
       let t = turn h in
-      let y : x ≡ shape s (pointsOf ps) (face (standing xs n) i) = d ∙ ap (shape s (pointsOf ps)) (sym (standing-face xs n (p .stand .fit) i h)) in
+      let y = measured h d in
       record {
         at-most = omega arith;
         repeated = rw (add-one, count-below (repeated1 s (pointsOf ps) (standing xs n)) i) (ap₂ (λ a b. a + b) (v .repeated) (c ∙ ap flagOf (counts s (pointsOf ps) (standing xs n) i y)));

@@ -55,7 +55,7 @@ module _ {ps : List Float} {P : ℕ} {xs : List ℕ} {n : ℕ} {w : List ℕ} (p
             let l = g .only .long in
             let b = length-take-le (3 * n) xs′ (omega (arith, p .fit)) in
             ext-getD 0 (take (3 * n) xs′) (map f (take (3 * n) xs)) (b ∙ sym (length-map (take (3 * n) xs) f ∙ a)) (λ i h. entry i (omega arith))
-            ∙ sym (flat-renamed f (take (3 * n) xs) (omega arith))
+            ∙ sym (flat-renamed f 0 (take (3 * n) xs) (omega arith))
           where
             f : ℕ → ℕ
             f = number (standing xs n)

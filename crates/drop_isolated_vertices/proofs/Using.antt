@@ -82,7 +82,7 @@ module _ {xs : List ℕ} {n P : ℕ} {w₀ w : List ℕ} {i : ℕ} (p : UseAsks 
       let l = length-take-le (3 * n) xs (p .fit) in
       record {
         only = v .only;
-        flags = record { each = λ u a. v .flags .each u a ∙ ap (λ j. flag xs w₀ j u) e ∙ ap (λ b. cond b 0 (getD w₀ u 0)) (sym (used-flat u (take (3 * n) xs) (omega arith))) };
+        flags = record { each = λ u a. v .flags .each u a ∙ ap (λ j. flag xs w₀ j u) e ∙ ap (λ b. cond b 0 (getD w₀ u 0)) (sym (used-flat u 0 (take (3 * n) xs) (omega arith))) };
       }
 
 -- all flags 1, and then those of used points cleared: the flags of the points that no face uses

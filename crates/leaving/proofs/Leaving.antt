@@ -1,6 +1,6 @@
 -- Rows kept by flags, in the words of the rules: where the flags say what leaves, the rows at the front are the faces, or the points, that `leave` leaves.
 -- Assumes nothing.
-use mathlib.Core.Path.{_≡_, refl, sym, ap, _∙_}
+use mathlib.Core.Path.{_≡_, refl, sym, ap, ap₂, _∙_}
 use mathlib.Core.Bool.{Bool, true, false, not, cond}
 use mathlib.Core.List.{List, [], _∷_, _++_, map}
 use Prim.Native.Nat.{ℕ, zero, suc, _+_, _*_, _≤_, _<_}
@@ -12,7 +12,7 @@ use lib.Seq.{drop-cons, getD-take, length-take-le}
 use lib.Ieee.{Float, nan}
 use Rattle.rows.specs.Region.{part}
 use Rattle.rows.specs.Filter.{keep}
-use Rattle.rows.specs.Retain.{upTo, rowsOf, keptOf, RetainGives}
+use Rattle.rows.specs.Retain.{upTo, rowsOf, keptOf, RetainGives, OnesGive}
 use Rattle.rows.proofs.FilterLaws as rows-laws
 use Rattle.rows.proofs.FilterLaws.{All, all-filter, all-append}
 use Rattle.rules.specs.Lists.{below, filter, count, each, leave}
@@ -101,7 +101,23 @@ faces-left {xs} {w} {flags} {n} marked fit f g =
     g .rows
     ∙ rows-each xs corners (face fs) n (face-row xs n fit) (keptOf w flags n) (kept-below w flags n)
     ∙ ap (λ is. each corners (map (face fs) is)) (kept-places marked f n (omega arith))
-    ∙ sym (ap (each corners) (leave-places marked fs (record { a = 0; b = 0; c = 0 }) ∙ ap (λ k. map (face fs) (stay-at marked k)) (length-faces-take xs n fit)))
+    ∙ sym (ap (each corners) (leave-places marked fs (record { a = 0; b = 0; c = 0; origin = 0 }) ∙ ap (λ k. map (face fs) (stay-at marked k)) (length-faces-take xs n fit)))
+
+-- ---- origins
+
+-- the front of n entries has the same ones below n
+ones-front : (os : List ℕ) (n : ℕ) (is : List ℕ) → All (λ i. i < n) is → map (λ i. getD os i 0) is ≡ map (λ i. getD (take n os) i 0) is
+ones-front os n [] a = refl
+ones-front os n (i ∷ is) a = ap₂ (λ x l. x ∷ l) (sym (getD-take n os i 0 (a .0))) (ones-front os n is (a .1))
+
+-- the origins at the front are those of the faces that stay
+pub origins-left :
+    {os w : List ℕ} {flags n : ℕ} {os′ : List ℕ} {r : ℕ} (marked : ℕ → Bool) → n ≤ length os → Flagged w flags n marked → OnesGive os w flags n os′ r
+    → take r os′ ≡ leave marked (take n os)
+origins-left {os} {w} {flags} {n} marked fit f g =
+    g .ones ∙ ones-front os n (keptOf w flags n) (kept-below w flags n)
+    ∙ ap (map (λ i. getD (take n os) i 0)) (kept-places marked f n (omega arith))
+    ∙ sym (leave-places marked (take n os) 0 ∙ ap (λ k. map (λ i. getD (take n os) i 0) (stay-at marked k)) (length-take-le n os fit))
 
 -- ---- points
 

@@ -7,7 +7,7 @@ use lib.ListN.{length, getD, take}
 use lib.Ieee.{Float}
 use Rattle.rows.specs.Region.{Only, Holds}
 use Rattle.rules.specs.Lists.{below, count, leave}
-use Rattle.rules.specs.Mesh.{Face, facesOf, flatFaces, pointsOf}
+use Rattle.rules.specs.Mesh.{Face, facesOf, facesWith, flatFaces, pointsOf}
 use Rattle.rules.specs.Refusal.{most-points, most-faces}
 use Rattle.rules.specs.State.{State}
 
@@ -15,7 +15,11 @@ use Rattle.rules.specs.State.{State}
 abbrev pub standing : List ℕ → ℕ → List Face
 standing xs n = facesOf (take (3 * n) xs)
 
--- the state of a repair: p points and n faces at the front of their rooms, and a report
+-- the same with their origins, which stand at the front of os
+abbrev pub carried : List ℕ → List ℕ → ℕ → List Face
+carried xs os n = facesWith (take (3 * n) xs) (take n os)
+
+-- the state of a repair, each face its own origin: p points and n faces at the front of their rooms, and a report
 abbrev pub stateOf : List Float → ℕ → List ℕ → ℕ → List ℕ → State
 stateOf ps p xs n report = record { points = pointsOf (take (3 * p) ps); faces = standing xs n; report = report }
 
@@ -42,8 +46,16 @@ pub record MarkGives (marked : ℕ → Bool) (taken n : ℕ) (w w′ : List ℕ)
   pub only : Only 0 taken w w′
   pub flags : Flagged w′ marks n marked
 
--- Marked ones of the n faces have left together: r stay, in order, at the front. Nothing beyond the n faces is changed.
-pub record LeaveGives (marked : ℕ → Bool) (xs : List ℕ) (n : ℕ) (xs′ : List ℕ) (r : ℕ) : Type 0 where
+-- n faces, an origin for each, and a flag for each
+pub record LeaveAsks (xs os w : List ℕ) (marks n : ℕ) : Type 0 where
+  pub faces-fit : 3 * n ≤ length xs
+  pub origins-fit : n ≤ length os
+  pub flags-fit : marks + n ≤ length w
+
+-- Marked ones of the n faces have left together, with their origins: r stay, in order, at the front. Nothing beyond the n faces is changed.
+pub record LeaveGives (marked : ℕ → Bool) (xs os : List ℕ) (n : ℕ) (xs′ os′ : List ℕ) (r : ℕ) : Type 0 where
   pub faces : take (3 * r) xs′ ≡ flatFaces (leave marked (standing xs n))
+  pub origins : take r os′ ≡ leave marked (take n os)
   pub number : r + count marked (below n) ≡ n
   pub only-faces : Only 0 (3 * n) xs xs′
+  pub only-origins : Only 0 n os os′

@@ -33,6 +33,7 @@ pub record Going (pass : State → State) (N : ℕ) (m₀ : Lists) (h : Report) 
   pub faces-fit : m .n ≤ m₀ .n
   pub only-points : OnlyOf nan 0 (3 * (m₀ .p + 3 * m₀ .n)) (m₀ .points) (m .points)
   pub only-faces : Only 0 (3 * m₀ .n) (m₀ .faces) (m .faces)
+  pub only-origins : Only 0 (m₀ .n) (m₀ .origins) (m .origins)
   pub only-work : Only 0 (stated m₀) (m₀ .work) (m .work)
 
 -- one pass more
@@ -50,6 +51,7 @@ turn {pass₁ = pass₁} {h = h} {m′ = m′} v g e few l k =
       faces-fit = omega (arith, g .fewer, v .faces-fit);
       only-points = only-both (v .only-points) (only-more (omega arith) (omega arith) (g .only-points));
       only-faces = only-both (v .only-faces) (only-more (omega arith) (omega (arith, v .faces-fit)) (g .only-faces));
+      only-origins = only-both (v .only-origins) (only-more (omega arith) (omega (arith, v .faces-fit)) (g .only-origins));
       only-work = only-both (v .only-work) (only-more (omega arith) (omega arith) (g .only-work));
     }
 
@@ -74,10 +76,12 @@ module _ {m₀ : Lists} (a : Stands (stated m₀) m₀) where
         let f = a .stand in
         let lp = v .only-points .long in
         let lf = v .only-faces .long in
+        let lo = v .only-origins .long in
         let lw = v .only-work .long in
         let k = v .faces-fit in (
           record {
             stand = record { points = omega (arith, f .points); few = omega (arith, f .few); fit = omega (arith, f .fit); inside = v .inside; room = omega (arith, f .room) };
+            own = omega (arith, a .own);
             room = omega (arith, a .room);
           },
           sums-fit l,
@@ -90,15 +94,19 @@ module _ {m₀ : Lists} (a : Stands (stated m₀) m₀) where
         let f = a .stand in
         let lp = v .only-points .long in
         let lf = v .only-faces .long in
+        let lo = v .only-origins .long in
         let lw = v .only-work .long in
         let k = v .faces-fit in
         let q = v .points-fit in (
           record {
-            points-fit = omega (arith, a .room);
-            fit = omega (arith, f .fit);
-            inside = v .inside;
-            room = omega (arith, f .room);
-            few = omega (arith, f .points, f .few);
+            stand = record {
+              points-fit = omega (arith, a .room);
+              fit = omega (arith, f .fit);
+              inside = v .inside;
+              room = omega (arith, f .room);
+              few = omega (arith, f .points, f .few);
+            };
+            own = omega (arith, a .own);
           },
           sums-fit l,
         )
@@ -124,14 +132,14 @@ module _ {m₀ : Lists} (a : Stands (stated m₀) m₀) where
     after6 z = optional (bit 5 o) six.pass6 (after5 z)
 
     -- what a pass has left in the rooms
-    abbrev pub leftBy : Passed → List Float → List ℕ → List ℕ → Lists
-    leftBy x ps xs w = lists ps (x .points) xs (x .faces) w
+    abbrev pub leftBy : Passed → List Float → List ℕ → List ℕ → List ℕ → Lists
+    leftBy x ps xs os w = lists ps (x .points) xs os (x .faces) w
 
     -- before pass 1 the report is new
-    abbrev pub At1 : Report → List Float → List ℕ → List ℕ → Type 0
-    At1 h ps xs w = Going (λ z. z) 1 m₀ h (lists ps (m₀ .p) xs (m₀ .n) w)
+    abbrev pub At1 : Report → List Float → List ℕ → List ℕ → List ℕ → Type 0
+    At1 h ps xs os w = Going (λ z. z) 1 m₀ h (lists ps (m₀ .p) xs os (m₀ .n) w)
 
-    pub begins : (h : Report) → h ≡ empty → At1 h (m₀ .points) (m₀ .faces) (m₀ .work)
+    pub begins : (h : Report) → h ≡ empty → At1 h (m₀ .points) (m₀ .faces) (m₀ .origins) (m₀ .work)
     begins h e =
         record {
           state = ap (λ r. stateIn m₀ (countsOf r)) e;
@@ -141,87 +149,88 @@ module _ {m₀ : Lists} (a : Stands (stated m₀) m₀) where
           faces-fit = omega arith;
           only-points = only-none 0 (3 * (m₀ .p + 3 * m₀ .n)) (m₀ .points);
           only-faces = only-none 0 (3 * m₀ .n) (m₀ .faces);
+          only-origins = only-none 0 (m₀ .n) (m₀ .origins);
           only-work = only-none 0 (stated m₀) (m₀ .work);
         }
 
     -- before each later one what the last one left stands, and until pass 5 as many points as were given
-    abbrev pub At2 : Passed → Report → List Float → List ℕ → List ℕ → Type 0
-    At2 x h ps xs w = (x .points ≡ m₀ .p) × Going after1 (1 + K + K) m₀ h (leftBy x ps xs w)
+    abbrev pub At2 : Passed → Report → List Float → List ℕ → List ℕ → List ℕ → Type 0
+    At2 x h ps xs os w = (x .points ≡ m₀ .p) × Going after1 (1 + K + K) m₀ h (leftBy x ps xs os w)
 
-    abbrev pub At3 : Passed → Report → List Float → List ℕ → List ℕ → Type 0
-    At3 x h ps xs w = (x .points ≡ m₀ .p) × Going after2 (1 + K + K + K) m₀ h (leftBy x ps xs w)
+    abbrev pub At3 : Passed → Report → List Float → List ℕ → List ℕ → List ℕ → Type 0
+    At3 x h ps xs os w = (x .points ≡ m₀ .p) × Going after2 (1 + K + K + K) m₀ h (leftBy x ps xs os w)
 
-    abbrev pub At4 : Passed → Report → List Float → List ℕ → List ℕ → Type 0
-    At4 x h ps xs w = (x .points ≡ m₀ .p) × Going after3 (1 + K + K + K + K + K) m₀ h (leftBy x ps xs w)
+    abbrev pub At4 : Passed → Report → List Float → List ℕ → List ℕ → List ℕ → Type 0
+    At4 x h ps xs os w = (x .points ≡ m₀ .p) × Going after3 (1 + K + K + K + K + K) m₀ h (leftBy x ps xs os w)
 
-    abbrev pub At5 : Passed → Report → List Float → List ℕ → List ℕ → Type 0
-    At5 x h ps xs w = (x .points ≡ m₀ .p) × Going after4 (1 + K + K + K + K + K + K + K + K) m₀ h (leftBy x ps xs w)
+    abbrev pub At5 : Passed → Report → List Float → List ℕ → List ℕ → List ℕ → Type 0
+    At5 x h ps xs os w = (x .points ≡ m₀ .p) × Going after4 (1 + K + K + K + K + K + K + K + K) m₀ h (leftBy x ps xs os w)
 
-    abbrev pub At6 : Passed → Report → List Float → List ℕ → List ℕ → Type 0
-    At6 x h ps xs w = Going after5 (1 + K + K + K + K + K + K + K + K + K + K) m₀ h (leftBy x ps xs w)
+    abbrev pub At6 : Passed → Report → List Float → List ℕ → List ℕ → List ℕ → Type 0
+    At6 x h ps xs os w = Going after5 (1 + K + K + K + K + K + K + K + K + K + K) m₀ h (leftBy x ps xs os w)
 
-    abbrev pub At7 : Passed → Report → List Float → List ℕ → List ℕ → Type 0
-    At7 x h ps xs w = Going after6 (1 + K + K + K + K + K + K + K + K + K + K + K) m₀ h (leftBy x ps xs w)
+    abbrev pub At7 : Passed → Report → List Float → List ℕ → List ℕ → List ℕ → Type 0
+    At7 x h ps xs os w = Going after6 (1 + K + K + K + K + K + K + K + K + K + K + K) m₀ h (leftBy x ps xs os w)
 
-    module _ {h : Report} {ps : List Float} {xs w : List ℕ} where
+    module _ {h : Report} {ps : List Float} {xs os w : List ℕ} where
       -- each pass may start
-      pub ready1 : At1 h ps xs w → Ready h (lists ps (m₀ .p) xs (m₀ .n) w)
+      pub ready1 : At1 h ps xs os w → Ready h (lists ps (m₀ .p) xs os (m₀ .n) w)
       ready1 v = stands v refl (omega arith)
 
-      pub ready2 : (x : Passed) → At2 x h ps xs w → Ready h (leftBy x ps xs w)
+      pub ready2 : (x : Passed) → At2 x h ps xs os w → Ready h (leftBy x ps xs os w)
       ready2 x v = stands (v .1) (v .0) (omega arith)
 
-      pub ready3 : (x : Passed) → At3 x h ps xs w → Ready h (leftBy x ps xs w)
+      pub ready3 : (x : Passed) → At3 x h ps xs os w → Ready h (leftBy x ps xs os w)
       ready3 x v = stands (v .1) (v .0) (omega arith)
 
-      pub ready4 : (x : Passed) → At4 x h ps xs w → Ready h (leftBy x ps xs w)
+      pub ready4 : (x : Passed) → At4 x h ps xs os w → Ready h (leftBy x ps xs os w)
       ready4 x v = stands (v .1) (v .0) (omega arith)
 
-      pub ready5 : (x : Passed) → At5 x h ps xs w → Ready h (leftBy x ps xs w)
+      pub ready5 : (x : Passed) → At5 x h ps xs os w → Ready h (leftBy x ps xs os w)
       ready5 x v = stands (v .1) (v .0) (omega arith)
 
-      pub ready6 : (x : Passed) → At6 x h ps xs w → StandsLast (leftBy x ps xs w) × CountsBelow (2 ^ 64 - (x .points + 3 * x .faces)) h
+      pub ready6 : (x : Passed) → At6 x h ps xs os w → StandsLast (leftBy x ps xs os w) × CountsBelow (2 ^ 64 - (x .points + 3 * x .faces)) h
       ready6 x v = stands-last v (omega arith)
 
-      module _ {h′ : Report} {ps′ : List Float} {xs′ w′ : List ℕ} {r : Passed} where
+      module _ {h′ : Report} {ps′ : List Float} {xs′ os′ w′ : List ℕ} {r : Passed} where
         -- and leaves what the next one starts from
 
-        pub next1 : At1 h ps xs w → Pass1 o s (lists ps (m₀ .p) xs (m₀ .n) w) (leftBy r ps′ xs′ w′) r × (h′ ≡ added thins (r .dropped) (added repeateds (r .found) h)) → At2 r h′ ps′ xs′ w′
+        pub next1 : At1 h ps xs os w → Pass1 o s (lists ps (m₀ .p) xs os (m₀ .n) w) (leftBy r ps′ xs′ os′ w′) r × (h′ ≡ added thins (r .dropped) (added repeateds (r .found) h)) → At2 r h′ ps′ xs′ os′ w′
         unfolding more place work-room
         next1 v e =
             let g = e .0 in
             let k = most-added v in
             (omega (arith, g .not-below, g .not-above), turn v g (ap countsOf (e .1)) (subst (CountsBelow (1 + K + K)) (sym (e .1)) (grows thins (omega (arith, g .few-dropped)) (grows repeateds (omega (arith, g .few-found)) (v .few)))) (omega (arith)) (omega (arith)))
 
-        pub next2 : (x : Passed) → At2 x h ps xs w → Pass2 o s (leftBy x ps xs w) (leftBy r ps′ xs′ w′) r × (h′ ≡ added duplicates (r .dropped) h) → At3 r h′ ps′ xs′ w′
+        pub next2 : (x : Passed) → At2 x h ps xs os w → Pass2 o s (leftBy x ps xs os w) (leftBy r ps′ xs′ os′ w′) r × (h′ ≡ added duplicates (r .dropped) h) → At3 r h′ ps′ xs′ os′ w′
         unfolding more place work-room
         next2 x v e =
             let g = e .0 in
             let k = most-added (v .1) in
             (omega (arith, g .not-below, g .not-above, v .0), turn (v .1) g (ap countsOf (e .1)) (subst (CountsBelow (1 + K + K + K)) (sym (e .1)) (grows duplicates (omega (arith, g .few-dropped)) (v .1 .few))) (omega (arith, v .0, v .1 .faces-fit)) (omega (arith, v .0, v .1 .faces-fit)))
 
-        pub next3 : (x : Passed) → At3 x h ps xs w → Pass3 o s (leftBy x ps xs w) (leftBy r ps′ xs′ w′) r × (h′ ≡ added dropped-at-edges (r .dropped) (added crowded-edges (r .found) h)) → At4 r h′ ps′ xs′ w′
+        pub next3 : (x : Passed) → At3 x h ps xs os w → Pass3 o s (leftBy x ps xs os w) (leftBy r ps′ xs′ os′ w′) r × (h′ ≡ added dropped-at-edges (r .dropped) (added crowded-edges (r .found) h)) → At4 r h′ ps′ xs′ os′ w′
         unfolding more place work-room
         next3 x v e =
             let g = e .0 in
             let k = most-added (v .1) in
             (omega (arith, g .not-below, g .not-above, v .0), turn (v .1) g (ap countsOf (e .1)) (subst (CountsBelow (1 + K + K + K + K + K)) (sym (e .1)) (grows dropped-at-edges (omega (arith, g .few-dropped)) (grows crowded-edges (omega (arith, g .few-found)) (v .1 .few)))) (omega (arith, v .0, v .1 .faces-fit)) (omega (arith, v .0, v .1 .faces-fit)))
 
-        pub next4 : (x : Passed) → At4 x h ps xs w → Pass4 o s (leftBy x ps xs w) (leftBy r ps′ xs′ w′) r × (h′ ≡ added dropped-for-direction (r .dropped) (added components (r .found) (added reoriented (r .changed) h))) → At5 r h′ ps′ xs′ w′
+        pub next4 : (x : Passed) → At4 x h ps xs os w → Pass4 o s (leftBy x ps xs os w) (leftBy r ps′ xs′ os′ w′) r × (h′ ≡ added dropped-for-direction (r .dropped) (added components (r .found) (added reoriented (r .changed) h))) → At5 r h′ ps′ xs′ os′ w′
         unfolding more place work-room
         next4 x v e =
             let g = e .0 in
             let k = most-added (v .1) in
             (omega (arith, g .not-below, g .not-above, v .0), turn (v .1) g (ap countsOf (e .1)) (subst (CountsBelow (1 + K + K + K + K + K + K + K + K)) (sym (e .1)) (grows dropped-for-direction (omega (arith, g .few-dropped)) (grows components (omega (arith, g .few-found)) (grows reoriented (omega (arith, g .few-changed)) (v .1 .few))))) (omega (arith, v .0, v .1 .faces-fit)) (omega (arith, v .0, v .1 .faces-fit)))
 
-        pub next5 : (x : Passed) → At5 x h ps xs w → Pass5 o s (leftBy x ps xs w) (leftBy r ps′ xs′ w′) r × (h′ ≡ added points-added (r .changed) (added vertices-split (r .found) h)) → At6 r h′ ps′ xs′ w′
+        pub next5 : (x : Passed) → At5 x h ps xs os w → Pass5 o s (leftBy x ps xs os w) (leftBy r ps′ xs′ os′ w′) r × (h′ ≡ added points-added (r .changed) (added vertices-split (r .found) h)) → At6 r h′ ps′ xs′ os′ w′
         unfolding more place work-room
         next5 x v e =
             let g = e .0 in
             let k = most-added (v .1) in
             turn (v .1) g (ap countsOf (e .1)) (subst (CountsBelow (1 + K + K + K + K + K + K + K + K + K + K)) (sym (e .1)) (grows points-added (omega (arith, g .few-changed)) (grows vertices-split (omega (arith, g .few-found)) (v .1 .few)))) (omega (arith, v .0, v .1 .faces-fit)) (omega (arith, v .0, v .1 .faces-fit))
 
-        pub next6 : (x : Passed) → At6 x h ps xs w → Pass6 o s (leftBy x ps xs w) (leftBy r ps′ xs′ w′) r × (h′ ≡ added isolated (r .dropped) h) → At7 r h′ ps′ xs′ w′
+        pub next6 : (x : Passed) → At6 x h ps xs os w → Pass6 o s (leftBy x ps xs os w) (leftBy r ps′ xs′ os′ w′) r × (h′ ≡ added isolated (r .dropped) h) → At7 r h′ ps′ xs′ os′ w′
         unfolding more place work-room
         next6 x v e =
             let g = e .0 in
@@ -229,7 +238,7 @@ module _ {m₀ : Lists} (a : Stands (stated m₀) m₀) where
             turn v g (ap countsOf (e .1)) (subst (CountsBelow (1 + K + K + K + K + K + K + K + K + K + K + K)) (sym (e .1)) (grows isolated (omega (arith, g .few-dropped)) (v .few))) (omega (arith, v .points-fit)) (omega (arith, v .points-fit))
 
       -- after the last one the rules' passes are done
-      pub ends : (x : Passed) → At7 x h ps xs w → TurnsGive s o m₀ (leftBy x ps xs w) (record { points = x .points; faces = x .faces; report = h })
+      pub ends : (x : Passed) → At7 x h ps xs os w → TurnsGive s o m₀ (leftBy x ps xs os w) (record { points = x .points; faces = x .faces; report = h })
       unfolding passes
       ends x v =
           record {
@@ -239,5 +248,6 @@ module _ {m₀ : Lists} (a : Stands (stated m₀) m₀) where
             faces-fit = v .faces-fit;
             only-points = v .only-points;
             only-faces = v .only-faces;
+            only-origins = v .only-origins;
             only-work = v .only-work;
           }

@@ -22,21 +22,24 @@ pub record TurnsGive (s : Float) (options : ℕ) (m m′ : Lists) (r : Mended) :
   pub faces-fit : m′ .n ≤ m .n
   pub only-points : OnlyOf nan 0 (3 * (m .p + 3 * m .n)) (m .points) (m′ .points)
   pub only-faces : Only 0 (3 * m .n) (m .faces) (m′ .faces)
+  pub only-origins : Only 0 (m .n) (m .origins) (m′ .origins)
   pub only-work : Only 0 (stated m) (m .work) (m′ .work)
 
 -- accepted points and faces, and the rooms of a repair
-pub record MendAsks (points : List Float) (faces : List ℕ) (ps : List Float) (xs w : List ℕ) : Type 0 where
+pub record MendAsks (points : List Float) (faces : List ℕ) (ps : List Float) (xs os w : List ℕ) : Type 0 where
   pub input : Accepted points faces
   pub room-points : 3 * (length points / 3 + 3 * (length faces / 3)) ≤ length ps
   pub room-faces : 3 * (length faces / 3) ≤ length xs
+  pub room-origins : length faces / 3 ≤ length os
   pub room-work : work-room (length points / 3) (length faces / 3) ≤ length w
 
--- the rules' repair stands in m′, and nothing beyond the stated rooms ps, xs and w is changed
-pub record MendGives (points : List Float) (faces : List ℕ) (s : Float) (options : ℕ) (ps : List Float) (xs w : List ℕ) (m′ : Lists) (r : Mended) : Type 0 where
+-- the rules' repair stands in m′, and nothing beyond the stated rooms ps, xs, os and w is changed
+pub record MendGives (points : List Float) (faces : List ℕ) (s : Float) (options : ℕ) (ps : List Float) (xs os w : List ℕ) (m′ : Lists) (r : Mended) : Type 0 where
   pub state : stateIn m′ (countsOf (r .report)) ≡ repaired s options (pointsOf points) (facesOf faces)
   pub few : CountsBelow (2 ^ 32) (r .report)
   pub points-fit : m′ .p ≤ length points / 3 + 3 * (length faces / 3)
   pub faces-fit : m′ .n ≤ length faces / 3
   pub only-points : OnlyOf nan 0 (3 * (length points / 3 + 3 * (length faces / 3))) ps (m′ .points)
   pub only-faces : Only 0 (3 * (length faces / 3)) xs (m′ .faces)
+  pub only-origins : Only 0 (length faces / 3) os (m′ .origins)
   pub only-work : Only 0 (work-room (length points / 3) (length faces / 3)) w (m′ .work)

@@ -56,21 +56,22 @@ pub fn drop_degenerate(
     points: &mut [f64],
     p: usize,
     faces: &mut [u32],
+    origins: &mut [u32],
     n: usize,
     work: &mut [u32],
 ) -> Passed
     requires { ⌜
-        (let before = lists (now points) p (now faces) n (now work) in
+        (let before = lists (now points) p (now faces) (now origins) n (now work) in
         Stands (stated before) before × CountsBelow (2 ^ 64 - (p + 3 * n)) (now report))
         ⌝ }
     ensures { λ r. ⌜
-        (let before = lists (now (points .entry)) p (now (faces .entry)) n (now (work .entry)) in
-        let after = lists (now (points .exit)) (r .points) (now (faces .exit)) (r .faces) (now (work .exit)) in
+        (let before = lists (now (points .entry)) p (now (faces .entry)) (now (origins .entry)) n (now (work .entry)) in
+        let after = lists (now (points .exit)) (r .points) (now (faces .exit)) (now (origins .exit)) (r .faces) (now (work .exit)) in
         Pass1 options s before after r
         × (now (report .exit) ≡ added thins (r .dropped) (added repeateds (r .found) (now (report .entry)))))
         ⌝ }
 {
-    let r = passes::pass1(options, s, points, p, faces, n, work);
+    let r = passes::pass1(options, s, points, p, faces, origins, n, work);
     report.repeated_removed = report.repeated_removed + r.found;
     report.thin_removed = report.thin_removed + r.dropped;
     r
@@ -84,21 +85,22 @@ pub fn drop_duplicate_faces(
     points: &mut [f64],
     p: usize,
     faces: &mut [u32],
+    origins: &mut [u32],
     n: usize,
     work: &mut [u32],
 ) -> Passed
     requires { ⌜
-        (let before = lists (now points) p (now faces) n (now work) in
+        (let before = lists (now points) p (now faces) (now origins) n (now work) in
         Stands (stated before) before × CountsBelow (2 ^ 64 - (p + 3 * n)) (now report))
         ⌝ }
     ensures { λ r. ⌜
-        (let before = lists (now (points .entry)) p (now (faces .entry)) n (now (work .entry)) in
-        let after = lists (now (points .exit)) (r .points) (now (faces .exit)) (r .faces) (now (work .exit)) in
+        (let before = lists (now (points .entry)) p (now (faces .entry)) (now (origins .entry)) n (now (work .entry)) in
+        let after = lists (now (points .exit)) (r .points) (now (faces .exit)) (now (origins .exit)) (r .faces) (now (work .exit)) in
         Pass2 options s before after r
         × (now (report .exit) ≡ added duplicates (r .dropped) (now (report .entry))))
         ⌝ }
 {
-    let r = passes::pass2(options, s, points, p, faces, n, work);
+    let r = passes::pass2(options, s, points, p, faces, origins, n, work);
     report.duplicate_faces_removed = report.duplicate_faces_removed + r.dropped;
     r
 }
@@ -111,21 +113,22 @@ pub fn resolve_nonmanifold_edges(
     points: &mut [f64],
     p: usize,
     faces: &mut [u32],
+    origins: &mut [u32],
     n: usize,
     work: &mut [u32],
 ) -> Passed
     requires { ⌜
-        (let before = lists (now points) p (now faces) n (now work) in
+        (let before = lists (now points) p (now faces) (now origins) n (now work) in
         Stands (stated before) before × CountsBelow (2 ^ 64 - (p + 3 * n)) (now report))
         ⌝ }
     ensures { λ r. ⌜
-        (let before = lists (now (points .entry)) p (now (faces .entry)) n (now (work .entry)) in
-        let after = lists (now (points .exit)) (r .points) (now (faces .exit)) (r .faces) (now (work .exit)) in
+        (let before = lists (now (points .entry)) p (now (faces .entry)) (now (origins .entry)) n (now (work .entry)) in
+        let after = lists (now (points .exit)) (r .points) (now (faces .exit)) (now (origins .exit)) (r .faces) (now (work .exit)) in
         Pass3 options s before after r
         × (now (report .exit) ≡ added dropped-at-edges (r .dropped) (added crowded-edges (r .found) (now (report .entry)))))
         ⌝ }
 {
-    let r = passes::pass3(options, s, points, p, faces, n, work);
+    let r = passes::pass3(options, s, points, p, faces, origins, n, work);
     report.nonmanifold_edges = report.nonmanifold_edges + r.found;
     report.faces_dropped_at_nonmanifold = report.faces_dropped_at_nonmanifold + r.dropped;
     r
@@ -139,21 +142,22 @@ pub fn orient_consistently(
     points: &mut [f64],
     p: usize,
     faces: &mut [u32],
+    origins: &mut [u32],
     n: usize,
     work: &mut [u32],
 ) -> Passed
     requires { ⌜
-        (let before = lists (now points) p (now faces) n (now work) in
+        (let before = lists (now points) p (now faces) (now origins) n (now work) in
         Stands (stated before) before × CountsBelow (2 ^ 64 - (p + 3 * n)) (now report))
         ⌝ }
     ensures { λ r. ⌜
-        (let before = lists (now (points .entry)) p (now (faces .entry)) n (now (work .entry)) in
-        let after = lists (now (points .exit)) (r .points) (now (faces .exit)) (r .faces) (now (work .exit)) in
+        (let before = lists (now (points .entry)) p (now (faces .entry)) (now (origins .entry)) n (now (work .entry)) in
+        let after = lists (now (points .exit)) (r .points) (now (faces .exit)) (now (origins .exit)) (r .faces) (now (work .exit)) in
         Pass4 options s before after r
         × (now (report .exit) ≡ added dropped-for-direction (r .dropped) (added components (r .found) (added reoriented (r .changed) (now (report .entry))))))
         ⌝ }
 {
-    let r = passes::pass4(options, s, points, p, faces, n, work);
+    let r = passes::pass4(options, s, points, p, faces, origins, n, work);
     report.faces_reoriented = report.faces_reoriented + r.changed;
     report.nonorientable_components = report.nonorientable_components + r.found;
     report.faces_dropped_for_orientation = report.faces_dropped_for_orientation + r.dropped;
@@ -168,21 +172,22 @@ pub fn split_bowtie_vertices(
     points: &mut [f64],
     p: usize,
     faces: &mut [u32],
+    origins: &mut [u32],
     n: usize,
     work: &mut [u32],
 ) -> Passed
     requires { ⌜
-        (let before = lists (now points) p (now faces) n (now work) in
+        (let before = lists (now points) p (now faces) (now origins) n (now work) in
         Stands (stated before) before × CountsBelow (2 ^ 64 - (p + 3 * n)) (now report))
         ⌝ }
     ensures { λ r. ⌜
-        (let before = lists (now (points .entry)) p (now (faces .entry)) n (now (work .entry)) in
-        let after = lists (now (points .exit)) (r .points) (now (faces .exit)) (r .faces) (now (work .exit)) in
+        (let before = lists (now (points .entry)) p (now (faces .entry)) (now (origins .entry)) n (now (work .entry)) in
+        let after = lists (now (points .exit)) (r .points) (now (faces .exit)) (now (origins .exit)) (r .faces) (now (work .exit)) in
         Pass5 options s before after r
         × (now (report .exit) ≡ added points-added (r .changed) (added vertices-split (r .found) (now (report .entry)))))
         ⌝ }
 {
-    let r = passes::pass5(options, s, points, p, faces, n, work);
+    let r = passes::pass5(options, s, points, p, faces, origins, n, work);
     report.bowtie_vertices_split = report.bowtie_vertices_split + r.found;
     report.points_added_by_splitting = report.points_added_by_splitting + r.changed;
     r
@@ -196,21 +201,22 @@ pub fn drop_isolated_vertices(
     points: &mut [f64],
     p: usize,
     faces: &mut [u32],
+    origins: &mut [u32],
     n: usize,
     work: &mut [u32],
 ) -> Passed
     requires { ⌜
-        (let before = lists (now points) p (now faces) n (now work) in
+        (let before = lists (now points) p (now faces) (now origins) n (now work) in
         StandsLast before × CountsBelow (2 ^ 64 - (p + 3 * n)) (now report))
         ⌝ }
     ensures { λ r. ⌜
-        (let before = lists (now (points .entry)) p (now (faces .entry)) n (now (work .entry)) in
-        let after = lists (now (points .exit)) (r .points) (now (faces .exit)) (r .faces) (now (work .exit)) in
+        (let before = lists (now (points .entry)) p (now (faces .entry)) (now (origins .entry)) n (now (work .entry)) in
+        let after = lists (now (points .exit)) (r .points) (now (faces .exit)) (now (origins .exit)) (r .faces) (now (work .exit)) in
         Pass6 options s before after r
         × (now (report .exit) ≡ added isolated (r .dropped) (now (report .entry))))
         ⌝ }
 {
-    let r = passes::pass6(options, s, points, p, faces, n, work);
+    let r = passes::pass6(options, s, points, p, faces, origins, n, work);
     report.isolated_vertices_removed = report.isolated_vertices_removed + r.dropped;
     r
 }
@@ -222,18 +228,19 @@ fn in_turn(
     points: &mut [f64],
     p: usize,
     faces: &mut [u32],
+    origins: &mut [u32],
     n: usize,
     work: &mut [u32],
 ) -> Mended
-    requires { ⌜ (let before = lists (now points) p (now faces) n (now work) in Stands (stated before) before) ⌝ }
+    requires { ⌜ (let before = lists (now points) p (now faces) (now origins) n (now work) in Stands (stated before) before) ⌝ }
     ensures { λ r. ⌜
-        (let before = lists (now (points .entry)) p (now (faces .entry)) n (now (work .entry)) in
-        let after = lists (now (points .exit)) (r .points) (now (faces .exit)) (r .faces) (now (work .exit)) in
+        (let before = lists (now (points .entry)) p (now (faces .entry)) (now (origins .entry)) n (now (work .entry)) in
+        let after = lists (now (points .exit)) (r .points) (now (faces .exit)) (now (origins .exit)) (r .faces) (now (work .exit)) in
         TurnsGive s options before after r)
         ⌝ }
 {
     let mut report = new();
-    let a = drop_degenerate(&mut report, options, s, points, p, faces, n, work);
+    let a = drop_degenerate(&mut report, options, s, points, p, faces, origins, n, work);
     let b = drop_duplicate_faces(
         &mut report,
         options,
@@ -241,6 +248,7 @@ fn in_turn(
         points,
         a.points,
         faces,
+        origins,
         a.faces,
         work,
     );
@@ -251,6 +259,7 @@ fn in_turn(
         points,
         b.points,
         faces,
+        origins,
         b.faces,
         work,
     );
@@ -261,6 +270,7 @@ fn in_turn(
         points,
         c.points,
         faces,
+        origins,
         c.faces,
         work,
     );
@@ -271,6 +281,7 @@ fn in_turn(
         points,
         d.points,
         faces,
+        origins,
         d.faces,
         work,
     );
@@ -281,6 +292,7 @@ fn in_turn(
         points,
         e.points,
         faces,
+        origins,
         e.faces,
         work,
     );
@@ -291,7 +303,7 @@ fn in_turn(
     }
 }
 
-// The six passes, each by its option, from the given lists to those at the front of the rooms.
+// The six passes, each by its option, from the given lists to those at the front of the rooms, where each face has the number that it had in the given list.
 pub fn mend(
     points: &[f64],
     faces: &[u32],
@@ -299,17 +311,19 @@ pub fn mend(
     options: u32,
     out_points: &mut [f64],
     out_faces: &mut [u32],
+    origins: &mut [u32],
     work: &mut [u32],
 ) -> Mended
-    requires { ⌜ MendAsks (now points) (now faces) (now «out_points») (now «out_faces») (now work) ⌝ }
+    requires { ⌜ MendAsks (now points) (now faces) (now «out_points») (now «out_faces») (now origins) (now work) ⌝ }
     ensures { λ r. ⌜
-        (let after = lists (now («out_points» .exit)) (r .points) (now («out_faces» .exit)) (r .faces) (now (work .exit)) in
-        MendGives (now (points .entry)) (now (faces .entry)) s options (now («out_points» .entry)) (now («out_faces» .entry)) (now (work .entry)) after r)
+        (let after = lists (now («out_points» .exit)) (r .points) (now («out_faces» .exit)) (now (origins .exit)) (r .faces) (now (work .exit)) in
+        MendGives (now (points .entry)) (now (faces .entry)) s options (now («out_points» .entry)) (now («out_faces» .entry)) (now (origins .entry)) (now (work .entry)) after r)
         ⌝ }
 {
     let p = points.len() / 3;
     let n = faces.len() / 3;
     rows::copy_points(points, out_points, 3 * p);
     rows::copy_row(faces, out_faces, 3 * n);
-    in_turn(options, s, out_points, p, out_faces, n, work)
+    rows::number(origins, n);
+    in_turn(options, s, out_points, p, out_faces, origins, n, work)
 }

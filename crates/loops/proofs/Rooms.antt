@@ -25,7 +25,7 @@ module _ {w xs : List ℕ} {P next spare : ℕ} {vs es : List ℕ} (q : LoopsAsk
   pub corners-inside : Inside P (facesOf xs)
   unfolding face
   corners-inside =
-      all-from (Corners-below P) (record { a = 0; b = 0; c = 0 }) (facesOf xs)
+      all-from (Corners-below P) (record { a = 0; b = 0; c = 0; origin = 0 }) (facesOf xs)
       (λ i l.
       let h : i < length xs / 3 = omega (arith, length-faces xs) in
       rw (face-in xs i h) (q .inside (3 * i) (omega arith), q .inside (3 * i + 1) (omega arith), q .inside (3 * i + 2) (omega arith)))

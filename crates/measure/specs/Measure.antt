@@ -27,7 +27,7 @@ numberOf thin = 2
 
 -- three point numbers as the rules' face
 abbrev pub faceOf : ℕ → ℕ → ℕ → Face
-faceOf a b c = record { a = a; b = b; c = c }
+faceOf a b c = record { a = a; b = b; c = c; origin = 0 }
 
 -- a, b and c are numbers of points
 pub record Corners (points : List Float) (a b c : ℕ) : Type 0 where

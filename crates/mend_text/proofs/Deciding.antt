@@ -30,6 +30,7 @@ pub record Roomy (r : RepairRooms) : Type 0 where
   pub points : 768 ≤ length (r .out-points)
   pub faces : 192 ≤ length (r .out-faces)
   pub report : report-counts ≤ length (r .report)
+  pub origins : 64 ≤ length (r .origins)
   pub work : 5184 ≤ length (r .work)
 
 -- a last check that finds nothing
@@ -40,14 +41,14 @@ decided-last (ok ∷ cs) = decided-last cs
 decided-last (no n p ∷ cs) = refl
 
 -- refusal 6 is not given
-rooms-ok : (P F : ℕ) (r : RepairRooms) → P ≤ 64 → F ≤ 64 → Roomy r → no6 (repair-rooms P F) (length (r .out-points) ∷ length (r .out-faces) ∷ length (r .report) ∷ length (r .work) ∷ []) ≡ ok
+rooms-ok : (P F : ℕ) (r : RepairRooms) → P ≤ 64 → F ≤ 64 → Roomy r → no6 (repair-rooms P F) (length (r .out-points) ∷ length (r .out-faces) ∷ length (r .report) ∷ length (r .origins) ∷ length (r .work) ∷ []) ≡ ok
 unfolding no6 repair-rooms work-room below
 rooms-ok P F r p f e =
-    at-first-ok 6 (λ k. ltb (getD given k 0) (getD (repair-rooms P F) k 0)) (below 4)
-    (le-ltb (length (r .out-points)) (3 * (P + 3 * F)) (omega (arith, e .points)), (le-ltb (length (r .out-faces)) (3 * F) (omega (arith, e .faces)), (le-ltb (length (r .report)) report-counts (e .report), (le-ltb (length (r .work)) (16 * P + 64 * F + 64) (omega (arith, e .work)), tt))))
+    at-first-ok 6 (λ k. ltb (getD given k 0) (getD (repair-rooms P F) k 0)) (below 5)
+    (le-ltb (length (r .out-points)) (3 * (P + 3 * F)) (omega (arith, e .points)), (le-ltb (length (r .out-faces)) (3 * F) (omega (arith, e .faces)), (le-ltb (length (r .report)) report-counts (e .report), (le-ltb (length (r .origins)) F (omega (arith, e .origins)), (le-ltb (length (r .work)) (16 * P + 64 * F + 64) (omega (arith, e .work)), tt)))))
   where
     given : List ℕ
-    given = length (r .out-points) ∷ length (r .out-faces) ∷ length (r .report) ∷ length (r .work) ∷ []
+    given = length (r .out-points) ∷ length (r .out-faces) ∷ length (r .report) ∷ length (r .origins) ∷ length (r .work) ∷ []
 
 -- the job's checks decide
 pub checks-as-job : (points : List Float) (faces : List ℕ) (s : Float) (options : ℕ) (r : RepairRooms) → Few points faces → Roomy r → repair-check points faces s options r ≡ job-check (jobOf options s points faces)

@@ -15,6 +15,7 @@ fn mend(points: &[f64], faces: &[u32], threshold: f64, options: u32, out: &mut [
     let mut mended = [0.0; 768];
     let mut triples = [0; 192];
     let mut report = [0; rules::COUNTS];
+    let mut origins = [0; 64];
     let mut work = [0; 5184];
     match repair::repair(
         points,
@@ -24,10 +25,11 @@ fn mend(points: &[f64], faces: &[u32], threshold: f64, options: u32, out: &mut [
         &mut mended,
         &mut triples,
         &mut report,
+        &mut origins,
         &mut work,
     ) {
         Repaired::Refused(number, place) => text_out::put_refusal(out, number),
-        Repaired::Done(p, f) => text_out::put_mesh(out, &mended[..p], &triples[..f], &report),
+        Repaired::Done(p, f, _) => text_out::put_mesh(out, &mended[..p], &triples[..f], &report),
     }
 }
 

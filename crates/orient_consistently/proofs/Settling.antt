@@ -8,7 +8,8 @@ use lib.ListN.{length, take}
 use Rattle.rows.specs.Region.{part, Apart.before, Apart.after, Only, Filled}
 use Rattle.rows.proofs.Regions.{only-none, only-both, only-more, holds-kept}
 use Rattle.rules.specs.Mesh.{facesOf, flatFaces}
-use Rattle.rules.proofs.Flat.{faces-flat, flat-faces}
+use Rattle.rules.proofs.Flat.{flat-faces}
+use Rattle.rules.proofs.Relabel.{flat-alike, once-alike}
 use Rattle.rules.proofs.Once.{Once}
 use Rattle.leaving.specs.Pass.{standing, FacesStand}
 use Rattle.table.specs.Table.{TableGives}
@@ -69,7 +70,6 @@ module _ {P : ℕ} {xs : List ℕ} {n : ℕ} {w : List ℕ} (p : FacesStand (tak
     -- what is said of the faces under their states is said of those that are turned
     pub once-turned : {xs′ : List ℕ} → TurnGives xs w₄ n xs′ → Once (turnedBy (part w₄ 3 (length (take (3 * n) xs) / 3)) (facesOf (take (3 * n) xs))) → Once (standing xs′ n)
     once-turned h s =
-        subst Once
-        (ap (λ k. turnedBy (part w₄ 3 k) (standing xs n)) states-long
-        ∙ sym (ap facesOf (h .faces) ∙ faces-flat (turnedBy (part w₄ 3 n) (standing xs n))))
-        s
+        let gs = turnedBy (part w₄ 3 n) (standing xs n) in
+        subst Once (sym (ap facesOf (h .faces)))
+        (once-alike (facesOf (flatFaces gs)) gs (flat-alike gs) (subst Once (ap (λ k. turnedBy (part w₄ 3 k) (standing xs n)) states-long) s))

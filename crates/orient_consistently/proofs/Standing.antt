@@ -5,11 +5,12 @@ use mathlib.Core.List.{List}
 use Prim.Native.Nat.{ℕ, _+_, _*_, _/_, _%_, _<_}
 use native.Mathlib.Omega.{arith}
 use native.Mathlib.Decide.{ℕ-discrete}
-use lib.ListN.{getD}
+use lib.ListN.{getD, take}
 use Rattle.rules.specs.Mesh.{Face, facesOf, face, exchanged}
 use Rattle.rules.specs.Pass4.{oriented}
 use Rattle.rules.proofs.Once.{Corners-below}
-use Rattle.rules.proofs.Flat.{faces-flat}
+use Rattle.rules.proofs.Flat.{own-flat}
+use Rattle.rules.proofs.Origins.{oriented-own}
 use Rattle.rules.proofs.Turning.{Or-exchanged, oriented-turned}
 use Rattle.leaving.specs.Pass.{standing, FacesStand}
 use Rattle.orient_consistently.specs.Walked.{OrientGives}
@@ -25,7 +26,7 @@ module _ {k P : ℕ} {xs : List ℕ} {n : ℕ} {w xs′ w′ : List ℕ} {r c : 
   -- the faces of the room are the rule's
   face-is : (k : ℕ) → k < n → face (oriented (standing xs n) .walk .faces) k ≡ corner-face xs′ k
   face-is k h =
-      sym (ap (λ fs. face fs k) (ap facesOf (g .faces) ∙ faces-flat (oriented (standing xs n) .walk .faces)))
+      sym (ap (λ fs. face fs k) (ap facesOf (g .faces) ∙ own-flat (oriented (standing xs n) .walk .faces) (oriented-own (take (3 * n) xs))))
       ∙ front-face xs′ n k (omega (arith, p .fit, g .only-faces .long)) h
 
   -- whose corners are points

@@ -1,11 +1,12 @@
 -- The faces under their states: corners 1 and 2 of each whose state is 2 are exchanged. Assumes nothing.
 use mathlib.Core.Path.{_≡_, refl, sym, ap, _∙_}
-use mathlib.Core.Bool.{cond}
+use mathlib.Core.Bool.{Bool, true, false, cond}
 use mathlib.Core.List.{List}
 use Prim.Native.Nat.{ℕ, _+_, _*_, _%_, _≤_, _<_}
 use native.Mathlib.Omega.{arith}
 use borrow.Author.Count.{below-more}
 use borrow.Author.Tests.{ne-eqb}
+use lib.Dec.{eqb}
 use lib.ListN.{length, getD, set, take, length-set}
 use lib.Seq.{getD-set-same, getD-set-other, ext-getD}
 use Rattle.rows.specs.Region.{part, Only, Out.above}
@@ -19,11 +20,20 @@ use Rattle.orient_consistently.specs.Walked.{TurnAsks, TurnGives}
 
 -- face k of a flat list
 abbrev pub corner-face : List ℕ → ℕ → Face
-corner-face xs k = record { a = getD xs (3 * k) 0; b = getD xs (3 * k + 1) 0; c = getD xs (3 * k + 2) 0 }
+corner-face xs k = record { a = getD xs (3 * k) 0; b = getD xs (3 * k + 1) 0; c = getD xs (3 * k + 2) 0; origin = k }
 
 -- the corners of face k in ys are those of f
 abbrev Stands : List ℕ → ℕ → Face → Type 0
 Stands ys k f = (getD ys (3 * k) 0 ≡ f .a) × (getD ys (3 * k + 1) 0 ≡ f .b) × (getD ys (3 * k + 2) 0 ≡ f .c)
+
+-- a turned face keeps its origin
+turn-origin : (s : ℕ) (f : Face) → turn s f .origin ≡ f .origin
+unfolding turn exchanged
+turn-origin s f = go (eqb s 2)
+  where
+    go : (b : Bool) → cond b (exchanged f) f .origin ≡ f .origin
+    go true = refl
+    go false = refl
 
 -- the corners of face k of the first n
 pub front-face : (xs : List ℕ) (n k : ℕ) → 3 * n ≤ length xs → k < n → face (facesOf (take (3 * n) xs)) k ≡ corner-face xs k
@@ -33,12 +43,12 @@ front-face xs n k l h =
     let a = at (3 * k) (omega arith) in
     let b = at (3 * k + 1) (omega arith) in
     let c = at (3 * k + 2) (omega arith) in
-    face-in (take (3 * n) xs) k (omega arith) ∙ (λ z. record { a = a z; b = b z; c = c z })
+    face-in (take (3 * n) xs) k (omega arith) ∙ (λ z. record { a = a z; b = b z; c = c z; origin = k })
 
 -- lists of the same faces
 faces-ext : (fs gs : List Face) → length fs ≡ length gs → ((k : ℕ) → k < length fs → face fs k ≡ face gs k) → fs ≡ gs
 unfolding face
-faces-ext fs gs l h = ext-getD (record { a = 0; b = 0; c = 0 }) fs gs l h
+faces-ext fs gs l h = ext-getD (record { a = 0; b = 0; c = 0; origin = 0 }) fs gs l h
 
 -- the first i faces are under their states
 pub record TurnInv (xs₀ w : List ℕ) (n : ℕ) (xs : List ℕ) (i : ℕ) : Type 0 where
@@ -102,7 +112,7 @@ module _ {xs₀ w : List ℕ} {n : ℕ} {xs : List ℕ} {i : ℕ} (p : TurnAsks 
             let b = turn-turn in
             let l = length-set xs (3 * i + 1) (getD xs (3 * i + 2) 0) in
             let t : exchanged (corner-face xs₀ i) ≡ turn (getD w (3 + i) 0) (corner-face xs₀ i) = unfold turn in ap (λ s. turn s (corner-face xs₀ i)) (sym e) in
-            let x : exchanged (corner-face xs₀ i) ≡ record { a = getD xs₀ (3 * i) 0; b = getD xs₀ (3 * i + 2) 0; c = getD xs₀ (3 * i + 1) 0 } = unfold exchanged in refl in
+            let x : exchanged (corner-face xs₀ i) ≡ record { a = getD xs₀ (3 * i) 0; b = getD xs₀ (3 * i + 2) 0; c = getD xs₀ (3 * i + 1) 0; origin = i } = unfold exchanged in refl in
             let y = sym x ∙ t in (
               others (3 * i) (λ z. absurd (omega arith)) (λ z. absurd (omega arith)) ∙ was (3 * i) (omega arith) ∙ ap (λ f. f .a) y,
               getD-set-other ys (3 * i + 2) (3 * i + 1) (getD xs (3 * i + 1) 0) 0 (λ z. absurd (omega arith))
@@ -161,5 +171,5 @@ module _ {xs₀ w : List ℕ} {n : ℕ} {xs : List ℕ} {i : ℕ} (p : TurnAsks 
           let h : k < n = omega arith in
           let t = u .turned k (omega (arith, is-n)) in
           front-face xs n k (omega (arith, p .fit, u .only .long)) h
-          ∙ (λ z. record { a = t .0 z; b = t .1 z; c = t .2 z })
+          ∙ (λ z. record { a = t .0 z; b = t .1 z; c = t .2 z; origin = sym (turn-origin (getD w (3 + k) 0) (corner-face xs₀ k)) z })
           ∙ sym (face-turned (part w 3 n) (standing xs₀ n) k ∙ ap (λ s. turn s (face (standing xs₀ n) k)) (getD-part w 3 n k h) ∙ ap (turn (getD w (3 + k) 0)) (front-face xs₀ n k (p .fit) h)))

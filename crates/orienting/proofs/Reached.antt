@@ -40,7 +40,7 @@ or-and false false false = refl
 
 -- the face of all zeros, which stands behind the last
 abbrev none : Face
-none = record { a = 0; b = 0; c = 0 }
+none = record { a = 0; b = 0; c = 0; origin = 0 }
 
 -- ---- a visited face stays as it is
 

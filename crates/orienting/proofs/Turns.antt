@@ -97,7 +97,7 @@ users-turned ss fs e = users-takers (turnedBy ss fs) e ∙ takers-turned e ss fs
 
 -- the face of all zeros, which stands behind the last
 abbrev none : Face
-none = record { a = 0; b = 0; c = 0 }
+none = record { a = 0; b = 0; c = 0; origin = 0 }
 
 -- no state changes it
 turn-none : (s : ℕ) → turn s none ≡ none

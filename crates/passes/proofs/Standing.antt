@@ -16,7 +16,7 @@ module _ (xs : List ℕ) (n : ℕ) (fit : 3 * n ≤ length xs) where
   pub corners-inside : (P : ℕ) → ((i : ℕ) → i < 3 * n → getD xs i 0 < P) → Inside P (standing xs n)
   unfolding face
   corners-inside P below =
-      all-from (Corners-below P) (record { a = 0; b = 0; c = 0 }) (standing xs n)
+      all-from (Corners-below P) (record { a = 0; b = 0; c = 0; origin = 0 }) (standing xs n)
       (λ i l.
       let h : i < n = omega (arith, length-faces-take xs n fit) in
       rw (standing-face xs n fit i h) (below (3 * i) (omega arith), below (3 * i + 1) (omega arith), below (3 * i + 2) (omega arith)))
@@ -25,13 +25,13 @@ module _ (xs : List ℕ) (n : ℕ) (fit : 3 * n ≤ length xs) where
   pub inside-corners : (P : ℕ) → Inside P (standing xs n) → (i : ℕ) → i < 3 * n → getD xs i 0 < P
   inside-corners P inside i h =
       let k = i / 3 in
-      let c : Corners-below P (record { a = getD xs (3 * k) 0; b = getD xs (3 * k + 1) 0; c = getD xs (3 * k + 2) 0 }) =
+      let c : Corners-below P (record { a = getD xs (3 * k) 0; b = getD xs (3 * k + 1) 0; c = getD xs (3 * k + 2) 0; origin = k }) =
       rw (standing-face xs n fit k (omega arith)) at (face-inside P (standing xs n) inside k (omega (arith, length-faces-take xs n fit))) in
       go (i % 3) k (omega arith) (omega arith) c
     where
       go :
           (r k : ℕ) → i ≡ 3 * k + r → r < 3
-          → Corners-below P (record { a = getD xs (3 * k) 0; b = getD xs (3 * k + 1) 0; c = getD xs (3 * k + 2) 0 })
+          → Corners-below P (record { a = getD xs (3 * k) 0; b = getD xs (3 * k + 1) 0; c = getD xs (3 * k + 2) 0; origin = k })
           → getD xs i 0 < P
       go zero k e l c = let q : i ≡ 3 * k = omega arith in rw q (c .0)
       go (suc zero) k e l c = rw e (c .1)

@@ -2,10 +2,11 @@
 use mathlib.Core.Path.{_≡_}
 use mathlib.Core.List.{List}
 use Prim.Native.Nat.{ℕ, _+_, _*_, _≤_, _<_}
-use lib.ListN.{length, getD}
+use lib.ListN.{length, getD, take}
 use lib.Ieee.{Float, nan}
 use Rattle.rows.specs.Region.{OnlyOf, Only}
-use Rattle.leaving.specs.Pass.{FacesStand, stateOf}
+use Rattle.leaving.specs.Pass.{FacesStand, carried}
+use Rattle.rules.specs.Mesh.{pointsOf}
 use Rattle.rules.specs.Repair.{optional, bit}
 use Rattle.rules.specs.Rooms.{work-room}
 use Rattle.rules.specs.State.{State, more, repeateds, thins, duplicates, crowded-edges, dropped-at-edges, dropped-for-direction, vertices-split, points-added, reoriented, components, isolated}
@@ -18,25 +19,27 @@ use Rattle.rules.specs.Pass6 as six
 use Rattle.drop_isolated_vertices.specs.Unused.{UnusedAsks}
 use Rattle.passes.specs.declared.Passed.{Passed}
 
--- the lists of a repair in their rooms: p points and n faces stand at the front, and the work room lies beside them
+-- the lists of a repair in their rooms: p points and n faces stand at the front, with the origins of these, and the work room lies beside them
 pub record Lists : Type 0 where
   pub points : List Float
   pub p : ℕ
   pub faces : List ℕ
+  pub origins : List ℕ
   pub n : ℕ
   pub work : List ℕ
 
 -- lists by their rooms and numbers
-abbrev pub lists : List Float → ℕ → List ℕ → ℕ → List ℕ → Lists
-lists points p faces n work = record { points = points; p = p; faces = faces; n = n; work = work }
+abbrev pub lists : List Float → ℕ → List ℕ → List ℕ → ℕ → List ℕ → Lists
+lists points p faces origins n work = record { points = points; p = p; faces = faces; origins = origins; n = n; work = work }
 
 -- the state of the rules that they hold, with a report
 abbrev pub stateIn : Lists → List ℕ → State
-stateIn m report = stateOf (m .points) (m .p) (m .faces) (m .n) report
+stateIn m report = record { points = pointsOf (take (3 * m .p) (m .points)); faces = carried (m .faces) (m .origins) (m .n); report = report }
 
--- what passes 1 to 5 ask: the faces stand, the points have room for three more a face, and `taken` entries of the work room are there
+-- what passes 1 to 5 ask: the faces stand, each with an origin, the points have room for three more a face, and `taken` entries of the work room are there
 pub record Stands (taken : ℕ) (m : Lists) : Type 0 where
   pub stand : FacesStand taken (m .p) (m .faces) (m .n) (m .work)
+  pub own : m .n ≤ length (m .origins)
   pub room : 3 * (m .p + 3 * m .n) ≤ length (m .points)
 
 -- the stated work room of a repair
@@ -44,8 +47,9 @@ abbrev pub stated : Lists → ℕ
 stated m = work-room (m .p) (m .n)
 
 -- what pass 6 asks
-abbrev pub StandsLast : Lists → Type 0
-StandsLast m = UnusedAsks (m .points) (m .p) (m .faces) (m .n) (m .work)
+pub record StandsLast (m : Lists) : Type 0 where
+  pub stand : UnusedAsks (m .points) (m .p) (m .faces) (m .n) (m .work)
+  pub own : m .n ≤ length (m .origins)
 
 -- how far a pass goes: from `least` to `most` points stand after it, and of the work room it takes `scratch` entries
 pub record Reach : Type 0 where
@@ -65,6 +69,7 @@ pub record PassGives (pass : State → State) (after : List ℕ → List ℕ) (r
   pub few-changed : r .changed ≤ m .p + 3 * m .n
   pub only-points : OnlyOf nan 0 (3 * reach .most) (m .points) (m′ .points)
   pub only-faces : Only 0 (3 * m .n) (m .faces) (m′ .faces)
+  pub only-origins : Only 0 (m .n) (m .origins) (m′ .origins)
   pub only-work : Only 0 (reach .scratch) (m .work) (m′ .work)
 
 -- passes 1 to 4 keep the points, pass 5 adds up to three a face, and pass 6 drops some

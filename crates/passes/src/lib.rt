@@ -1,7 +1,8 @@
-// The six passes of a repair, each by its option, on the lists that stand at the front of the answer rooms. Each returns what it counts.
+// The six passes of a repair, each by its option, on the lists that stand at the front of the answer rooms, with the origins of the faces. Each returns what
+// it counts.
 ghost use mathlib.Core.Path.{_≡_};
 ghost use mathlib.Core.Bool.{true};
-ghost use Prim.Native.Nat.{_/_};
+ghost use Prim.Native.Nat.{_/_, _≤_};
 ghost use lib.ListN.{length};
 ghost use Rattle.rows.specs.Region.{Only};
 ghost use Rattle.rules.specs.Mesh.{pointsOf};
@@ -28,19 +29,20 @@ pub fn pass1(
     points: &mut [f64],
     p: usize,
     faces: &mut [u32],
+    origins: &mut [u32],
     n: usize,
     work: &mut [u32],
 ) -> Passed
-    requires { ⌜ (let before = lists (now points) p (now faces) n (now work) in Stands (stated before) before) ⌝ }
+    requires { ⌜ (let before = lists (now points) p (now faces) (now origins) n (now work) in Stands (stated before) before) ⌝ }
     ensures { λ r. ⌜
-        (let before = lists (now (points .entry)) p (now (faces .entry)) n (now (work .entry)) in
-        let after = lists (now (points .exit)) (r .points) (now (faces .exit)) (r .faces) (now (work .exit)) in
+        (let before = lists (now (points .entry)) p (now (faces .entry)) (now (origins .entry)) n (now (work .entry)) in
+        let after = lists (now (points .exit)) (r .points) (now (faces .exit)) (now (origins .exit)) (r .faces) (now (work .exit)) in
         Pass1 options s before after r)
         ⌝ }
 {
     if options % 2 == 1 {
         let marked = drop_degenerate::mark(&points[..3 * p], s, faces, n, work);
-        let left = leaving::leave(faces, work, marked.at, n);
+        let left = leaving::leave(faces, origins, work, marked.at, n);
         return Passed {
             points: p,
             faces: left,
@@ -65,19 +67,20 @@ pub fn pass2(
     points: &mut [f64],
     p: usize,
     faces: &mut [u32],
+    origins: &mut [u32],
     n: usize,
     work: &mut [u32],
 ) -> Passed
-    requires { ⌜ (let before = lists (now points) p (now faces) n (now work) in Stands (stated before) before) ⌝ }
+    requires { ⌜ (let before = lists (now points) p (now faces) (now origins) n (now work) in Stands (stated before) before) ⌝ }
     ensures { λ r. ⌜
-        (let before = lists (now (points .entry)) p (now (faces .entry)) n (now (work .entry)) in
-        let after = lists (now (points .exit)) (r .points) (now (faces .exit)) (r .faces) (now (work .exit)) in
+        (let before = lists (now (points .entry)) p (now (faces .entry)) (now (origins .entry)) n (now (work .entry)) in
+        let after = lists (now (points .exit)) (r .points) (now (faces .exit)) (now (origins .exit)) (r .faces) (now (work .exit)) in
         Pass2 options s before after r)
         ⌝ }
 {
     if options / 2 % 2 == 1 {
         let marked = drop_duplicate_faces::mark(faces, n, p, work);
-        let left = leaving::leave(faces, work, marked.at, n);
+        let left = leaving::leave(faces, origins, work, marked.at, n);
         return Passed {
             points: p,
             faces: left,
@@ -102,19 +105,20 @@ pub fn pass3(
     points: &mut [f64],
     p: usize,
     faces: &mut [u32],
+    origins: &mut [u32],
     n: usize,
     work: &mut [u32],
 ) -> Passed
-    requires { ⌜ (let before = lists (now points) p (now faces) n (now work) in Stands (stated before) before) ⌝ }
+    requires { ⌜ (let before = lists (now points) p (now faces) (now origins) n (now work) in Stands (stated before) before) ⌝ }
     ensures { λ r. ⌜
-        (let before = lists (now (points .entry)) p (now (faces .entry)) n (now (work .entry)) in
-        let after = lists (now (points .exit)) (r .points) (now (faces .exit)) (r .faces) (now (work .exit)) in
+        (let before = lists (now (points .entry)) p (now (faces .entry)) (now (origins .entry)) n (now (work .entry)) in
+        let after = lists (now (points .exit)) (r .points) (now (faces .exit)) (now (origins .exit)) (r .faces) (now (work .exit)) in
         Pass3 options s before after r)
         ⌝ }
 {
     if options / 4 % 2 == 1 {
         let marked = resolve_nonmanifold_edges::mark(&points[..3 * p], faces, n, work);
-        let left = leaving::leave(faces, work, marked.at, n);
+        let left = leaving::leave(faces, origins, work, marked.at, n);
         return Passed {
             points: p,
             faces: left,
@@ -136,20 +140,22 @@ pub fn pass3(
 fn drop_collisions(
     points: &[f64],
     faces: &mut [u32],
+    origins: &mut [u32],
     n: usize,
     work: &mut [u32],
     single: bool,
 ) -> usize
     requires { ⌜ PassAsks (taken (length (now points) / 3) n) (now points) (now faces) n (now work) ⌝ }
+    requires { ⌜ n ≤ length (now origins) ⌝ }
     requires { ⌜ (single ≡ true → Once (standing (now faces) n)) ⌝ }
-    ensures { λ r. ⌜ LeaveGives (marked4 (pointsOf (now (points .entry))) (standing (now (faces .entry)) n)) (now (faces .entry)) n (now (faces .exit)) r ⌝ }
+    ensures { λ r. ⌜ LeaveGives (marked4 (pointsOf (now (points .entry))) (standing (now (faces .entry)) n)) (now (faces .entry)) (now (origins .entry)) n (now (faces .exit)) (now (origins .exit)) r ⌝ }
     ensures { λ _. ⌜ Only 0 (taken (length (now (points .entry)) / 3) n) (now (work .entry)) (now (work .exit)) ⌝ }
 {
     if single {
         return n;
     }
     let marked = resolve_directed_collisions::mark(points, faces, n, work);
-    leaving::leave(faces, work, marked.at, n)
+    leaving::leave(faces, origins, work, marked.at, n)
 }
 
 // Pass 4, if it is on: faces are turned until neighbours agree, components in which they cannot are found, and faces leave at directed edges that are used more than once.
@@ -159,20 +165,21 @@ pub fn pass4(
     points: &mut [f64],
     p: usize,
     faces: &mut [u32],
+    origins: &mut [u32],
     n: usize,
     work: &mut [u32],
 ) -> Passed
-    requires { ⌜ (let before = lists (now points) p (now faces) n (now work) in Stands (stated before) before) ⌝ }
+    requires { ⌜ (let before = lists (now points) p (now faces) (now origins) n (now work) in Stands (stated before) before) ⌝ }
     ensures { λ r. ⌜
-        (let before = lists (now (points .entry)) p (now (faces .entry)) n (now (work .entry)) in
-        let after = lists (now (points .exit)) (r .points) (now (faces .exit)) (r .faces) (now (work .exit)) in
+        (let before = lists (now (points .entry)) p (now (faces .entry)) (now (origins .entry)) n (now (work .entry)) in
+        let after = lists (now (points .exit)) (r .points) (now (faces .exit)) (now (origins .exit)) (r .faces) (now (work .exit)) in
         Pass4 options s before after r)
         ⌝ }
 {
     if options / 16 % 2 == 1 {
         let turned = orient_consistently::settle(faces, n, p, work);
         let single = turned.single;
-        let left = drop_collisions(&points[..3 * p], faces, n, work, single);
+        let left = drop_collisions(&points[..3 * p], faces, origins, n, work, single);
         return Passed {
             points: p,
             faces: left,
@@ -197,13 +204,14 @@ pub fn pass5(
     points: &mut [f64],
     p: usize,
     faces: &mut [u32],
+    origins: &mut [u32],
     n: usize,
     work: &mut [u32],
 ) -> Passed
-    requires { ⌜ (let before = lists (now points) p (now faces) n (now work) in Stands (stated before) before) ⌝ }
+    requires { ⌜ (let before = lists (now points) p (now faces) (now origins) n (now work) in Stands (stated before) before) ⌝ }
     ensures { λ r. ⌜
-        (let before = lists (now (points .entry)) p (now (faces .entry)) n (now (work .entry)) in
-        let after = lists (now (points .exit)) (r .points) (now (faces .exit)) (r .faces) (now (work .exit)) in
+        (let before = lists (now (points .entry)) p (now (faces .entry)) (now (origins .entry)) n (now (work .entry)) in
+        let after = lists (now (points .exit)) (r .points) (now (faces .exit)) (now (origins .exit)) (r .faces) (now (work .exit)) in
         Pass5 options s before after r)
         ⌝ }
 {
@@ -234,13 +242,14 @@ pub fn pass6(
     points: &mut [f64],
     p: usize,
     faces: &mut [u32],
+    origins: &mut [u32],
     n: usize,
     work: &mut [u32],
 ) -> Passed
-    requires { ⌜ (let before = lists (now points) p (now faces) n (now work) in StandsLast before) ⌝ }
+    requires { ⌜ (let before = lists (now points) p (now faces) (now origins) n (now work) in StandsLast before) ⌝ }
     ensures { λ r. ⌜
-        (let before = lists (now (points .entry)) p (now (faces .entry)) n (now (work .entry)) in
-        let after = lists (now (points .exit)) (r .points) (now (faces .exit)) (r .faces) (now (work .exit)) in
+        (let before = lists (now (points .entry)) p (now (faces .entry)) (now (origins .entry)) n (now (work .entry)) in
+        let after = lists (now (points .exit)) (r .points) (now (faces .exit)) (now (origins .exit)) (r .faces) (now (work .exit)) in
         Pass6 options s before after r)
         ⌝ }
 {

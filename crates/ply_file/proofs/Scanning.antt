@@ -89,8 +89,12 @@ vertex-is file i d h =
     getD-map-in (vertex-at file) (below (vertices-in file)) i 0 d (rw (length-below (vertices-in file)) h)
     ∙ ap (vertex-at file) (getD-below (vertices-in file) i h)
 
+-- a face with its number
+abbrev pub numbered : ℕ → Face → Face
+numbered i f = record { a = f .a; b = f .b; c = f .c; origin = i }
+
 -- face i
-pub face-is : (file : List ℕ) (i : ℕ) (d : Face) → i < faces-in file → getD (triples-of file) i d ≡ face-at file (length (header-in file) + 24 * vertices-in file + 13 * i)
+pub face-is : (file : List ℕ) (i : ℕ) (d : Face) → i < faces-in file → getD (triples-of file) i d ≡ numbered i (face-at file (length (header-in file) + 24 * vertices-in file + 13 * i))
 unfolding triples-of triple-at face-place
 face-is file i d h =
     getD-map-in (triple-at file) (below (faces-in file)) i 0 d (rw (length-below (faces-in file)) h)
@@ -185,7 +189,7 @@ module _ {file : List ℕ} {at p : ℕ} (q : VerticesAsk file at p) (i : ℕ) (v
 module _ {file : List ℕ} {at f : ℕ} (P : ℕ) (q : FacesAsk file at f) (i : ℕ) (v : Clean (astray-at P file at) f i) where
   -- the face that stands beyond a list
   abbrev nowhere : Face
-  nowhere = record { a = 0; b = 0; c = 0 }
+  nowhere = record { a = 0; b = 0; c = 0; origin = 0 }
 
   -- the rules' face is the one at its place
   fault-5 : (j : ℕ) → j < f → astray P (getD (triples-of file) j nowhere) ≡ astray-at P file at j

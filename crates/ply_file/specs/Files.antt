@@ -59,9 +59,9 @@ Heads file head.Other = Formless file
 abbrev pub point-at : List ℕ → ℕ → Point
 point-at file i = record { x = real-at file i; y = real-at file (i + 8); z = real-at file (i + 16) }
 
--- the face that begins at byte i
+-- the face that begins at byte i, alone: its number is not told, and its origin is 0
 abbrev pub face-at : List ℕ → ℕ → Face
-face-at file i = record { a = u32-at file (i + 1); b = u32-at file (i + 5); c = u32-at file (i + 9) }
+face-at file i = record { a = u32-at file (i + 1); b = u32-at file (i + 5); c = u32-at file (i + 9); origin = 0 }
 
 -- p vertices begin at `at`
 pub record VerticesAsk (file : List ℕ) (at p : ℕ) : Type 0 where

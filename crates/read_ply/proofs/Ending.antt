@@ -135,7 +135,7 @@ module _ (file : List ℕ) (ps : List Float) (xs w : List ℕ) (v : Verdict)
     triples-are {xs1} g =
         let l = g .only .long in
         let n = length-take-le (3 * f) xs1 (omega (arith, faces-long)) in
-        let d : Face = record { a = 0; b = 0; c = 0 } in
+        let d : Face = record { a = 0; b = 0; c = 0; origin = 0 } in
         let m = scan.length-triples file in
         let q = h .faces in
         let o : facesOf (take (3 * f) xs1) ≡ triples-of file =
@@ -147,8 +147,8 @@ module _ (file : List ℕ) (ps : List Float) (xs w : List ℕ) (v : Verdict)
         ∙ same-face _ _
         (getD-take (3 * f) xs1 (3 * i) 0 (omega arith) ∙ s .a)
         (getD-take (3 * f) xs1 (3 * i + 1) 0 (omega arith) ∙ s .b)
-        (getD-take (3 * f) xs1 (3 * i + 2) 0 (omega arith) ∙ s .c)
-        ∙ sym (scan.face-is file i d (omega arith) ∙ ap₂ (λ (j n : ℕ). face-at file (j + 24 * n + 13 * i)) (h .head) (h .vertices))) in
+        (getD-take (3 * f) xs1 (3 * i + 2) 0 (omega arith) ∙ s .c) refl
+        ∙ sym (scan.face-is file i d (omega arith) ∙ ap₂ (λ (j n : ℕ). scan.numbered i (face-at file (j + 24 * n + 13 * i))) (h .head) (h .vertices))) in
         sym (flat-faces (take (3 * f) xs1) (omega arith)) ∙ ap flatFaces o
 
     -- the answers in their rooms and the work room cleared: the rules' outcome

@@ -10,7 +10,7 @@ use lib.ListN.{length, getD}
 use lib.Dec.{T, eqb, leb, ltb, eqb→eq, leb→le, ltb→lt}
 use lib.Ieee.{Float}
 use Rattle.rules.specs.Lists.{below}
-use Rattle.rules.specs.Mesh.{pointsOf, facesOf}
+use Rattle.rules.specs.Mesh.{pointsOf, facesFrom, facesOf}
 use Rattle.rules.specs.Refusal.{ok, no1, no2, no3-options, no4, no5, no6, no9, no10, no-patch, most-points, most-faces}
 use Rattle.rules.proofs.Once.{Inside}
 use Rattle.rules.proofs.Rising.{All, all-at}
@@ -59,16 +59,16 @@ labels-fine F labels e = eqb→eq (length labels) F (unless-ok 10 0 (eqb (length
 
 -- ---- points and faces
 
--- every corner is below P, by its place in the flat list
-inside-at : (P : ℕ) (xs : List ℕ) → length xs % 3 ≡ 0 → Inside P (facesOf xs) → (j : ℕ) → j < length xs → getD xs j 0 < P
-unfolding facesOf
-inside-at P [] m h j l = absurd (not-suc-le-zero l)
-inside-at P (a ∷ []) m h j l = absurd (omega arith)
-inside-at P (a ∷ b ∷ []) m h j l = absurd (omega arith)
-inside-at P (a ∷ b ∷ c ∷ xs) m h zero l = h .0 .0
-inside-at P (a ∷ b ∷ c ∷ xs) m h (suc zero) l = h .0 .1
-inside-at P (a ∷ b ∷ c ∷ xs) m h (suc (suc zero)) l = h .0 .2
-inside-at P (a ∷ b ∷ c ∷ xs) m h (suc (suc (suc j))) l = inside-at P xs (omega arith) (h .1) j (omega arith)
+-- every corner is below P, by its place in the flat list, wherever its faces are counted from
+inside-at : (P k : ℕ) (xs : List ℕ) → length xs % 3 ≡ 0 → Inside P (facesFrom k xs) → (j : ℕ) → j < length xs → getD xs j 0 < P
+unfolding facesFrom
+inside-at P k [] m h j l = absurd (not-suc-le-zero l)
+inside-at P k (a ∷ []) m h j l = absurd (omega arith)
+inside-at P k (a ∷ b ∷ []) m h j l = absurd (omega arith)
+inside-at P k (a ∷ b ∷ c ∷ xs) m h zero l = h .0 .0
+inside-at P k (a ∷ b ∷ c ∷ xs) m h (suc zero) l = h .0 .1
+inside-at P k (a ∷ b ∷ c ∷ xs) m h (suc (suc zero)) l = h .0 .2
+inside-at P k (a ∷ b ∷ c ∷ xs) m h (suc (suc (suc j))) l = inside-at P (suc k) xs (omega arith) (h .1) j (omega arith)
 
 -- 1, 2 and 5, of the faces over P points
 pub faces-from :
@@ -80,7 +80,7 @@ faces-from P faces a b c d =
       whole = m;
       few = no2-fine 1 (length faces / 3) most-faces c;
       points = no2-fine 0 P most-points b;
-      below = inside-at P faces m (no5-inside P (facesOf faces) d);
+      below = inside-at P 0 faces m (no5-inside P (facesOf faces) d);
     }
 
 -- 1, 2, 4 and 5, of points and faces

@@ -110,12 +110,12 @@ no4-at xs i v h t = sym (at-fault far (record { x = zero64; y = zero64; z = zero
 -- 5: no face at fault
 pub no5-none : (P : ℕ) (xs : List ℕ) (i : ℕ) → Clean (astray-at P xs) (length xs / 3) i → length xs / 3 ≤ i → ok ≡ no5 P (facesOf xs)
 unfolding no5 face
-no5-none P xs i v h = sym (none-at-fault (astray P) (record { a = 0; b = 0; c = 0 }) 5 (facesOf xs) (λ j l. v .none j (let e = length-faces xs in omega arith)))
+no5-none P xs i v h = sym (none-at-fault (astray P) (record { a = 0; b = 0; c = 0; origin = 0 }) 5 (facesOf xs) (λ j l. v .none j (let e = length-faces xs in omega arith)))
 
 -- 5: face i is the first at fault
 pub no5-at : (P : ℕ) (xs : List ℕ) (i : ℕ) → Clean (astray-at P xs) (length xs / 3) i → i < length xs / 3 → astray-at P xs i ≡ true → no 5 i ≡ no5 P (facesOf xs)
 unfolding no5 face
-no5-at P xs i v h t = sym (at-fault (astray P) (record { a = 0; b = 0; c = 0 }) 5 (facesOf xs) i (let e = length-faces xs in omega arith) (v .none) t)
+no5-at P xs i v h t = sym (at-fault (astray P) (record { a = 0; b = 0; c = 0; origin = 0 }) 5 (facesOf xs) i (let e = length-faces xs in omega arith) (v .none) t)
 
 -- 9: no label at fault
 pub no9-none : (C : ℕ) (xs : List ℕ) (i : ℕ) → Clean (strange-at C xs) (length xs) i → length xs ≤ i → ok ≡ no9 C xs

@@ -13,18 +13,18 @@ use Rattle.lending.specs.declared.Report.{Report}
 use Rattle.repair.specs.declared.Repaired.{Repaired}
 use Rattle.repair.specs.declared.Repaired.the-variants.{Done, Refused}
 
--- the four rooms, in checking order
-abbrev pub roomsOf : List Float → List ℕ → List ℕ → List ℕ → RepairRooms
-roomsOf points faces report work = record { out-points = points; out-faces = faces; report = report; work = work }
+-- the five rooms, in checking order
+abbrev pub roomsOf : List Float → List ℕ → List ℕ → List ℕ → List ℕ → RepairRooms
+roomsOf points faces report origins work = record { out-points = points; out-faces = faces; report = report; origins = origins; work = work }
 
 -- document 01's answer: how many entries stand in each answer room, or a number and a place
 abbrev pub answerOf : Repaired → Answer
-answerOf (Done points faces) = accepted (points ∷ faces ∷ report-counts ∷ [])
+answerOf (Done points faces origins) = accepted (points ∷ faces ∷ report-counts ∷ origins ∷ [])
 answerOf (Refused n p) = refused n p
 
 -- with the rooms as the call leaves them
-abbrev pub outcomeOf : Repaired → List Float → List ℕ → List ℕ → List ℕ → Outcome RepairRooms
-outcomeOf r points faces report work = record { answer = answerOf r; rooms = roomsOf points faces report work }
+abbrev pub outcomeOf : Repaired → List Float → List ℕ → List ℕ → List ℕ → List ℕ → Outcome RepairRooms
+outcomeOf r points faces report origins work = record { answer = answerOf r; rooms = roomsOf points faces report origins work }
 
 -- a room for the counts, which are numbers of 32 bits
 pub record ReportAsks (r : List ℕ) (counts : Report) : Type 0 where

@@ -6,9 +6,9 @@ ghost use mathlib.Core.Path.{_≡_};
 ghost use Rattle.rules.specs.RepairCall as rule;
 ghost use Rattle.repair.specs.Answers.{roomsOf, outcomeOf, ReportAsks, ReportGives};
 
-// What a repair gives back: how many entries stand in the points and in the faces room, or a refusal's number and place.
+// What a repair gives back: how many entries stand in the points, the faces and the origins room, or a refusal's number and place.
 pub enum Repaired {
-    Done(usize, usize),
+    Done(usize, usize, usize),
     Refused(u32, usize),
 }
 
@@ -46,11 +46,12 @@ pub fn repair(
     out_points: &mut [f64],
     out_faces: &mut [u32],
     report: &mut [u32],
+    origins: &mut [u32],
     work: &mut [u32],
 ) -> Repaired
     ensures { λ r. ⌜
-        (let before = roomsOf (now («out_points» .entry)) (now («out_faces» .entry)) (now (report .entry)) (now (work .entry)) in
-        outcomeOf r (now («out_points» .exit)) (now («out_faces» .exit)) (now (report .exit)) (now (work .exit))
+        (let before = roomsOf (now («out_points» .entry)) (now («out_faces» .entry)) (now (report .entry)) (now (origins .entry)) (now (work .entry)) in
+        outcomeOf r (now («out_points» .exit)) (now («out_faces» .exit)) (now (report .exit)) (now (origins .exit)) (now (work .exit))
         ≡ rule.repair (now (points .entry)) (now (faces .entry)) s options before)
         ⌝ }
 {
@@ -58,6 +59,7 @@ pub fn repair(
         out_points: out_points.len(),
         out_faces: out_faces.len(),
         report: report.len(),
+        origins: origins.len(),
         work: work.len(),
     };
     match repair_refusal::repair_refusal(points, faces, s, options, rooms) {
@@ -68,13 +70,24 @@ pub fn repair(
     }
     let p = points.len() / 3;
     let n = faces.len() / 3;
-    let mended = lending::mend(points, faces, s, options, out_points, out_faces, work);
+    let mended = lending::mend(
+        points,
+        faces,
+        s,
+        options,
+        out_points,
+        out_faces,
+        origins,
+        work,
+    );
     let a = 3 * mended.points;
-    let b = 3 * mended.faces;
+    let f = mended.faces;
+    let b = 3 * f;
     let counts = mended.report;
     wiping::wipe_points(out_points, a, 3 * (p + 3 * n) - a);
     wiping::wipe(out_faces, b, 3 * n - b);
     write_report(report, counts);
+    wiping::wipe(origins, f, n - f);
     wiping::wipe(work, 0, 16 * p + 64 * n + 64);
-    Repaired::Done(a, b)
+    Repaired::Done(a, b, f)
 }

@@ -9,10 +9,10 @@ use Rattle.rules.specs.Refusal.{Check, ok, no, unless, at-first, no6}
 use Rattle.rules.specs.Rooms.{work-room}
 use Rattle.rules.specs.RepairCall.{repair-rooms}
 
-module _ (P F out-points out-faces report work : ℕ) where
+module _ (P F out-points out-faces report origins work : ℕ) where
   -- what 6 finds
   abbrev six : Check
-  six = no6 (repair-rooms P F) (out-points ∷ out-faces ∷ report ∷ work ∷ [])
+  six = no6 (repair-rooms P F) (out-points ∷ out-faces ∷ report ∷ origins ∷ work ∷ [])
 
   -- room 0 is the first too short
   pub short-0 : out-points < 3 * (P + 3 * F) → no 6 0 ≡ six
@@ -30,11 +30,16 @@ module _ (P F out-points out-faces report work : ℕ) where
   short-2 a b c = rw (le-ltb _ _ a, le-ltb _ _ b, lt-ltb _ _ c)
 
   -- room 3 is the first too short
-  pub short-3 : 3 * (P + 3 * F) ≤ out-points → 3 * F ≤ out-faces → report-counts ≤ report → work < work-room P F → no 6 3 ≡ six
+  pub short-3 : 3 * (P + 3 * F) ≤ out-points → 3 * F ≤ out-faces → report-counts ≤ report → origins < F → no 6 3 ≡ six
   unfolding no6 at-first below all first unless repair-rooms
   short-3 a b c d = rw (le-ltb _ _ a, le-ltb _ _ b, le-ltb _ _ c, lt-ltb _ _ d)
 
-  -- none is too short
-  pub long : 3 * (P + 3 * F) ≤ out-points → 3 * F ≤ out-faces → report-counts ≤ report → work-room P F ≤ work → ok ≡ six
+  -- room 4 is the first too short
+  pub short-4 : 3 * (P + 3 * F) ≤ out-points → 3 * F ≤ out-faces → report-counts ≤ report → F ≤ origins → work < work-room P F → no 6 4 ≡ six
   unfolding no6 at-first below all first unless repair-rooms
-  long a b c d = rw (le-ltb _ _ a, le-ltb _ _ b, le-ltb _ _ c, le-ltb _ _ d)
+  short-4 a b c d e = rw (le-ltb _ _ a, le-ltb _ _ b, le-ltb _ _ c, le-ltb _ _ d, lt-ltb _ _ e)
+
+  -- none is too short
+  pub long : 3 * (P + 3 * F) ≤ out-points → 3 * F ≤ out-faces → report-counts ≤ report → F ≤ origins → work-room P F ≤ work → ok ≡ six
+  unfolding no6 at-first below all first unless repair-rooms
+  long a b c d e = rw (le-ltb _ _ a, le-ltb _ _ b, le-ltb _ _ c, le-ltb _ _ d, le-ltb _ _ e)

@@ -12,13 +12,14 @@ pub struct Rooms {
     pub out_points: usize,
     pub out_faces: usize,
     pub report: usize,
+    pub origins: usize,
     pub work: usize,
 }
 
-// 6: points 3(P+3F), faces 3F, the report, work.
+// 6: points 3(P+3F), faces 3F, the report, origins F, work.
 fn short_room(p: usize, f: usize, rooms: Rooms) -> Verdict
     requires { ⌜ by.Limits p f ⌝ }
-    ensures { λ r. ⌜ by.checkOf r ≡ refusal.no6 (rule.repair-rooms p f) (rooms .«out_points» ∷ rooms .«out_faces» ∷ rooms .report ∷ rooms .work ∷ []) ⌝ }
+    ensures { λ r. ⌜ by.checkOf r ≡ refusal.no6 (rule.repair-rooms p f) (rooms .«out_points» ∷ rooms .«out_faces» ∷ rooms .report ∷ rooms .origins ∷ rooms .work ∷ []) ⌝ }
 {
     if rooms.out_points < 3 * (p + 3 * f) {
         return Verdict::Refused(6, 0);
@@ -29,8 +30,11 @@ fn short_room(p: usize, f: usize, rooms: Rooms) -> Verdict
     if rooms.report < rules::COUNTS {
         return Verdict::Refused(6, 2);
     }
-    if rooms.work < refuse::stated_work(p, f) {
+    if rooms.origins < f {
         return Verdict::Refused(6, 3);
+    }
+    if rooms.work < refuse::stated_work(p, f) {
+        return Verdict::Refused(6, 4);
     }
     Verdict::Fine
 }
@@ -40,7 +44,7 @@ pub fn repair_refusal(points: &[f64], faces: &[u32], s: f64, options: u32, rooms
     ensures { λ r. ⌜
         by.checkOf r
         ≡ refusal.decided
-        (repair-list (now (points .entry)) (now (faces .entry)) s options (rooms .«out_points») (rooms .«out_faces») (rooms .report) (rooms .work))
+        (repair-list (now (points .entry)) (now (faces .entry)) s options (rooms .«out_points») (rooms .«out_faces») (rooms .report) (rooms .origins) (rooms .work))
         ⌝ }
 {
     let found = refuse::sizes(points.len(), faces.len());

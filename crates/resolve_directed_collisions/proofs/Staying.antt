@@ -38,8 +38,8 @@ leave-none marked h [] = refl
 leave-none marked h (x ∷ xs) = rw (h 0) (ap (λ l. x ∷ l) (leave-none (λ i. marked (suc i)) (λ i. h (suc i)) xs))
 
 -- so nothing is changed
-pub all-stay : {taken : ℕ} {ps : List Float} {xs : List ℕ} {n : ℕ} {w : List ℕ} → PassAsks taken ps xs n w → Once (standing xs n) → LeaveGives (marked4 (pointsOf ps) (standing xs n)) xs n xs n
-all-stay {taken} {ps} {xs} {n} {w} p once =
+pub all-stay : {taken : ℕ} {ps : List Float} {xs os : List ℕ} {n : ℕ} {w : List ℕ} → PassAsks taken ps xs n w → Once (standing xs n) → LeaveGives (marked4 (pointsOf ps) (standing xs n)) xs os n xs os n
+all-stay {taken} {ps} {xs} {os} {n} {w} p once =
     let m = marked4 (pointsOf ps) (standing xs n) in
     let none = none-marked (pointsOf ps) (standing xs n) once in
     let stay = leave-none m none (standing xs n) in
@@ -47,6 +47,8 @@ all-stay {taken} {ps} {xs} {n} {w} p once =
     let k = length-take-le (3 * n) xs (p .stand .fit) in
     record {
       faces = sym (ap flatFaces stay ∙ flat-faces (take (3 * n) xs) (omega arith));
+      origins = sym (leave-none m none (take n os));
       number = rw (ap length stay, l) at (leave-length m (standing xs n));
       only-faces = only-none 0 (3 * n) xs;
+      only-origins = only-none 0 n os;
     }

@@ -1,20 +1,20 @@
 -- What each pass does to the origins: faces that leave take theirs along, and passes 4, 5 and 6 keep them. Assumes nothing.
 use mathlib.Core.Path.{_≡_, refl, sym, ap, _∙_}
-use mathlib.Core.Logic.{inl, inr}
 use mathlib.Core.Bool.{Bool, true, false, cond}
 use mathlib.Core.List.{List, [], _∷_, map, map-map}
-use Prim.Native.Nat.{ℕ, suc}
+use Prim.Native.Nat.{ℕ, suc, _<_}
 use native.Mathlib.Omega.{arith}
 use lib.ListN.{length, drop}
 use lib.Dec.{eqb, ltb}
 use Rattle.rules.specs.Lists.{below, has, leave, through}
-use Rattle.rules.specs.Mesh.{Face, face, exchanged, renamed}
+use Rattle.rules.specs.Mesh.{Face, face, facesOf, renamed}
 use Rattle.rules.specs.State.{State, counted, vertices-split}
 use Rattle.rules.specs.Pass4.{oriented}
 use Rattle.rules.specs.Pass5.{fans, split-off, split, pass5}
 use Rattle.rules.specs.Pass6.{number, pass6}
 use Rattle.rules.proofs.Lists.{through-keeps}
-use Rattle.rules.proofs.Turning.{Or-exchanged, Turned, oriented-turned}
+use Rattle.rules.proofs.Flat.{numbered}
+use Rattle.rules.proofs.Turning.{Turned, turned-origin, oriented-turned}
 use Rattle.rules.proofs.Splitting.{faces-by-place}
 
 -- the origins of faces, in their order
@@ -35,21 +35,23 @@ module _ {A B : Type 0} (g : A → B) where
 
 -- an exchange keeps the origin
 pub turned-origins : (fs gs : List Face) → Turned fs gs → origins gs ≡ origins fs
-unfolding face exchanged
+unfolding face
 turned-origins [] [] t = refl
 turned-origins [] (g ∷ gs) t = absurd (omega (arith, t .0))
 turned-origins (f ∷ fs) [] t = absurd (omega (arith, t .0))
 turned-origins (f ∷ fs) (g ∷ gs) t =
     let r = turned-origins fs gs (omega (arith, t .0), λ i. t .1 (suc i)) in
-    λ i. one f g (t .1 0) i ∷ r i
-  where
-    one : (f g : Face) → Or-exchanged f g → g .origin ≡ f .origin
-    one f g (inl e) = ap (λ h. h .origin) e
-    one f g (inr e) = ap (λ h. h .origin) e
+    λ i. turned-origin f g (t .1 0) i ∷ r i
 
 -- so does the first half of pass 4
 pub oriented-origins : (fs : List Face) → origins (oriented fs .walk .faces) ≡ origins fs
 oriented-origins fs = turned-origins fs (oriented fs .walk .faces) (oriented-turned fs)
+
+-- so that each face of a call's list stays its own
+pub oriented-own : (xs : List ℕ) (i : ℕ) → i < length (oriented (facesOf xs) .walk .faces) → face (oriented (facesOf xs) .walk .faces) i .origin ≡ i
+oriented-own xs i h =
+    let t = oriented-turned (facesOf xs) in
+    turned-origin (face (facesOf xs) i) (face (oriented (facesOf xs) .walk .faces) i) (t .1 i) ∙ numbered xs i (rw (t .0) at h)
 
 -- a group that is split off keeps the origins of its faces
 off-origins : (v : ℕ) (m : State) (fan : List ℕ) → origins (split-off v m fan .faces) ≡ origins (m .faces)

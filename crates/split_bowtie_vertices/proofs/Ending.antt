@@ -54,7 +54,7 @@ module _ {ps : List Float} {P : ℕ} {xs : List ℕ} {n : ℕ} {w : List ℕ} (p
   -- the corners are points, in the words of the rules
   inside : Inside P (facesOf ys)
   unfolding face
-  inside = all-from (Corners-below P) (record { a = 0; b = 0; c = 0 }) (facesOf ys) each
+  inside = all-from (Corners-below P) (record { a = 0; b = 0; c = 0; origin = 0 }) (facesOf ys) each
     where
       each : (k : ℕ) → k < length (facesOf ys) → Corners-below P (face (facesOf ys) k)
       each k h =

@@ -47,7 +47,7 @@ corner-made fs g id h = go (which id)
     hi : i < length fs
     hi = omega arith
 
-    new : record { a = cornerAt gs (3 * i); b = cornerAt gs (3 * i + 1); c = cornerAt gs (3 * i + 2) } ≡ renamed (g i) (record { a = cornerAt fs (3 * i); b = cornerAt fs (3 * i + 1); c = cornerAt fs (3 * i + 2) })
+    new : record { a = cornerAt gs (3 * i); b = cornerAt gs (3 * i + 1); c = cornerAt gs (3 * i + 2); origin = face gs i .origin } ≡ renamed (g i) (record { a = cornerAt fs (3 * i); b = cornerAt fs (3 * i + 1); c = cornerAt fs (3 * i + 2); origin = face fs i .origin })
     new = sym (three-at gs i (rw (length-map-below (λ k. renamed (g k) (face fs k)) (length fs)) hi)) ∙ face-map-below (λ k. renamed (g k) (face fs k)) (length fs) i hi ∙ ap (renamed (g i)) (three-at fs i hi)
 
     go : (id ≡ 3 * i) ⊎ ((id ≡ 3 * i + 1) ⊎ (id ≡ 3 * i + 2)) → cornerAt gs id ≡ g i (cornerAt fs id)
@@ -59,7 +59,7 @@ corner-made fs g id h = go (which id)
 pub corner-within : (Q : ℕ) (fs : List Face) → Inside Q fs → (id : ℕ) → id < 3 * length fs → cornerAt fs id < Q
 corner-within Q fs inside id h = go (which id) (subst (Corners-below Q) (three-at fs (id / 3) (omega arith)) (face-inside Q fs inside (id / 3) (omega arith)))
   where
-    go : (id ≡ 3 * (id / 3)) ⊎ ((id ≡ 3 * (id / 3) + 1) ⊎ (id ≡ 3 * (id / 3) + 2)) → Corners-below Q (record { a = cornerAt fs (3 * (id / 3)); b = cornerAt fs (3 * (id / 3) + 1); c = cornerAt fs (3 * (id / 3) + 2) }) → cornerAt fs id < Q
+    go : (id ≡ 3 * (id / 3)) ⊎ ((id ≡ 3 * (id / 3) + 1) ⊎ (id ≡ 3 * (id / 3) + 2)) → Corners-below Q (record { a = cornerAt fs (3 * (id / 3)); b = cornerAt fs (3 * (id / 3) + 1); c = cornerAt fs (3 * (id / 3) + 2); origin = face fs (id / 3) .origin }) → cornerAt fs id < Q
     go (inl e) b = omega (arith, ap (cornerAt fs) e, b .0)
     go (inr (inl e)) b = omega (arith, ap (cornerAt fs) e, b .1)
     go (inr (inr e)) b = omega (arith, ap (cornerAt fs) e, b .2)
@@ -120,7 +120,7 @@ module _ {ys : List ℕ} {P : ℕ} {ps₀ : List Float} {ps : List Float} {w : L
     c : ℕ
     c = cornerAt fs (3 * i + 2)
 
-    three-corners : corners (face fs i) ≡ corners (record { a = a; b = b; c = c })
+    three-corners : corners (face fs i) ≡ corners (record { a = a; b = b; c = c; origin = face fs i .origin })
     unfolding a b c
     three-corners = ap (λ f. corners f) (three-at fs i hi)
 

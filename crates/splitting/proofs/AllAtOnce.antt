@@ -154,7 +154,7 @@ module _ (m : State) (inside : Inside (length (m .points)) (m .faces)) where
           ∙ both (face (m .faces) i) (face-inside (length (m .points)) (m .faces) inside i l)
         where
           both : (f : Face) → Corners-below (length (m .points)) f → renamed (instead k (goal i k)) (renamed (now k i) f) ≡ renamed (now (suc k) i) f
-          both f b = λ j. record { a = now-suc k i (f .a) h (b .0) j; b = now-suc k i (f .b) h (b .1) j; c = now-suc k i (f .c) h (b .2) j }
+          both f b = λ j. record { a = now-suc k i (f .a) h (b .0) j; b = now-suc k i (f .b) h (b .1) j; c = now-suc k i (f .c) h (b .2) j; origin = f .origin }
 
   -- the faces when the points below k have been split
   faces-now : (k : ℕ) → k ≤ length (m .points) → state k .faces ≡ map (λ i. renamed (now k i) (face (m .faces) i)) (below (length (m .faces)))
@@ -165,7 +165,7 @@ module _ (m : State) (inside : Inside (length (m .points)) (m .faces)) where
       ∙ map-below (face (m .faces)) (λ i. renamed (now 0 i) (face (m .faces) i)) (length (m .faces)) (λ i l. none i (face (m .faces) i)))
     where
       none : (i : ℕ) (f : Face) → f ≡ renamed (now 0 i) f
-      none i f = λ j. record { a = sym (zero-now (f .a)) j; b = sym (zero-now (f .b)) j; c = sym (zero-now (f .c)) j }
+      none i f = λ j. record { a = sym (zero-now (f .a)) j; b = sym (zero-now (f .b)) j; c = sym (zero-now (f .c)) j; origin = f .origin }
         where
           zero-now : (x : ℕ) → now 0 i x ≡ x
           zero-now x = rw (le-ltb x 0 (omega arith))
@@ -183,7 +183,7 @@ module _ (m : State) (inside : Inside (length (m .points)) (m .faces)) where
       in-now i x h = rw (lt-ltb x (length (m .points)) h)
 
       all-now : (i : ℕ) (f : Face) → Corners-below (length (m .points)) f → renamed (now (length (m .points)) i) f ≡ renamed (goal i) f
-      all-now i f b = λ j. record { a = in-now i (f .a) (b .0) j; b = in-now i (f .b) (b .1) j; c = in-now i (f .c) (b .2) j }
+      all-now i f b = λ j. record { a = in-now i (f .a) (b .0) j; b = in-now i (f .b) (b .1) j; c = in-now i (f .c) (b .2) j; origin = f .origin }
 
   -- ---- the points
 

@@ -19,7 +19,8 @@ use Rattle.rules.proofs.Lists.{length-below, filter-append, filter-map, getD-ma
 use Rattle.rules.proofs.Rising.{all-at, all-imp, all-filter, below-all, getD-below, map-same, Up, up-at, stay-up}
 use Rattle.rules.proofs.Members.{mem-filter, mem-below, mem-index}
 use Rattle.rules.proofs.Counting.{count-map, count-below-agree}
-use Rattle.rules.proofs.Flat.{face-at, faces-flat, length-flat-faces}
+use Rattle.rules.proofs.Flat.{face-at, length-flat-faces, same-face}
+use Rattle.rules.proofs.Relabel.{flat-alike}
 use Rattle.rules.proofs.Splitting.{share-sym}
 use Rattle.rules.proofs.Classes.{Class, leads-same}
 use Rattle.rules.proofs.Agreeing.{fans-count}
@@ -27,9 +28,12 @@ use Rattle.splitting.specs.Corners.{cornerAt, joinedAt, cornersAt}
 use Rattle.splitting.proofs.AllAtOnce.{each-last}
 
 -- a face by the numbers of its corners
-pub three-at : (fs : List Face) (k : ℕ) → k < length fs → face fs k ≡ record { a = cornerAt fs (3 * k); b = cornerAt fs (3 * k + 1); c = cornerAt fs (3 * k + 2) }
+pub three-at : (fs : List Face) (k : ℕ) → k < length fs → face fs k ≡ record { a = cornerAt fs (3 * k); b = cornerAt fs (3 * k + 1); c = cornerAt fs (3 * k + 2); origin = face fs k .origin }
 unfolding cornerAt
-three-at fs k h = ap (λ l. face l k) (sym (faces-flat fs)) ∙ face-at (flatFaces fs) k (omega (arith, length-flat-faces fs))
+three-at fs k h =
+    let s = flat-alike fs in
+    let f = face-at (flatFaces fs) k (omega (arith, length-flat-faces fs)) in
+    same-face _ _ (sym (s .at-a k) ∙ ap (λ g. g .a) f) (sym (s .at-b k) ∙ ap (λ g. g .b) f) (sym (s .at-c k) ∙ ap (λ g. g .c) f) refl
 
 -- the numbers of one face's corners more
 below-three : (k : ℕ) → below (3 * suc k) ≡ below (3 * k) ++ ((3 * k) ∷ (3 * k + 1) ∷ (3 * k + 2) ∷ [])

@@ -117,7 +117,7 @@ module _ (m : State) (inside : Inside (length (m .points)) (m .faces)) where
       one i x h = ap (λ q. target x q (drop 1 (fans (m .faces) x)) i) (so-far-is x (omega arith))
 
       same : (i : ℕ) (f : Face) → Corners-below (length (m .points)) f → renamed (goal m inside i) f ≡ renamed (goalOf (m .faces) (length (m .points)) i) f
-      same i f b = λ j. record { a = one i (f .a) (b .0) j; b = one i (f .b) (b .1) j; c = one i (f .c) (b .2) j }
+      same i f b = λ j. record { a = one i (f .a) (b .0) j; b = one i (f .b) (b .1) j; c = one i (f .c) (b .2) j; origin = f .origin }
 
   -- how many points there are after it
   pub points-many : length (pass5 m .points) ≡ base (m .faces) (length (m .points)) (length (m .points))

@@ -97,7 +97,7 @@ module _ (m : State) (v u : ℕ) (inside : Inside (length (m .points)) (m .faces
   unfolding face renamed
   back-at i h =
       ap (λ l. face l i) (sym (split-home m v inside hv))
-      ∙ getD-map-in (renamed (home (length (m .points)) v)) out i (record { a = 0; b = 0; c = 0 }) (record { a = 0; b = 0; c = 0 }) (rw long h)
+      ∙ getD-map-in (renamed (home (length (m .points)) v)) out i (record { a = 0; b = 0; c = 0; origin = 0 }) (record { a = 0; b = 0; c = 0; origin = 0 }) (rw long h)
 
   -- a corner after the split, sent home, is one before
   home-mem : (i x : ℕ) → i < length fs → List·Memᴰ x (corners (face out i)) → List·Memᴰ (home (length (m .points)) v x) (corners (face fs i))

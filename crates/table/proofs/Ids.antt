@@ -16,7 +16,7 @@ use Rattle.rows.specs.Filter as rows-filter
 use Rattle.rows.specs.Retain.{upTo}
 use Rattle.sorting.proofs.GroupLaws.{filter-sorted}
 use Rattle.rules.specs.Lists.{below, filter, any, each}
-use Rattle.rules.specs.Mesh.{Face, facesOf}
+use Rattle.rules.specs.Mesh.{Face, facesFrom, facesOf}
 use Rattle.rules.specs.Steps.{Step, step, steps, edge, same, Entry, entries, users, walkers, pairs, edges, directed}
 use Rattle.rules.proofs.Lists.{below-suc, filter-map, each-append, each-same, each-map}
 use Rattle.rules.proofs.Members.{none-filter}
@@ -136,15 +136,18 @@ next-more i = go (ℕ-discrete (i % 3) 2)
         rw (ne-eqb (i % 3) 2 e, ne-eqb (suc (suc (suc i)) % 3) 2 f) (omega arith)
 
 -- from the corner at the entry's place to the next one
+step-from : (k : ℕ) (xs : List ℕ) → length xs % 3 ≡ 0 → (i : ℕ) → i < length xs → stepAt (facesFrom k xs) i ≡ step (getD xs i 0) (getD xs (next i) 0)
+unfolding stepAt facesFrom each
+step-from k [] w i h = absurd (not-suc-le-zero h)
+step-from k (a ∷ []) w i h = absurd (omega arith)
+step-from k (a ∷ b ∷ []) w i h = absurd (omega arith)
+step-from k (a ∷ b ∷ c ∷ xs) w zero h = refl
+step-from k (a ∷ b ∷ c ∷ xs) w (suc zero) h = refl
+step-from k (a ∷ b ∷ c ∷ xs) w (suc (suc zero)) h = refl
+step-from k (a ∷ b ∷ c ∷ xs) w (suc (suc (suc i))) h = rw (next-more i) (step-from (suc k) xs (omega arith) i (omega arith))
+
 pub step-flat : (xs : List ℕ) → length xs % 3 ≡ 0 → (i : ℕ) → i < length xs → stepAt (facesOf xs) i ≡ step (getD xs i 0) (getD xs (next i) 0)
-unfolding stepAt facesOf each
-step-flat [] w i h = absurd (not-suc-le-zero h)
-step-flat (a ∷ []) w i h = absurd (omega arith)
-step-flat (a ∷ b ∷ []) w i h = absurd (omega arith)
-step-flat (a ∷ b ∷ c ∷ xs) w zero h = refl
-step-flat (a ∷ b ∷ c ∷ xs) w (suc zero) h = refl
-step-flat (a ∷ b ∷ c ∷ xs) w (suc (suc zero)) h = refl
-step-flat (a ∷ b ∷ c ∷ xs) w (suc (suc (suc i))) h = rw (next-more i) (step-flat xs (omega arith) i (omega arith))
+step-flat xs w i h = step-from 0 xs w i h
 
 -- the next corner is in the list
 pub next-in : (n i : ℕ) → n % 3 ≡ 0 → i < n → next i < n

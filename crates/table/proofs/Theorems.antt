@@ -10,7 +10,7 @@ use lib.ListN.{length, getD}
 use Rattle.rows.specs.Region.{part}
 use Rattle.rows.proofs.Regions.{getD-part, part-eq, length-part}
 use Rattle.rules.specs.Lists.{below, filter, any, each, first}
-use Rattle.rules.specs.Mesh.{face, facesOf}
+use Rattle.rules.specs.Mesh.{face, facesFrom, facesOf}
 use Rattle.rules.specs.Steps.{step, same, edge, entries, users, walkers, pairs, edges, directed}
 use Rattle.rules.specs.Edges.{position}
 use Rattle.rules.proofs.Lists.{below-suc}
@@ -124,20 +124,20 @@ two = 0 ∷ 1 ∷ 2 ∷ 2 ∷ 1 ∷ 3 ∷ 1 ∷ 1 ∷ 0 ∷ []
 
 -- the undirected order
 pub example-order : each (idsOf false (facesOf two)) (keysOf false 4 (facesOf two)) ≡ 0 ∷ 7 ∷ 8 ∷ 2 ∷ 6 ∷ 1 ∷ 3 ∷ 4 ∷ 5 ∷ []
-unfolding each idsOf keysOf stepAt filter below any entries pairs same edge facesOf face
+unfolding each idsOf keysOf stepAt filter below any entries pairs same edge facesFrom face
 example-order = refl
 
 -- the directed order
 pub example-directed : each (idsOf true (facesOf two)) (keysOf true 4 (facesOf two)) ≡ 0 ∷ 8 ∷ 7 ∷ 6 ∷ 1 ∷ 4 ∷ 2 ∷ 3 ∷ 5 ∷ []
-unfolding each idsOf keysOf stepAt filter below any entries pairs same edge facesOf face
+unfolding each idsOf keysOf stepAt filter below any entries pairs same edge facesFrom face
 example-directed = refl
 
 -- where the undirected runs begin
 pub example-starts : map (startOf false 4 (facesOf two)) (below 7) ≡ 0 ∷ 3 ∷ 4 ∷ 5 ∷ 7 ∷ 8 ∷ 9 ∷ []
-unfolding startOf each idsOf keysOf stepAt filter below any entries pairs same edge facesOf face
+unfolding startOf each idsOf keysOf stepAt filter below any entries pairs same edge facesFrom face
 example-starts = refl
 
 -- the run of each entry
 pub example-runs : map (runOf two 4 false) (below 9) ≡ 0 ∷ 3 ∷ 1 ∷ 3 ∷ 4 ∷ 5 ∷ 2 ∷ 0 ∷ 0 ∷ []
-unfolding first each idsOf keysOf stepAt filter below any entries pairs same edge facesOf face
+unfolding first each idsOf keysOf stepAt filter below any entries pairs same edge facesFrom face
 example-runs = refl

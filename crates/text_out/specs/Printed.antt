@@ -30,7 +30,7 @@ abbrev pub point-at : List Float → ℕ → Point
 point-at ps i = record { x = getD ps (3 * i) nan; y = getD ps (3 * i + 1) nan; z = getD ps (3 * i + 2) nan }
 
 abbrev pub face-at : List ℕ → ℕ → Face
-face-at fs i = record { a = getD fs (3 * i) 0; b = getD fs (3 * i + 1) 0; c = getD fs (3 * i + 2) 0 }
+face-at fs i = record { a = getD fs (3 * i) 0; b = getD fs (3 * i + 1) 0; c = getD fs (3 * i + 2) 0; origin = i }
 
 -- their lines
 abbrev pub point-line : Point → List ℕ

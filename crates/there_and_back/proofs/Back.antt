@@ -5,21 +5,21 @@ use Prim.Native.Nat.{ℕ, _+_, _*_, _/_, _≤_}
 use native.Mathlib.Omega.{arith}
 use lib.ListN.{length}
 use lib.Ieee.{Float}
-use Rattle.rules.specs.Mesh.{pointsOf, facesOf, flatPoints, flatFaces}
+use Rattle.rules.specs.Mesh.{face, pointsOf, facesOf, flatPoints, flatFaces}
 use Rattle.rules.specs.Refusal.{ok, no4, no5, most-points, most-faces}
 use Rattle.rules.specs.Rooms.{work-room, filled, cleared, accepted, outcome}
 use Rattle.rules.specs.Ply.{header, ply, vertices-in, faces-in, points-of, triples-of}
 use Rattle.rules.specs.ReadPlyCall.{ReadPlyRooms, read-ply-check}
 use Rattle.rules.specs.WritePlyCall.{WritePlyRooms, write-ply-check, write-ply}
 use Rattle.rules.proofs.Decided.{decided-ok}
-use Rattle.rules.proofs.Flat.{length-flat-points, length-flat-faces, points-flat, faces-flat}
+use Rattle.rules.proofs.Flat.{length-flat-points, length-flat-faces, points-flat, own-flat}
 use Rattle.rules.proofs.Bytes.{Bytes}
 use Rattle.rules.proofs.PlyForm.{form-in}
 use Rattle.rules.proofs.PlyRead.{file-again}
 use Rattle.refuse.proofs.Singles.{few, thirds}
 use Rattle.ply_file.specs.Files.{PlyAccepted}
 use Rattle.ply_file.proofs.Accept.{ply-is, ply-accepted}
-use Rattle.ply_file.proofs.Scanning.{length-points, length-triples}
+use Rattle.ply_file.proofs.Scanning.{length-points, length-triples, face-is}
 use Rattle.write_ply_refusal.proofs.Short.{long}
 
 module _ (file : List ℕ) (by : Bytes file) (q : ReadPlyRooms) (e : read-ply-check file q ≡ ok) where
@@ -59,9 +59,14 @@ module _ (file : List ℕ) (by : Bytes file) (q : ReadPlyRooms) (e : read-ply-ch
   f-is : length fs / 3 ≡ F
   f-is = omega (arith, faces-long)
 
+  -- each triple is its own origin, so it is the same made flat and read again
+  faces-same : facesOf fs ≡ triples-of file
+  unfolding face
+  faces-same = own-flat (triples-of file) (λ i h. ap (λ f. f .origin) (face-is file i _ (omega (arith, length-triples file))))
+
   -- their file is the one that was read
   made : ply (pointsOf ps) (facesOf fs) ≡ file
-  made = ap₂ ply (points-flat (points-of file)) (faces-flat (triples-of file)) ∙ file-again by (asked .form) (asked .triple) (asked .domain)
+  made = ap₂ ply (points-flat (points-of file)) faces-same ∙ file-again by (asked .form) (asked .triple) (asked .domain)
 
   -- the header's length and the file's
   whole : length file ≡ length (header P F) + 24 * P + 13 * F
@@ -83,7 +88,7 @@ module _ (file : List ℕ) (by : Bytes file) (q : ReadPlyRooms) (e : read-ply-ch
               (
                 ap no4 (points-flat (points-of file)) ∙ asked .domain,
                 (
-                  ap₂ no5 p-is (faces-flat (triples-of file)) ∙ asked .corners,
+                  ap₂ no5 p-is faces-same ∙ asked .corners,
                   (
                     sym (long (length ps / 3) (length fs / 3) (length (r .file)) (length (r .work)) (omega (arith, l)) (rw (p-is, f-is) b)),
                     tt,

@@ -13,7 +13,7 @@ use Rattle.rules.specs.Ply.{ply, vertices-in, faces-in, points-of, triples-of}
 use Rattle.rules.specs.ReadPlyCall.{ReadPlyRooms, read-ply-check, read-ply}
 use Rattle.rules.specs.WritePlyCall.{WritePlyRooms, write-ply-check}
 use Rattle.rules.proofs.Decided.{decided-all, decided-ok, unless-ok}
-use Rattle.rules.proofs.Flat.{length-points, length-faces, point-in, face-in, flat-points, flat-faces}
+use Rattle.rules.proofs.Flat.{length-points, length-faces, point-in, face-in, flat-points, flat-faces, numbered}
 use Rattle.rules.proofs.PlyWritten.{Writable, vertices-are, faces-are, points-are, triples-are, is-triple, in-form}
 use Rattle.refuse.proofs.Singles.{few, no2-fine}
 use Rattle.ply_file.proofs.Short.{long}
@@ -70,6 +70,7 @@ module _ (ps : List Float) (fs : List ℕ) (r : WritePlyRooms) (e : write-ply-ch
         corners-small = λ i h.
             let k : i < length fs / 3 = omega arith in
             rw (face-in fs i k) (record { a-small = own .numbers (3 * i) (omega arith); b-small = own .numbers (3 * i + 1) (omega arith); c-small = own .numbers (3 * i + 2) (omega arith) });
+        own-origins = numbered fs;
         few-points = omega (arith, mesh .few-points);
         few-faces = omega (arith, mesh .few-faces);
       }

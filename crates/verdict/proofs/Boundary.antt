@@ -160,7 +160,7 @@ module _ (f : List ℕ) (P : ℕ) (q : Faces P f) where
   unfolding face
   all-in =
       all-each (In P) steps (facesOf f)
-      (all-from (λ t. All (In P) (steps t)) (record { a = 0; b = 0; c = 0 }) (facesOf f)
+      (all-from (λ t. All (In P) (steps t)) (record { a = 0; b = 0; c = 0; origin = 0 }) (facesOf f)
       (λ i l.
       let h : i < length f / 3 = omega (arith, length-faces f) in
       let a = q .below (3 * i) (omega arith) in

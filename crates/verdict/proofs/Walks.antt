@@ -10,7 +10,7 @@ use lib.ListN.{length, getD, take}
 use lib.Seq.{take-all}
 use lib.Dec.{eqb}
 use Rattle.rules.specs.Lists.{below, filter, count, each}
-use Rattle.rules.specs.Mesh.{Face, facesOf}
+use Rattle.rules.specs.Mesh.{Face, facesFrom, facesOf}
 use Rattle.rules.specs.Steps.{Step, step, steps, same, edge, users}
 use Rattle.rules.proofs.Lists.{each-append}
 use Rattle.rules.proofs.Counting.{count-append}
@@ -89,12 +89,12 @@ module _ (P v u : ℕ) (hv : v < P) (hu : u < P) where
     steps-suc : (i : ℕ) → 3 * i + 2 < length f → each steps (facesOf (take (3 * suc i) f)) ≡ each steps (facesOf (take (3 * i) f)) ++ (step (getD f (3 * i) 0) (getD f (3 * i + 1) 0) ∷ step (getD f (3 * i + 1) 0) (getD f (3 * i + 2) 0) ∷ step (getD f (3 * i + 2) 0) (getD f (3 * i) 0) ∷ [])
     steps-suc i h =
         ap (λ (l : List Face). each steps l) (faces-take f i h)
-        ∙ each-append steps (facesOf (take (3 * i) f)) (record { a = getD f (3 * i) 0; b = getD f (3 * i + 1) 0; c = getD f (3 * i + 2) 0 } ∷ [])
-        ∙ ap (λ (l : List Step). each steps (facesOf (take (3 * i) f)) ++ l) (last (record { a = getD f (3 * i) 0; b = getD f (3 * i + 1) 0; c = getD f (3 * i + 2) 0 }))
+        ∙ each-append steps (facesOf (take (3 * i) f)) (record { a = getD f (3 * i) 0; b = getD f (3 * i + 1) 0; c = getD f (3 * i + 2) 0; origin = i } ∷ [])
+        ∙ ap (λ (l : List Step). each steps (facesOf (take (3 * i) f)) ++ l) (last (record { a = getD f (3 * i) 0; b = getD f (3 * i + 1) 0; c = getD f (3 * i + 2) 0; origin = i }))
 
     -- the steps of the first faces
     walk-count : (i : ℕ) → 3 * i ≤ length f → halves f P (3 * i) (2 * (v * P + u)) ≡ count (same (step v u)) (each steps (facesOf (take (3 * i) f)))
-    unfolding each facesOf
+    unfolding each facesFrom
     walk-count zero h = halves-zero f P (2 * (v * P + u)) ∙ sym (count-none (same (step v u)))
     walk-count (suc i) h =
         let e : 3 * suc i ≡ suc (suc (suc (3 * i))) = omega arith in

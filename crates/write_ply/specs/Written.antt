@@ -31,7 +31,7 @@ pub record RealsAsk (w : List ℕ) (at : ℕ) (ps : List Float) : Type 0 where
 
 -- face i of a flat row
 abbrev pub face-at : List ℕ → ℕ → Face
-face-at fs i = record { a = getD fs (3 * i) 0; b = getD fs (3 * i + 1) 0; c = getD fs (3 * i + 2) 0 }
+face-at fs i = record { a = getD fs (3 * i) 0; b = getD fs (3 * i + 1) 0; c = getD fs (3 * i + 2) 0; origin = i }
 
 -- room for face i
 pub record TripleAsks (w : List ℕ) (at : ℕ) (fs : List ℕ) (i : ℕ) : Type 0 where

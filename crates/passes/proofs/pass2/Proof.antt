@@ -7,18 +7,18 @@ use Rattle.passes.proofs.pass2.Statement.{statement}
 use Rattle.passes.proofs.pass2.Tie as tie
 
 mark-requires : tie.Need-mark-requires
-mark-requires c κs = reads2 (c .before .before .before .before .before .before .pre)
+mark-requires c κs = reads2 (c .before .before .before .before .before .before .before .pre)
 
 leave-requires : tie.Need-leave-requires
 leave-requires c κs =
-    let at-mark = c .before .before .before .before in
-    let start = at-mark .before .before .before .before .before .before .before in
+    let at-mark = c .before .before .before .before .before in
+    let start = at-mark .before .before .before .before .before .before .before .before in
     leaves2 (start .pre) (at-mark .mark .ensures .0)
 
-sub-t21 : tie.Need-sub-t21
-sub-t21 c =
-    let at-leave = c .before .before in
-    let at-mark = at-leave .before .before .before .before .before in
+sub-t24 : tie.Need-sub-t24
+sub-t24 c =
+    let at-leave = c .before .before .before .before in
+    let at-mark = at-leave .before .before .before .before .before .before in
     left-fewer (left-by (at-mark .mark .ensures .0) (at-leave .leave .ensures))
 
 same-length : tie.Need-same-length
@@ -27,16 +27,20 @@ same-length c = search needs
 same-length-2 : tie.Need-same-length-2
 same-length-2 c = search needs
 
+same-length-3 : tie.Need-same-length-3
+same-length-3 c = search needs
+
 returns : tie.Need-returns
 returns c =
-    let at-leave = c .before .before in
-    let at-mark = at-leave .before .before .before .before .before in
-    let start = at-mark .before .before .before .before .before .before .before in
-    rw (bit-set 1 (start .args .options) (c .before .before .before .before .before .before .before .before .before .before .if1 .taken)) (on2 (start .pre) (at-mark .mark .ensures .0) (left-by (at-mark .mark .ensures .0) (at-leave .leave .ensures)))
+    let at-leave = c .before .before .before .before in
+    let at-mark = at-leave .before .before .before .before .before .before in
+    let start = at-mark .before .before .before .before .before .before .before .before in
+    rw (bit-set 1 (start .args .options) (at-mark .before .before .before .if1 .taken))
+    (on2 (start .pre) (at-mark .mark .ensures .0) (left-by (at-mark .mark .ensures .0) (at-leave .leave .ensures)))
 
 returns-2 : tie.Need-returns-2
 returns-2 c =
-    let start = c .before .before .before .before in
+    let start = c .before .before .before .before .before in
     rw (bit-clear 1 (start .args .options) (c .if1 .left)) (off2 (start .pre))
 
 pub pass2-spec : {M : Type 1} → statement M
@@ -45,8 +49,9 @@ pass2-spec =
     (tie.spec
     mark-requires
     leave-requires
-    sub-t21
+    sub-t24
     same-length
     same-length-2
+    same-length-3
     returns
     returns-2)

@@ -14,21 +14,21 @@ slice-reshare-prefix-mark : tie.Need-slice-reshare-prefix-mark
 slice-reshare-prefix-mark c = search needs
 
 slice-aggregate-mark : tie.Need-slice-aggregate-mark
-slice-aggregate-mark c = sym (as-long (c .before .before .before .before .before .pre))
+slice-aggregate-mark c = sym (as-long (c .before .before .before .before .before .before .pre))
 
 mark-requires : tie.Need-mark-requires
-mark-requires c κs = reads3 (c .before .before .before .before .before .before .before .pre)
+mark-requires c κs = reads3 (c .before .before .before .before .before .before .before .before .pre)
 
 leave-requires : tie.Need-leave-requires
 leave-requires c κs =
-    let at-mark = c .before .before .before .before in
-    let start = at-mark .before .before .before .before .before .before .before .before in
+    let at-mark = c .before .before .before .before .before in
+    let start = at-mark .before .before .before .before .before .before .before .before .before in
     leaves3 (start .pre) (at-mark .mark .ensures .0)
 
-sub-t13 : tie.Need-sub-t13
-sub-t13 c =
-    let at-leave = c .before .before in
-    let at-mark = at-leave .before .before .before .before .before in
+sub-t14 : tie.Need-sub-t14
+sub-t14 c =
+    let at-leave = c .before .before .before .before in
+    let at-mark = at-leave .before .before .before .before .before .before in
     left-fewer (left-by (at-mark .mark .ensures .0) (at-leave .leave .ensures))
 
 same-length : tie.Need-same-length
@@ -40,16 +40,20 @@ same-length-2 c = search needs
 same-length-3 : tie.Need-same-length-3
 same-length-3 c = search needs
 
+same-length-4 : tie.Need-same-length-4
+same-length-4 c = search needs
+
 returns : tie.Need-returns
 returns c =
-    let at-leave = c .before .before in
-    let at-mark = at-leave .before .before .before .before .before in
-    let start = at-mark .before .before .before .before .before .before .before .before in
-    rw (bit-set 2 (start .args .options) (c .before .before .before .before .before .before .before .before .before .before .before .if1 .taken)) (on3 (start .pre) (at-mark .mark .ensures .0) (left-by (at-mark .mark .ensures .0) (at-leave .leave .ensures)) (at-mark .mark .ensures .1))
+    let at-leave = c .before .before .before .before in
+    let at-mark = at-leave .before .before .before .before .before .before in
+    let start = at-mark .before .before .before .before .before .before .before .before .before in
+    rw (bit-set 2 (start .args .options) (at-mark .before .before .before .before .if1 .taken))
+    (on3 (start .pre) (at-mark .mark .ensures .0) (left-by (at-mark .mark .ensures .0) (at-leave .leave .ensures)) (at-mark .mark .ensures .1))
 
 returns-2 : tie.Need-returns-2
 returns-2 c =
-    let start = c .before .before .before .before in
+    let start = c .before .before .before .before .before in
     rw (bit-clear 2 (start .args .options) (c .if1 .left)) (off3 (start .pre))
 
 pub pass3-spec : {M : Type 1} → statement M
@@ -61,9 +65,10 @@ pass3-spec =
     slice-aggregate-mark
     mark-requires
     leave-requires
-    sub-t13
+    sub-t14
     same-length
     same-length-2
     same-length-3
+    same-length-4
     returns
     returns-2)

@@ -8,25 +8,25 @@ use Rattle.passes.proofs.pass4.Statement.{statement}
 use Rattle.passes.proofs.pass4.Tie as tie
 
 settle-requires : tie.Need-settle-requires
-settle-requires c κs = reads4 (c .before .before .before .before .before .before .pre)
+settle-requires c κs = reads4 (c .before .before .before .before .before .before .before .pre)
 
 mul-drop-collisions : tie.Need-mul-drop-collisions
 mul-drop-collisions c = search needs
 
-slice-reshare-prefix-drop-collisions :
-    tie.Need-slice-reshare-prefix-drop-collisions
-slice-reshare-prefix-drop-collisions c = omega (arith, c .before .before .before .before .before .before .before .before .before .before .before .pre .room)
+slice-reshare-prefix-drop-collisions : tie.Need-slice-reshare-prefix-drop-collisions
+slice-reshare-prefix-drop-collisions c = omega (arith, c .before .before .before .before .before .before .before .before .before .before .before .before .pre .room)
 
 slice-aggregate-drop-collisions : tie.Need-slice-aggregate-drop-collisions
-slice-aggregate-drop-collisions c = omega (arith, as-long (c .before .before .before .before .before .before .before .before .before .before .before .before .pre))
+slice-aggregate-drop-collisions c = omega (arith, as-long (c .before .before .before .before .before .before .before .before .before .before .before .before .before .pre))
 
 drop-collisions-requires : tie.Need-drop-collisions-requires
 drop-collisions-requires c κs =
-    let s = c .before .before .before .before .before .before .before .settle .ensures in
-    (turned-reads (c .before .before .before .before .before .before .before .before .before .before .before .before .before .before .pre) (s .0), s .1)
+    let at-settle = c .before .before .before .before .before .before .before .before in
+    let start = at-settle .before .before .before .before .before .before .before .before in
+    (turned-reads (start .pre) (at-settle .settle .ensures .0), (start .pre .own, at-settle .settle .ensures .1))
 
-sub-t18 : tie.Need-sub-t18
-sub-t18 c = left-fewer (c .before .before .before .before .drop-collisions .ensures .0)
+sub-t19 : tie.Need-sub-t19
+sub-t19 c = left-fewer (c .before .before .before .before .before .before .drop-collisions .ensures .0)
 
 same-length : tie.Need-same-length
 same-length c = search needs
@@ -37,11 +37,20 @@ same-length-2 c = search needs
 same-length-3 : tie.Need-same-length-3
 same-length-3 c = search needs
 
+same-length-4 : tie.Need-same-length-4
+same-length-4 c = search needs
+
 returns : tie.Need-returns
-returns c = rw (bit-set 4 (c .before .before .before .before .before .before .before .before .before .before .before .before .before .before .before .before .before .before .before .args .options) (c .before .before .before .before .before .before .before .before .before .before .before .before .before .before .before .if1 .taken)) (on4 (c .before .before .before .before .before .before .before .before .before .before .before .before .before .before .before .before .before .before .before .pre) (c .before .before .before .before .before .before .before .before .before .before .before .before .settle .ensures .0) (c .before .before .before .before .drop-collisions .ensures .1) (c .before .before .before .before .drop-collisions .ensures .0))
+returns c =
+    let at-drop = c .before .before .before .before .before .before in
+    let at-settle = at-drop .before .before .before .before .before .before .before .before .before in
+    let start = at-settle .before .before .before .before .before .before .before .before in
+    rw (bit-set 4 (start .args .options) (at-settle .before .before .before .if1 .taken)) (on4 (start .pre) (at-settle .settle .ensures .0) (at-drop .drop-collisions .ensures .1) (at-drop .drop-collisions .ensures .0))
 
 returns-2 : tie.Need-returns-2
-returns-2 c = rw (bit-clear 4 (c .before .before .before .before .args .options) (c .if1 .left)) (off4 (c .before .before .before .before .pre))
+returns-2 c =
+    let start = c .before .before .before .before .before in
+    rw (bit-clear 4 (start .args .options) (c .if1 .left)) (off4 (start .pre))
 
 pub pass4-spec : {M : Type 1} → statement M
 pass4-spec =
@@ -52,9 +61,10 @@ pass4-spec =
     slice-reshare-prefix-drop-collisions
     slice-aggregate-drop-collisions
     drop-collisions-requires
-    sub-t18
+    sub-t19
     same-length
     same-length-2
     same-length-3
+    same-length-4
     returns
     returns-2)

@@ -25,7 +25,7 @@ module _ {ps : List Float} {xs : List ℕ} {i : ℕ} (p : QualityAsks ps xs i) w
 
   -- they are those of face i
   done : {r : Float} → r ≡ rule.quality (pointsOf ps) (faceOf (getD xs (3 * i) 0) (getD xs (3 * i + 1) 0) (getD xs (3 * i + 2) 0)) → r ≡ valueOf ps xs i
-  unfolding qualityOf
+  unfolding qualityOf rule.quality
   done e =
       let w = p .faces .whole in
       let h = p .here in

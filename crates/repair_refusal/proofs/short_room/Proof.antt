@@ -1,6 +1,6 @@
 -- `repair_refusal::short_room` meets its contract: the first room that is too short, or none. Assumes nothing.
 use native.Mathlib.Omega.{arith}
-use Rattle.repair_refusal.proofs.Short.{short-0, short-1, short-2, short-3, long}
+use Rattle.repair_refusal.proofs.Short.{short-0, short-1, short-2, short-3, short-4, long}
 use borrow.Author.Needs.{needs}
 use Rattle.repair_refusal.proofs.short_room.Statement.{statement}
 use Rattle.repair_refusal.proofs.short_room.Tie as tie
@@ -15,25 +15,28 @@ mul-if1-2 : tie.Need-mul-if1-2
 mul-if1-2 c = search needs
 
 returns : tie.Need-returns
-returns c = short-0 _ _ _ _ _ _ (omega arith)
+returns c = short-0 _ _ _ _ _ _ _ (omega arith)
 
 mul-if2 : tie.Need-mul-if2
 mul-if2 c = search needs
 
 returns-2 : tie.Need-returns-2
-returns-2 c = short-1 _ _ _ _ _ _ (omega arith) (omega arith)
+returns-2 c = short-1 _ _ _ _ _ _ _ (omega arith) (omega arith)
 
 returns-3 : tie.Need-returns-3
-returns-3 c = short-2 _ _ _ _ _ _ (omega arith) (omega arith) (omega arith)
+returns-3 c = short-2 _ _ _ _ _ _ _ (omega arith) (omega arith) (omega arith)
+
+returns-4 : tie.Need-returns-4
+returns-4 c = short-3 _ _ _ _ _ _ _ (omega arith) (omega arith) (omega arith) (omega arith)
 
 stated-work-requires : tie.Need-stated-work-requires
 stated-work-requires c κs = search needs
 
-returns-4 : tie.Need-returns-4
-returns-4 c = short-3 _ _ _ _ _ _ (omega arith) (omega arith) (omega arith) (omega arith)
-
 returns-5 : tie.Need-returns-5
-returns-5 c = long _ _ _ _ _ _ (omega arith) (omega arith) (omega arith) (omega arith)
+returns-5 c = short-4 _ _ _ _ _ _ _ (omega arith) (omega arith) (omega arith) (omega arith) (omega arith)
+
+returns-6 : tie.Need-returns-6
+returns-6 c = long _ _ _ _ _ _ _ (omega arith) (omega arith) (omega arith) (omega arith) (omega arith)
 
 pub short-room-spec : {M : Type 1} → statement M
 short-room-spec =
@@ -46,6 +49,7 @@ short-room-spec =
     mul-if2
     returns-2
     returns-3
-    stated-work-requires
     returns-4
-    returns-5)
+    stated-work-requires
+    returns-5
+    returns-6)

@@ -79,14 +79,16 @@ module _ {points : List Float} {faces : List ℕ} {ps : List Float} {xs os w : L
 
     -- the origins are the places
     own-places : take n os₁ ≡ origins (facesOf faces)
+    unfolding face
     own-places =
         let l : length (facesOf faces) ≡ n = length-faces faces in
         let k : length (take n os₁) ≡ n = length-take-le n os₁ (omega (arith, a .room-origins, cn .0 .long)) in
         ext-getD 0 (take n os₁) (origins (facesOf faces)) (k ∙ sym (length-map (facesOf faces) (λ f. f .origin) ∙ l))
         (λ i h.
         let b : i < n = omega (arith, k) in
+        let at : i < length (facesOf faces) = omega (arith, l) in
         getD-take n os₁ i 0 b ∙ (rw zero-add at (cn .1 .each i b))
-        ∙ sym (unfold face in (getD-map-in (λ f. f .origin) (facesOf faces) i (record { a = 0; b = 0; c = 0; origin = 0 }) 0 (omega (arith, l)) ∙ numbered faces i (omega (arith, l)))))
+        ∙ sym (getD-map-in (λ f. f .origin) (facesOf faces) i (record { a = 0; b = 0; c = 0; origin = 0 }) 0 at ∙ numbered faces i at))
 
     -- so the faces are the given ones, each its own origin
     faces-given : carried xs₁ os₁ n ≡ facesOf faces

@@ -2,12 +2,12 @@
 -- it, the loops that the latter then leaves, and that `shell_check` says yes to it; and that what `shell_check` says yes to is refused neither 7 nor 8.
 -- The number 0 says that the rules accepted the call, and of that call the rules' demand speaks. Assumes nothing.
 use mathlib.Core.Path.{_≡_, sym, ap, _∙_, subst}
-use mathlib.Core.List.{List, [], _∷_}
+use mathlib.Core.List.{List, [], _∷_, map}
 use Prim.Native.Nat.{ℕ, _+_, _*_, _/_, _<_}
 use native.Mathlib.Omega.{arith}
-use lib.ListN.{length, getD, take}
+use lib.ListN.{length, getD, take, length-map}
 use lib.Ieee.{Float}
-use Rattle.rules.specs.Mesh.{pointsOf, facesOf, flatPoints, flatFaces, zero64}
+use Rattle.rules.specs.Mesh.{pointsOf, facesOf, facesWith, flatPoints, flatFaces, zero64}
 use Rattle.rules.specs.State.{State}
 use Rattle.rules.specs.Rooms.{accepted}
 use Rattle.rules.specs.Repair.{repaired}
@@ -29,7 +29,7 @@ use Rattle.demanded_in_c.proofs.Zero.{zero-accepted, accepted-zero, one
 
 -- what `shell_repair` ensures with options 63, of its rooms before and after and of what it gives back
 abbrev pub Repaired-as : List Float → List ℕ → Float → RepairRooms → RepairRooms → ShellRepaired → Type 0
-Repaired-as points faces s before after r = Given (r .number) (r .place) (r .points ∷ r .faces ∷ r .counts ∷ []) after (repair points faces s 63 before)
+Repaired-as points faces s before after r = Given (r .number) (r .place) (r .points ∷ r .faces ∷ r .counts ∷ r .origins ∷ []) after (repair points faces s 63 before)
 
 -- what `shell_edges` ensures
 abbrev pub Edges-as : List Float → List ℕ → EdgesRooms → EdgesRooms → ShellEdges → Type 0
@@ -51,9 +51,13 @@ points-in r rooms = take (r .points) (rooms .out-points)
 abbrev pub faces-in : ShellRepaired → RepairRooms → List ℕ
 faces-in r rooms = take (r .faces) (rooms .out-faces)
 
--- the mesh, with the report
+-- the origins, one a face
+abbrev pub origins-in : ShellRepaired → RepairRooms → List ℕ
+origins-in r rooms = take (r .origins) (rooms .origins)
+
+-- the mesh, each face with its origin, and the report
 abbrev pub mesh-in : ShellRepaired → RepairRooms → State
-mesh-in r rooms = record { points = pointsOf (points-in r rooms); faces = facesOf (faces-in r rooms); report = take (r .counts) (rooms .report) }
+mesh-in r rooms = record { points = pointsOf (points-in r rooms); faces = facesWith (faces-in r rooms) (origins-in r rooms); report = take (r .counts) (rooms .report) }
 
 -- given enough room, the rules' edge call accepts the points ps and the faces xs, both flat
 abbrev Edges-accept : List Float → List ℕ → Type 0
@@ -87,11 +91,11 @@ module _ (points : List Float) (faces before after : List ℕ) (t : ShellCheck) 
 
 module _ (points : List Float) (faces : List ℕ) (s : Float) (before after : RepairRooms) (r : ShellRepaired) (g : Repaired-as points faces s before after r) (zero : r .number ≡ 0) where
   -- the rules accepted it
-  taken : repair points faces s 63 before .answer ≡ accepted (r .points ∷ r .faces ∷ r .counts ∷ [])
+  taken : repair points faces s 63 before .answer ≡ accepted (r .points ∷ r .faces ∷ r .counts ∷ r .origins ∷ [])
   taken = zero-accepted (repair-numbered points faces s 63 before) g zero
 
   -- the rules' word on the call
-  said : Called3 points faces s before (r .points ∷ r .faces ∷ r .counts ∷ [])
+  said : Called3 points faces s before (r .points ∷ r .faces ∷ r .counts ∷ r .origins ∷ [])
   said = called3 points faces s before _ taken
 
   -- demand 3 holds of the mesh that stands in the rooms
@@ -103,19 +107,23 @@ module _ (points : List Float) (faces : List ℕ) (s : Float) (before after : Re
   shell-demanded-beside = subst (λ q. Beside (mesh-in r q)) (sym (g .after)) (said .beside)
 
   -- so many entries stand there
-  pub shell-demanded-entries : (length (points-in r after) ≡ r .points) × (length (faces-in r after) ≡ r .faces)
+  pub shell-demanded-entries : (length (points-in r after) ≡ r .points) × (length (faces-in r after) ≡ r .faces) × (length (origins-in r after) ≡ r .origins)
   unfolding repair
   shell-demanded-entries =
       let m = repaired s 63 (pointsOf points) (facesOf faces) in
       let o = outcome-ok (repair-check points faces s 63 before) before _ _ _ taken in
       let p = ap (λ l. getD l 0 0) (o .1) in
-      let f = ap (λ l. getD l 1 0) (o .1) in (
+      let f = ap (λ l. getD l 1 0) (o .1) in
+      let k = ap (λ l. getD l 3 0) (o .1) in (
         ap (λ q. length (points-in r q)) (g .after ∙ o .2)
             ∙ ap length (filled-front zero64 (3 * (length points / 3 + 3 * (length faces / 3))) (r .points) (flatPoints (m .points)) (before .out-points) (length-flat-points (m .points) ∙ p))
             ∙ length-flat-points (m .points) ∙ p,
         ap (λ q. length (faces-in r q)) (g .after ∙ o .2)
             ∙ ap length (filled-front 0 (3 * (length faces / 3)) (r .faces) (flatFaces (m .faces)) (before .out-faces) (length-flat-faces (m .faces) ∙ f))
             ∙ length-flat-faces (m .faces) ∙ f,
+        ap (λ q. length (origins-in r q)) (g .after ∙ o .2)
+            ∙ ap length (filled-front 0 (length faces / 3) (r .origins) (map (λ t. t .origin) (m .faces)) (before .origins) (length-map (m .faces) (λ t. t .origin) ∙ k))
+            ∙ length-map (m .faces) (λ t. t .origin) ∙ k,
       )
 
   -- room for so many points and faces is room for the mesh that stands there

@@ -43,25 +43,26 @@ use Rattle.ply_counts.specs.Answers as counts
 
 -- what a repair gave back, from the rules' answer
 abbrev repaired-of : Answer → Repaired
-repaired-of (accepted ns) = repaired.Done (getD ns 0 0) (getD ns 1 0)
+repaired-of (accepted ns) = repaired.Done (getD ns 0 0) (getD ns 1 0) (getD ns 3 0)
 repaired-of (refused n p) = repaired.Refused n p
 
 -- nothing of it is lost
 repaired-is : (r : Repaired) → repaired-of (repair.answerOf r) ≡ r
-repaired-is (repaired.Done a b) = refl
+repaired-is (repaired.Done a b k) = refl
 repaired-is (repaired.Refused n p) = refl
 
 -- a repair has one answer, and leaves one list in each room
 pub one-repair :
-    {o : Outcome RepairRooms} {r r′ : Repaired} {points points′ : List Float} {faces faces′ report report′ work work′ : List ℕ}
-    → repair.outcomeOf r points faces report work ≡ o → repair.outcomeOf r′ points′ faces′ report′ work′ ≡ o
-    → (r ≡ r′) × (points ≡ points′) × (faces ≡ faces′) × (report ≡ report′) × (work ≡ work′)
+    {o : Outcome RepairRooms} {r r′ : Repaired} {points points′ : List Float} {faces faces′ report report′ origins origins′ work work′ : List ℕ}
+    → repair.outcomeOf r points faces report origins work ≡ o → repair.outcomeOf r′ points′ faces′ report′ origins′ work′ ≡ o
+    → (r ≡ r′) × (points ≡ points′) × (faces ≡ faces′) × (report ≡ report′) × (origins ≡ origins′) × (work ≡ work′)
 one-repair {o} {r} {r′} p q =
     let e = p ∙ sym q in (
       sym (repaired-is r) ∙ ap (λ t. repaired-of (t .answer)) e ∙ repaired-is r′,
       ap (λ t. t .rooms .out-points) e,
       ap (λ t. t .rooms .out-faces) e,
       ap (λ t. t .rooms .report) e,
+      ap (λ t. t .rooms .origins) e,
       ap (λ t. t .rooms .work) e,
     )
 

@@ -25,11 +25,11 @@ one-given {R} {o} l g h = (g .answer ∙ ap (λ k. told k (o .answer)) l ∙ sym
 module _ {R : Type 0} {o : Outcome R} {rooms rooms′ : R} where
   -- shell_repair
   pub one-shell-repair :
-      {r r′ : ShellRepaired} → Given (r .number) (r .place) (r .points ∷ r .faces ∷ r .counts ∷ []) rooms o
-      → Given (r′ .number) (r′ .place) (r′ .points ∷ r′ .faces ∷ r′ .counts ∷ []) rooms′ o → (r ≡ r′) × (rooms ≡ rooms′)
+      {r r′ : ShellRepaired} → Given (r .number) (r .place) (r .points ∷ r .faces ∷ r .counts ∷ r .origins ∷ []) rooms o
+      → Given (r′ .number) (r′ .place) (r′ .points ∷ r′ .faces ∷ r′ .counts ∷ r′ .origins ∷ []) rooms′ o → (r ≡ r′) × (rooms ≡ rooms′)
   one-shell-repair g h =
       let b = one-given refl g h in
-      (ap (λ xs. record { number = getD xs 0 0; place = getD xs 1 0; points = getD xs 2 0; faces = getD xs 3 0; counts = getD xs 4 0 }) (b .0), b .1)
+      (ap (λ xs. record { number = getD xs 0 0; place = getD xs 1 0; points = getD xs 2 0; faces = getD xs 3 0; counts = getD xs 4 0; origins = getD xs 5 0 }) (b .0), b .1)
 
   -- shell_edges
   pub one-shell-edges :

@@ -22,7 +22,7 @@ ghost use Rattle.patch_mask.specs.Mask.{masked};
 ghost use Rattle.shell.specs.Told.{Given};
 ghost use Rattle.shell.specs.Clip.{clip, clipped};
 
-// What a repair gives back: how many entries stand in the rooms of points, faces and report.
+// What a repair gives back: how many entries stand in the rooms of points, faces, report and origins.
 #[repr(C)]
 pub struct ShellRepaired {
     pub number: u32,
@@ -30,9 +30,10 @@ pub struct ShellRepaired {
     pub points: u64,
     pub faces: u64,
     pub counts: u64,
+    pub origins: u64,
 }
 
-// The repair: the mended points and faces, and the counts of the report.
+// The repair: the mended points and faces, the counts of the report, and of each face the number that it had in the input.
 #[no_mangle]
 pub extern "C" fn shell_repair(
     points: &[f64],
@@ -42,12 +43,13 @@ pub extern "C" fn shell_repair(
     out_points: &mut [f64],
     out_faces: &mut [u32],
     report: &mut [u32],
+    origins: &mut [u32],
     work: &mut [u32],
 ) -> ShellRepaired
     ensures { λ r. ⌜
-        (let before = repaired.roomsOf (now («out_points» .entry)) (now («out_faces» .entry)) (now (report .entry)) (now (work .entry)) in
-        let after = repaired.roomsOf (now («out_points» .exit)) (now («out_faces» .exit)) (now (report .exit)) (now (work .exit)) in
-        Given (r .number) (r .place) (r .points ∷ r .faces ∷ r .counts ∷ []) after (rule.repair (now (points .entry)) (now (faces .entry)) s options before))
+        (let before = repaired.roomsOf (now («out_points» .entry)) (now («out_faces» .entry)) (now (report .entry)) (now (origins .entry)) (now (work .entry)) in
+        let after = repaired.roomsOf (now («out_points» .exit)) (now («out_faces» .exit)) (now (report .exit)) (now (origins .exit)) (now (work .exit)) in
+        Given (r .number) (r .place) (r .points ∷ r .faces ∷ r .counts ∷ r .origins ∷ []) after (rule.repair (now (points .entry)) (now (faces .entry)) s options before))
         ⌝ }
 {
     match repair::repair(
@@ -58,14 +60,16 @@ pub extern "C" fn shell_repair(
         out_points,
         out_faces,
         report,
+        origins,
         work,
     ) {
-        Repaired::Done(a, b) => ShellRepaired {
+        Repaired::Done(a, b, k) => ShellRepaired {
             number: 0,
             place: 0,
             points: a as u64,
             faces: b as u64,
             counts: rules::COUNTS as u64,
+            origins: k as u64,
         },
         Repaired::Refused(number, at) => {
             let place = at as u32;
@@ -75,6 +79,7 @@ pub extern "C" fn shell_repair(
                 points: 0,
                 faces: 0,
                 counts: 0,
+                origins: 0,
             }
         }
     }

@@ -15,58 +15,161 @@ enum-known-number : tie.Need-enum-known-number
 enum-known-number c = search needs
 
 returns : tie.Need-returns
-returns c = is-refused (c .before .before .before .before .before .before .before .before .before .before .args .points .now) (c .before .before .before .before .before .before .before .before .before .before .args .faces .now) (c .before .before .before .before .before .before .before .before .before .before .args .s) (c .before .before .before .before .before .before .before .before .before .before .args .options) (c .before .before .before .before .before .before .before .before .before .before .args .out-points .now) (c .before .before .before .before .before .before .before .before .before .before .args .out-faces .now) (c .before .before .before .before .before .before .before .before .before .before .args .report .now) (c .before .before .before .before .before .before .before .before .before .before .args .work .now) _ (c .before .before .before .repair-refusal .ensures) _ _ (c .before .number .given .1)
+returns c =
+    let refusal = c .before .before .before in
+    let a = refusal .before .before .before .before .before .before .before .before .args in
+    is-refused (a .points .now) (a .faces .now) (a .s) (a .options) (a .out-points .now) (a .out-faces .now) (a .report .now) (a .origins .now) (a .work .now) _ (refusal .repair-refusal .ensures) _ _ (c .before .number .given .1)
 
 mend-requires : tie.Need-mend-requires
-mend-requires c κs = mend-asks (c .before .before .before .before .before .before .before .before .before .before .before .before .args .points .now) (c .before .before .before .before .before .before .before .before .before .before .before .before .args .faces .now) (c .before .before .before .before .before .before .before .before .before .before .before .before .args .s) (c .before .before .before .before .before .before .before .before .before .before .before .before .args .options) (c .before .before .before .before .before .before .before .before .before .before .before .before .args .out-points .now) (c .before .before .before .before .before .before .before .before .before .before .before .before .args .out-faces .now) (c .before .before .before .before .before .before .before .before .before .before .before .before .args .report .now) (c .before .before .before .before .before .before .before .before .before .before .before .before .args .work .now) _ (c .before .before .before .before .before .repair-refusal .ensures) (c .before .before .before .enum-told .given .1)
+mend-requires c κs =
+    let fine = c .before .before .before .before in
+    let refusal = fine .before .before in
+    let a = refusal .before .before .before .before .before .before .before .before .args in
+    mend-asks (a .points .now) (a .faces .now) (a .s) (a .options) (a .out-points .now) (a .out-faces .now) (a .report .now) (a .origins .now) (a .work .now) _ (refusal .repair-refusal .ensures) (fine .enum-told .given .1)
 
 mul-a : tie.Need-mul-a
-mul-a c = omega (arith, sizes (c .before .before .before .before .before .before .before .before .before .before .before .before .before .before .before .before .before .before .before .before .args .points .now) (c .before .before .before .before .before .before .before .before .before .before .before .before .before .before .before .before .before .before .before .before .args .faces .now) (c .before .before .before .before .before .before .before .before .before .before .before .before .before .before .before .before .before .before .before .before .args .s) (c .before .before .before .before .before .before .before .before .before .before .before .before .before .before .before .before .before .before .before .before .args .options) (c .before .before .before .before .before .before .before .before .before .before .before .before .before .before .before .before .before .before .before .before .args .out-points .now) (c .before .before .before .before .before .before .before .before .before .before .before .before .before .before .before .before .before .before .before .before .args .out-faces .now) (c .before .before .before .before .before .before .before .before .before .before .before .before .before .before .before .before .before .before .before .before .args .report .now) (c .before .before .before .before .before .before .before .before .before .before .before .before .before .before .before .before .before .before .before .before .args .work .now) _ (c .before .before .before .before .before .before .before .before .before .before .before .before .before .repair-refusal .ensures) (c .before .before .before .before .before .before .before .before .before .before .before .enum-told .given .1) (c .before .before .before .before .before .before .before .mend .ensures))
+mul-a c =
+    let at-mend = c .before .before .before .before .before .before .before .before .before in
+    let fine = at-mend .before .before .before .before .before in
+    let refusal = fine .before .before in
+    let a = refusal .before .before .before .before .before .before .before .before .args in
+    omega (arith, sizes (a .points .now) (a .faces .now) (a .s) (a .options) (a .out-points .now) (a .out-faces .now) (a .report .now) (a .origins .now) (a .work .now) _ (refusal .repair-refusal .ensures) (fine .enum-told .given .1) (at-mend .mend .ensures))
 
 mul-b : tie.Need-mul-b
-mul-b c = omega (arith, sizes (c .before .before .before .before .before .before .before .before .before .before .before .before .before .before .before .before .before .before .before .before .before .args .points .now) (c .before .before .before .before .before .before .before .before .before .before .before .before .before .before .before .before .before .before .before .before .before .args .faces .now) (c .before .before .before .before .before .before .before .before .before .before .before .before .before .before .before .before .before .before .before .before .before .args .s) (c .before .before .before .before .before .before .before .before .before .before .before .before .before .before .before .before .before .before .before .before .before .args .options) (c .before .before .before .before .before .before .before .before .before .before .before .before .before .before .before .before .before .before .before .before .before .args .out-points .now) (c .before .before .before .before .before .before .before .before .before .before .before .before .before .before .before .before .before .before .before .before .before .args .out-faces .now) (c .before .before .before .before .before .before .before .before .before .before .before .before .before .before .before .before .before .before .before .before .before .args .report .now) (c .before .before .before .before .before .before .before .before .before .before .before .before .before .before .before .before .before .before .before .before .before .args .work .now) _ (c .before .before .before .before .before .before .before .before .before .before .before .before .before .before .repair-refusal .ensures) (c .before .before .before .before .before .before .before .before .before .before .before .before .enum-told .given .1) (c .before .before .before .before .before .before .before .before .mend .ensures))
+mul-b c =
+    let at-mend = c .before .before .before .before .before .before .before .before .before in
+    let fine = at-mend .before .before .before .before .before in
+    let refusal = fine .before .before in
+    let a = refusal .before .before .before .before .before .before .before .before .args in
+    omega (arith, sizes (a .points .now) (a .faces .now) (a .s) (a .options) (a .out-points .now) (a .out-faces .now) (a .report .now) (a .origins .now) (a .work .now) _ (refusal .repair-refusal .ensures) (fine .enum-told .given .1) (at-mend .mend .ensures))
 
 mul-wipe-points : tie.Need-mul-wipe-points
-mul-wipe-points c = omega (arith, sizes (c .before .before .before .before .before .before .before .before .before .before .before .before .before .before .before .before .before .before .before .before .before .before .before .args .points .now) (c .before .before .before .before .before .before .before .before .before .before .before .before .before .before .before .before .before .before .before .before .before .before .before .args .faces .now) (c .before .before .before .before .before .before .before .before .before .before .before .before .before .before .before .before .before .before .before .before .before .before .before .args .s) (c .before .before .before .before .before .before .before .before .before .before .before .before .before .before .before .before .before .before .before .before .before .before .before .args .options) (c .before .before .before .before .before .before .before .before .before .before .before .before .before .before .before .before .before .before .before .before .before .before .before .args .out-points .now) (c .before .before .before .before .before .before .before .before .before .before .before .before .before .before .before .before .before .before .before .before .before .before .before .args .out-faces .now) (c .before .before .before .before .before .before .before .before .before .before .before .before .before .before .before .before .before .before .before .before .before .before .before .args .report .now) (c .before .before .before .before .before .before .before .before .before .before .before .before .before .before .before .before .before .before .before .before .before .before .before .args .work .now) _ (c .before .before .before .before .before .before .before .before .before .before .before .before .before .before .before .before .repair-refusal .ensures) (c .before .before .before .before .before .before .before .before .before .before .before .before .before .before .enum-told .given .1) (c .before .before .before .before .before .before .before .before .before .before .mend .ensures))
+mul-wipe-points c =
+    let at-mend = c .before .before .before .before .before .before .before .before .before .before .before in
+    let fine = at-mend .before .before .before .before .before in
+    let refusal = fine .before .before in
+    let a = refusal .before .before .before .before .before .before .before .before .args in
+    omega (arith, sizes (a .points .now) (a .faces .now) (a .s) (a .options) (a .out-points .now) (a .out-faces .now) (a .report .now) (a .origins .now) (a .work .now) _ (refusal .repair-refusal .ensures) (fine .enum-told .given .1) (at-mend .mend .ensures))
 
 add-wipe-points : tie.Need-add-wipe-points
-add-wipe-points c = omega (arith, sizes (c .before .before .before .before .before .before .before .before .before .before .before .before .before .before .before .before .before .before .before .before .before .before .before .args .points .now) (c .before .before .before .before .before .before .before .before .before .before .before .before .before .before .before .before .before .before .before .before .before .before .before .args .faces .now) (c .before .before .before .before .before .before .before .before .before .before .before .before .before .before .before .before .before .before .before .before .before .before .before .args .s) (c .before .before .before .before .before .before .before .before .before .before .before .before .before .before .before .before .before .before .before .before .before .before .before .args .options) (c .before .before .before .before .before .before .before .before .before .before .before .before .before .before .before .before .before .before .before .before .before .before .before .args .out-points .now) (c .before .before .before .before .before .before .before .before .before .before .before .before .before .before .before .before .before .before .before .before .before .before .before .args .out-faces .now) (c .before .before .before .before .before .before .before .before .before .before .before .before .before .before .before .before .before .before .before .before .before .before .before .args .report .now) (c .before .before .before .before .before .before .before .before .before .before .before .before .before .before .before .before .before .before .before .before .before .before .before .args .work .now) _ (c .before .before .before .before .before .before .before .before .before .before .before .before .before .before .before .before .repair-refusal .ensures) (c .before .before .before .before .before .before .before .before .before .before .before .before .before .before .enum-told .given .1) (c .before .before .before .before .before .before .before .before .before .before .mend .ensures))
+add-wipe-points c =
+    let at-mend = c .before .before .before .before .before .before .before .before .before .before .before in
+    let fine = at-mend .before .before .before .before .before in
+    let refusal = fine .before .before in
+    let a = refusal .before .before .before .before .before .before .before .before .args in
+    omega (arith, sizes (a .points .now) (a .faces .now) (a .s) (a .options) (a .out-points .now) (a .out-faces .now) (a .report .now) (a .origins .now) (a .work .now) _ (refusal .repair-refusal .ensures) (fine .enum-told .given .1) (at-mend .mend .ensures))
 
 mul-wipe-points-2 : tie.Need-mul-wipe-points-2
-mul-wipe-points-2 c = omega (arith, sizes (c .before .before .before .before .before .before .before .before .before .before .before .before .before .before .before .before .before .before .before .before .before .before .before .args .points .now) (c .before .before .before .before .before .before .before .before .before .before .before .before .before .before .before .before .before .before .before .before .before .before .before .args .faces .now) (c .before .before .before .before .before .before .before .before .before .before .before .before .before .before .before .before .before .before .before .before .before .before .before .args .s) (c .before .before .before .before .before .before .before .before .before .before .before .before .before .before .before .before .before .before .before .before .before .before .before .args .options) (c .before .before .before .before .before .before .before .before .before .before .before .before .before .before .before .before .before .before .before .before .before .before .before .args .out-points .now) (c .before .before .before .before .before .before .before .before .before .before .before .before .before .before .before .before .before .before .before .before .before .before .before .args .out-faces .now) (c .before .before .before .before .before .before .before .before .before .before .before .before .before .before .before .before .before .before .before .before .before .before .before .args .report .now) (c .before .before .before .before .before .before .before .before .before .before .before .before .before .before .before .before .before .before .before .before .before .before .before .args .work .now) _ (c .before .before .before .before .before .before .before .before .before .before .before .before .before .before .before .before .repair-refusal .ensures) (c .before .before .before .before .before .before .before .before .before .before .before .before .before .before .enum-told .given .1) (c .before .before .before .before .before .before .before .before .before .before .mend .ensures))
+mul-wipe-points-2 c =
+    let at-mend = c .before .before .before .before .before .before .before .before .before .before .before in
+    let fine = at-mend .before .before .before .before .before in
+    let refusal = fine .before .before in
+    let a = refusal .before .before .before .before .before .before .before .before .args in
+    omega (arith, sizes (a .points .now) (a .faces .now) (a .s) (a .options) (a .out-points .now) (a .out-faces .now) (a .report .now) (a .origins .now) (a .work .now) _ (refusal .repair-refusal .ensures) (fine .enum-told .given .1) (at-mend .mend .ensures))
 
 sub-wipe-points : tie.Need-sub-wipe-points
-sub-wipe-points c = omega (arith, sizes (c .before .before .before .before .before .before .before .before .before .before .before .before .before .before .before .before .before .before .before .before .before .before .before .args .points .now) (c .before .before .before .before .before .before .before .before .before .before .before .before .before .before .before .before .before .before .before .before .before .before .before .args .faces .now) (c .before .before .before .before .before .before .before .before .before .before .before .before .before .before .before .before .before .before .before .before .before .before .before .args .s) (c .before .before .before .before .before .before .before .before .before .before .before .before .before .before .before .before .before .before .before .before .before .before .before .args .options) (c .before .before .before .before .before .before .before .before .before .before .before .before .before .before .before .before .before .before .before .before .before .before .before .args .out-points .now) (c .before .before .before .before .before .before .before .before .before .before .before .before .before .before .before .before .before .before .before .before .before .before .before .args .out-faces .now) (c .before .before .before .before .before .before .before .before .before .before .before .before .before .before .before .before .before .before .before .before .before .before .before .args .report .now) (c .before .before .before .before .before .before .before .before .before .before .before .before .before .before .before .before .before .before .before .before .before .before .before .args .work .now) _ (c .before .before .before .before .before .before .before .before .before .before .before .before .before .before .before .before .repair-refusal .ensures) (c .before .before .before .before .before .before .before .before .before .before .before .before .before .before .enum-told .given .1) (c .before .before .before .before .before .before .before .before .before .before .mend .ensures))
+sub-wipe-points c =
+    let at-mend = c .before .before .before .before .before .before .before .before .before .before .before in
+    let fine = at-mend .before .before .before .before .before in
+    let refusal = fine .before .before in
+    let a = refusal .before .before .before .before .before .before .before .before .args in
+    omega (arith, sizes (a .points .now) (a .faces .now) (a .s) (a .options) (a .out-points .now) (a .out-faces .now) (a .report .now) (a .origins .now) (a .work .now) _ (refusal .repair-refusal .ensures) (fine .enum-told .given .1) (at-mend .mend .ensures))
 
 wipe-points-requires : tie.Need-wipe-points-requires
-wipe-points-requires c κs = omega (arith, sizes (c .before .before .before .before .before .before .before .before .before .before .before .before .before .before .before .before .before .before .before .before .before .before .before .args .points .now) (c .before .before .before .before .before .before .before .before .before .before .before .before .before .before .before .before .before .before .before .before .before .before .before .args .faces .now) (c .before .before .before .before .before .before .before .before .before .before .before .before .before .before .before .before .before .before .before .before .before .before .before .args .s) (c .before .before .before .before .before .before .before .before .before .before .before .before .before .before .before .before .before .before .before .before .before .before .before .args .options) (c .before .before .before .before .before .before .before .before .before .before .before .before .before .before .before .before .before .before .before .before .before .before .before .args .out-points .now) (c .before .before .before .before .before .before .before .before .before .before .before .before .before .before .before .before .before .before .before .before .before .before .before .args .out-faces .now) (c .before .before .before .before .before .before .before .before .before .before .before .before .before .before .before .before .before .before .before .before .before .before .before .args .report .now) (c .before .before .before .before .before .before .before .before .before .before .before .before .before .before .before .before .before .before .before .before .before .before .before .args .work .now) _ (c .before .before .before .before .before .before .before .before .before .before .before .before .before .before .before .before .repair-refusal .ensures) (c .before .before .before .before .before .before .before .before .before .before .before .before .before .before .enum-told .given .1) (c .before .before .before .before .before .before .before .before .before .before .mend .ensures))
+wipe-points-requires c κs =
+    let at-mend = c .before .before .before .before .before .before .before .before .before .before .before in
+    let fine = at-mend .before .before .before .before .before in
+    let refusal = fine .before .before in
+    let a = refusal .before .before .before .before .before .before .before .before .args in
+    omega (arith, sizes (a .points .now) (a .faces .now) (a .s) (a .options) (a .out-points .now) (a .out-faces .now) (a .report .now) (a .origins .now) (a .work .now) _ (refusal .repair-refusal .ensures) (fine .enum-told .given .1) (at-mend .mend .ensures))
 
 mul-wipe : tie.Need-mul-wipe
-mul-wipe c = omega (arith, sizes (c .before .before .before .before .before .before .before .before .before .before .before .before .before .before .before .before .before .before .before .before .before .before .before .before .before .before .before .args .points .now) (c .before .before .before .before .before .before .before .before .before .before .before .before .before .before .before .before .before .before .before .before .before .before .before .before .before .before .before .args .faces .now) (c .before .before .before .before .before .before .before .before .before .before .before .before .before .before .before .before .before .before .before .before .before .before .before .before .before .before .before .args .s) (c .before .before .before .before .before .before .before .before .before .before .before .before .before .before .before .before .before .before .before .before .before .before .before .before .before .before .before .args .options) (c .before .before .before .before .before .before .before .before .before .before .before .before .before .before .before .before .before .before .before .before .before .before .before .before .before .before .before .args .out-points .now) (c .before .before .before .before .before .before .before .before .before .before .before .before .before .before .before .before .before .before .before .before .before .before .before .before .before .before .before .args .out-faces .now) (c .before .before .before .before .before .before .before .before .before .before .before .before .before .before .before .before .before .before .before .before .before .before .before .before .before .before .before .args .report .now) (c .before .before .before .before .before .before .before .before .before .before .before .before .before .before .before .before .before .before .before .before .before .before .before .before .before .before .before .args .work .now) _ (c .before .before .before .before .before .before .before .before .before .before .before .before .before .before .before .before .before .before .before .before .repair-refusal .ensures) (c .before .before .before .before .before .before .before .before .before .before .before .before .before .before .before .before .before .before .enum-told .given .1) (c .before .before .before .before .before .before .before .before .before .before .before .before .before .before .mend .ensures))
+mul-wipe c =
+    let at-mend = c .before .before .before .before .before .before .before .before .before .before .before .before .before .before .before in
+    let fine = at-mend .before .before .before .before .before in
+    let refusal = fine .before .before in
+    let a = refusal .before .before .before .before .before .before .before .before .args in
+    omega (arith, sizes (a .points .now) (a .faces .now) (a .s) (a .options) (a .out-points .now) (a .out-faces .now) (a .report .now) (a .origins .now) (a .work .now) _ (refusal .repair-refusal .ensures) (fine .enum-told .given .1) (at-mend .mend .ensures))
 
 sub-wipe : tie.Need-sub-wipe
-sub-wipe c = omega (arith, sizes (c .before .before .before .before .before .before .before .before .before .before .before .before .before .before .before .before .before .before .before .before .before .before .before .before .before .before .before .args .points .now) (c .before .before .before .before .before .before .before .before .before .before .before .before .before .before .before .before .before .before .before .before .before .before .before .before .before .before .before .args .faces .now) (c .before .before .before .before .before .before .before .before .before .before .before .before .before .before .before .before .before .before .before .before .before .before .before .before .before .before .before .args .s) (c .before .before .before .before .before .before .before .before .before .before .before .before .before .before .before .before .before .before .before .before .before .before .before .before .before .before .before .args .options) (c .before .before .before .before .before .before .before .before .before .before .before .before .before .before .before .before .before .before .before .before .before .before .before .before .before .before .before .args .out-points .now) (c .before .before .before .before .before .before .before .before .before .before .before .before .before .before .before .before .before .before .before .before .before .before .before .before .before .before .before .args .out-faces .now) (c .before .before .before .before .before .before .before .before .before .before .before .before .before .before .before .before .before .before .before .before .before .before .before .before .before .before .before .args .report .now) (c .before .before .before .before .before .before .before .before .before .before .before .before .before .before .before .before .before .before .before .before .before .before .before .before .before .before .before .args .work .now) _ (c .before .before .before .before .before .before .before .before .before .before .before .before .before .before .before .before .before .before .before .before .repair-refusal .ensures) (c .before .before .before .before .before .before .before .before .before .before .before .before .before .before .before .before .before .before .enum-told .given .1) (c .before .before .before .before .before .before .before .before .before .before .before .before .before .before .mend .ensures))
+sub-wipe c =
+    let at-mend = c .before .before .before .before .before .before .before .before .before .before .before .before .before .before .before in
+    let fine = at-mend .before .before .before .before .before in
+    let refusal = fine .before .before in
+    let a = refusal .before .before .before .before .before .before .before .before .args in
+    omega (arith, sizes (a .points .now) (a .faces .now) (a .s) (a .options) (a .out-points .now) (a .out-faces .now) (a .report .now) (a .origins .now) (a .work .now) _ (refusal .repair-refusal .ensures) (fine .enum-told .given .1) (at-mend .mend .ensures))
 
 wipe-requires : tie.Need-wipe-requires
-wipe-requires c κs = omega (arith, sizes (c .before .before .before .before .before .before .before .before .before .before .before .before .before .before .before .before .before .before .before .before .before .before .before .before .before .before .before .args .points .now) (c .before .before .before .before .before .before .before .before .before .before .before .before .before .before .before .before .before .before .before .before .before .before .before .before .before .before .before .args .faces .now) (c .before .before .before .before .before .before .before .before .before .before .before .before .before .before .before .before .before .before .before .before .before .before .before .before .before .before .before .args .s) (c .before .before .before .before .before .before .before .before .before .before .before .before .before .before .before .before .before .before .before .before .before .before .before .before .before .before .before .args .options) (c .before .before .before .before .before .before .before .before .before .before .before .before .before .before .before .before .before .before .before .before .before .before .before .before .before .before .before .args .out-points .now) (c .before .before .before .before .before .before .before .before .before .before .before .before .before .before .before .before .before .before .before .before .before .before .before .before .before .before .before .args .out-faces .now) (c .before .before .before .before .before .before .before .before .before .before .before .before .before .before .before .before .before .before .before .before .before .before .before .before .before .before .before .args .report .now) (c .before .before .before .before .before .before .before .before .before .before .before .before .before .before .before .before .before .before .before .before .before .before .before .before .before .before .before .args .work .now) _ (c .before .before .before .before .before .before .before .before .before .before .before .before .before .before .before .before .before .before .before .before .repair-refusal .ensures) (c .before .before .before .before .before .before .before .before .before .before .before .before .before .before .before .before .before .before .enum-told .given .1) (c .before .before .before .before .before .before .before .before .before .before .before .before .before .before .mend .ensures))
+wipe-requires c κs =
+    let at-mend = c .before .before .before .before .before .before .before .before .before .before .before .before .before .before .before in
+    let fine = at-mend .before .before .before .before .before in
+    let refusal = fine .before .before in
+    let a = refusal .before .before .before .before .before .before .before .before .args in
+    omega (arith, sizes (a .points .now) (a .faces .now) (a .s) (a .options) (a .out-points .now) (a .out-faces .now) (a .report .now) (a .origins .now) (a .work .now) _ (refusal .repair-refusal .ensures) (fine .enum-told .given .1) (at-mend .mend .ensures))
 
 write-report-requires : tie.Need-write-report-requires
-write-report-requires c κs = report-asks (c .before .before .before .before .before .before .before .before .before .before .before .before .before .before .before .before .before .before .before .before .before .before .before .before .before .before .before .before .before .before .before .args .points .now) (c .before .before .before .before .before .before .before .before .before .before .before .before .before .before .before .before .before .before .before .before .before .before .before .before .before .before .before .before .before .before .before .args .faces .now) (c .before .before .before .before .before .before .before .before .before .before .before .before .before .before .before .before .before .before .before .before .before .before .before .before .before .before .before .before .before .before .before .args .s) (c .before .before .before .before .before .before .before .before .before .before .before .before .before .before .before .before .before .before .before .before .before .before .before .before .before .before .before .before .before .before .before .args .options) (c .before .before .before .before .before .before .before .before .before .before .before .before .before .before .before .before .before .before .before .before .before .before .before .before .before .before .before .before .before .before .before .args .out-points .now) (c .before .before .before .before .before .before .before .before .before .before .before .before .before .before .before .before .before .before .before .before .before .before .before .before .before .before .before .before .before .before .before .args .out-faces .now) (c .before .before .before .before .before .before .before .before .before .before .before .before .before .before .before .before .before .before .before .before .before .before .before .before .before .before .before .before .before .before .before .args .report .now) (c .before .before .before .before .before .before .before .before .before .before .before .before .before .before .before .before .before .before .before .before .before .before .before .before .before .before .before .before .before .before .before .args .work .now) _ (c .before .before .before .before .before .before .before .before .before .before .before .before .before .before .before .before .before .before .before .before .before .before .before .before .repair-refusal .ensures) (c .before .before .before .before .before .before .before .before .before .before .before .before .before .before .before .before .before .before .before .before .before .before .enum-told .given .1) (c .before .before .before .before .before .before .before .before .before .before .before .before .before .before .before .before .before .before .mend .ensures)
+write-report-requires c κs =
+    let at-mend = c .before .before .before .before .before .before .before .before .before .before .before .before .before .before .before .before .before .before .before in
+    let fine = at-mend .before .before .before .before .before in
+    let refusal = fine .before .before in
+    let a = refusal .before .before .before .before .before .before .before .before .args in
+    report-asks (a .points .now) (a .faces .now) (a .s) (a .options) (a .out-points .now) (a .out-faces .now) (a .report .now) (a .origins .now) (a .work .now) _ (refusal .repair-refusal .ensures) (fine .enum-told .given .1) (at-mend .mend .ensures)
 
-mul-wipe-2 : tie.Need-mul-wipe-2
-mul-wipe-2 c = omega (arith, sizes (c .before .before .before .before .before .before .before .before .before .before .before .before .before .before .before .before .before .before .before .before .before .before .before .before .before .before .before .before .before .before .before .before .before .before .before .args .points .now) (c .before .before .before .before .before .before .before .before .before .before .before .before .before .before .before .before .before .before .before .before .before .before .before .before .before .before .before .before .before .before .before .before .before .before .before .args .faces .now) (c .before .before .before .before .before .before .before .before .before .before .before .before .before .before .before .before .before .before .before .before .before .before .before .before .before .before .before .before .before .before .before .before .before .before .before .args .s) (c .before .before .before .before .before .before .before .before .before .before .before .before .before .before .before .before .before .before .before .before .before .before .before .before .before .before .before .before .before .before .before .before .before .before .before .args .options) (c .before .before .before .before .before .before .before .before .before .before .before .before .before .before .before .before .before .before .before .before .before .before .before .before .before .before .before .before .before .before .before .before .before .before .before .args .out-points .now) (c .before .before .before .before .before .before .before .before .before .before .before .before .before .before .before .before .before .before .before .before .before .before .before .before .before .before .before .before .before .before .before .before .before .before .before .args .out-faces .now) (c .before .before .before .before .before .before .before .before .before .before .before .before .before .before .before .before .before .before .before .before .before .before .before .before .before .before .before .before .before .before .before .before .before .before .before .args .report .now) (c .before .before .before .before .before .before .before .before .before .before .before .before .before .before .before .before .before .before .before .before .before .before .before .before .before .before .before .before .before .before .before .before .before .before .before .args .work .now) _ (c .before .before .before .before .before .before .before .before .before .before .before .before .before .before .before .before .before .before .before .before .before .before .before .before .before .before .before .before .repair-refusal .ensures) (c .before .before .before .before .before .before .before .before .before .before .before .before .before .before .before .before .before .before .before .before .before .before .before .before .before .before .enum-told .given .1) (c .before .before .before .before .before .before .before .before .before .before .before .before .before .before .before .before .before .before .before .before .before .before .mend .ensures))
-
-mul-wipe-3 : tie.Need-mul-wipe-3
-mul-wipe-3 c = omega (arith, sizes (c .before .before .before .before .before .before .before .before .before .before .before .before .before .before .before .before .before .before .before .before .before .before .before .before .before .before .before .before .before .before .before .before .before .before .before .args .points .now) (c .before .before .before .before .before .before .before .before .before .before .before .before .before .before .before .before .before .before .before .before .before .before .before .before .before .before .before .before .before .before .before .before .before .before .before .args .faces .now) (c .before .before .before .before .before .before .before .before .before .before .before .before .before .before .before .before .before .before .before .before .before .before .before .before .before .before .before .before .before .before .before .before .before .before .before .args .s) (c .before .before .before .before .before .before .before .before .before .before .before .before .before .before .before .before .before .before .before .before .before .before .before .before .before .before .before .before .before .before .before .before .before .before .before .args .options) (c .before .before .before .before .before .before .before .before .before .before .before .before .before .before .before .before .before .before .before .before .before .before .before .before .before .before .before .before .before .before .before .before .before .before .before .args .out-points .now) (c .before .before .before .before .before .before .before .before .before .before .before .before .before .before .before .before .before .before .before .before .before .before .before .before .before .before .before .before .before .before .before .before .before .before .before .args .out-faces .now) (c .before .before .before .before .before .before .before .before .before .before .before .before .before .before .before .before .before .before .before .before .before .before .before .before .before .before .before .before .before .before .before .before .before .before .before .args .report .now) (c .before .before .before .before .before .before .before .before .before .before .before .before .before .before .before .before .before .before .before .before .before .before .before .before .before .before .before .before .before .before .before .before .before .before .before .args .work .now) _ (c .before .before .before .before .before .before .before .before .before .before .before .before .before .before .before .before .before .before .before .before .before .before .before .before .before .before .before .before .repair-refusal .ensures) (c .before .before .before .before .before .before .before .before .before .before .before .before .before .before .before .before .before .before .before .before .before .before .before .before .before .before .enum-told .given .1) (c .before .before .before .before .before .before .before .before .before .before .before .before .before .before .before .before .before .before .before .before .before .before .mend .ensures))
-
-add-wipe : tie.Need-add-wipe
-add-wipe c = omega (arith, sizes (c .before .before .before .before .before .before .before .before .before .before .before .before .before .before .before .before .before .before .before .before .before .before .before .before .before .before .before .before .before .before .before .before .before .before .before .args .points .now) (c .before .before .before .before .before .before .before .before .before .before .before .before .before .before .before .before .before .before .before .before .before .before .before .before .before .before .before .before .before .before .before .before .before .before .before .args .faces .now) (c .before .before .before .before .before .before .before .before .before .before .before .before .before .before .before .before .before .before .before .before .before .before .before .before .before .before .before .before .before .before .before .before .before .before .before .args .s) (c .before .before .before .before .before .before .before .before .before .before .before .before .before .before .before .before .before .before .before .before .before .before .before .before .before .before .before .before .before .before .before .before .before .before .before .args .options) (c .before .before .before .before .before .before .before .before .before .before .before .before .before .before .before .before .before .before .before .before .before .before .before .before .before .before .before .before .before .before .before .before .before .before .before .args .out-points .now) (c .before .before .before .before .before .before .before .before .before .before .before .before .before .before .before .before .before .before .before .before .before .before .before .before .before .before .before .before .before .before .before .before .before .before .before .args .out-faces .now) (c .before .before .before .before .before .before .before .before .before .before .before .before .before .before .before .before .before .before .before .before .before .before .before .before .before .before .before .before .before .before .before .before .before .before .before .args .report .now) (c .before .before .before .before .before .before .before .before .before .before .before .before .before .before .before .before .before .before .before .before .before .before .before .before .before .before .before .before .before .before .before .before .before .before .before .args .work .now) _ (c .before .before .before .before .before .before .before .before .before .before .before .before .before .before .before .before .before .before .before .before .before .before .before .before .before .before .before .before .repair-refusal .ensures) (c .before .before .before .before .before .before .before .before .before .before .before .before .before .before .before .before .before .before .before .before .before .before .before .before .before .before .enum-told .given .1) (c .before .before .before .before .before .before .before .before .before .before .before .before .before .before .before .before .before .before .before .before .before .before .mend .ensures))
-
-add-wipe-2 : tie.Need-add-wipe-2
-add-wipe-2 c = omega (arith, sizes (c .before .before .before .before .before .before .before .before .before .before .before .before .before .before .before .before .before .before .before .before .before .before .before .before .before .before .before .before .before .before .before .before .before .before .before .args .points .now) (c .before .before .before .before .before .before .before .before .before .before .before .before .before .before .before .before .before .before .before .before .before .before .before .before .before .before .before .before .before .before .before .before .before .before .before .args .faces .now) (c .before .before .before .before .before .before .before .before .before .before .before .before .before .before .before .before .before .before .before .before .before .before .before .before .before .before .before .before .before .before .before .before .before .before .before .args .s) (c .before .before .before .before .before .before .before .before .before .before .before .before .before .before .before .before .before .before .before .before .before .before .before .before .before .before .before .before .before .before .before .before .before .before .before .args .options) (c .before .before .before .before .before .before .before .before .before .before .before .before .before .before .before .before .before .before .before .before .before .before .before .before .before .before .before .before .before .before .before .before .before .before .before .args .out-points .now) (c .before .before .before .before .before .before .before .before .before .before .before .before .before .before .before .before .before .before .before .before .before .before .before .before .before .before .before .before .before .before .before .before .before .before .before .args .out-faces .now) (c .before .before .before .before .before .before .before .before .before .before .before .before .before .before .before .before .before .before .before .before .before .before .before .before .before .before .before .before .before .before .before .before .before .before .before .args .report .now) (c .before .before .before .before .before .before .before .before .before .before .before .before .before .before .before .before .before .before .before .before .before .before .before .before .before .before .before .before .before .before .before .before .before .before .before .args .work .now) _ (c .before .before .before .before .before .before .before .before .before .before .before .before .before .before .before .before .before .before .before .before .before .before .before .before .before .before .before .before .repair-refusal .ensures) (c .before .before .before .before .before .before .before .before .before .before .before .before .before .before .before .before .before .before .before .before .before .before .before .before .before .before .enum-told .given .1) (c .before .before .before .before .before .before .before .before .before .before .before .before .before .before .before .before .before .before .before .before .before .before .mend .ensures))
+sub-wipe-2 : tie.Need-sub-wipe-2
+sub-wipe-2 c =
+    let at-mend = c .before .before .before .before .before .before .before .before .before .before .before .before .before .before .before .before .before .before .before .before .before .before .before in
+    let fine = at-mend .before .before .before .before .before in
+    let refusal = fine .before .before in
+    let a = refusal .before .before .before .before .before .before .before .before .args in
+    omega (arith, sizes (a .points .now) (a .faces .now) (a .s) (a .options) (a .out-points .now) (a .out-faces .now) (a .report .now) (a .origins .now) (a .work .now) _ (refusal .repair-refusal .ensures) (fine .enum-told .given .1) (at-mend .mend .ensures))
 
 wipe-requires-2 : tie.Need-wipe-requires-2
-wipe-requires-2 c κs = omega (arith, sizes (c .before .before .before .before .before .before .before .before .before .before .before .before .before .before .before .before .before .before .before .before .before .before .before .before .before .before .before .before .before .before .before .before .before .before .before .args .points .now) (c .before .before .before .before .before .before .before .before .before .before .before .before .before .before .before .before .before .before .before .before .before .before .before .before .before .before .before .before .before .before .before .before .before .before .before .args .faces .now) (c .before .before .before .before .before .before .before .before .before .before .before .before .before .before .before .before .before .before .before .before .before .before .before .before .before .before .before .before .before .before .before .before .before .before .before .args .s) (c .before .before .before .before .before .before .before .before .before .before .before .before .before .before .before .before .before .before .before .before .before .before .before .before .before .before .before .before .before .before .before .before .before .before .before .args .options) (c .before .before .before .before .before .before .before .before .before .before .before .before .before .before .before .before .before .before .before .before .before .before .before .before .before .before .before .before .before .before .before .before .before .before .before .args .out-points .now) (c .before .before .before .before .before .before .before .before .before .before .before .before .before .before .before .before .before .before .before .before .before .before .before .before .before .before .before .before .before .before .before .before .before .before .before .args .out-faces .now) (c .before .before .before .before .before .before .before .before .before .before .before .before .before .before .before .before .before .before .before .before .before .before .before .before .before .before .before .before .before .before .before .before .before .before .before .args .report .now) (c .before .before .before .before .before .before .before .before .before .before .before .before .before .before .before .before .before .before .before .before .before .before .before .before .before .before .before .before .before .before .before .before .before .before .before .args .work .now) _ (c .before .before .before .before .before .before .before .before .before .before .before .before .before .before .before .before .before .before .before .before .before .before .before .before .before .before .before .before .repair-refusal .ensures) (c .before .before .before .before .before .before .before .before .before .before .before .before .before .before .before .before .before .before .before .before .before .before .before .before .before .before .enum-told .given .1) (c .before .before .before .before .before .before .before .before .before .before .before .before .before .before .before .before .before .before .before .before .before .before .mend .ensures))
+wipe-requires-2 c κs =
+    let at-mend = c .before .before .before .before .before .before .before .before .before .before .before .before .before .before .before .before .before .before .before .before .before .before .before in
+    let fine = at-mend .before .before .before .before .before in
+    let refusal = fine .before .before in
+    let a = refusal .before .before .before .before .before .before .before .before .args in
+    omega (arith, sizes (a .points .now) (a .faces .now) (a .s) (a .options) (a .out-points .now) (a .out-faces .now) (a .report .now) (a .origins .now) (a .work .now) _ (refusal .repair-refusal .ensures) (fine .enum-told .given .1) (at-mend .mend .ensures))
+
+mul-wipe-2 : tie.Need-mul-wipe-2
+mul-wipe-2 c =
+    let at-mend = c .before .before .before .before .before .before .before .before .before .before .before .before .before .before .before .before .before .before .before .before .before .before .before .before .before .before .before in
+    let fine = at-mend .before .before .before .before .before in
+    let refusal = fine .before .before in
+    let a = refusal .before .before .before .before .before .before .before .before .args in
+    omega (arith, sizes (a .points .now) (a .faces .now) (a .s) (a .options) (a .out-points .now) (a .out-faces .now) (a .report .now) (a .origins .now) (a .work .now) _ (refusal .repair-refusal .ensures) (fine .enum-told .given .1) (at-mend .mend .ensures))
+
+mul-wipe-3 : tie.Need-mul-wipe-3
+mul-wipe-3 c =
+    let at-mend = c .before .before .before .before .before .before .before .before .before .before .before .before .before .before .before .before .before .before .before .before .before .before .before .before .before .before .before in
+    let fine = at-mend .before .before .before .before .before in
+    let refusal = fine .before .before in
+    let a = refusal .before .before .before .before .before .before .before .before .args in
+    omega (arith, sizes (a .points .now) (a .faces .now) (a .s) (a .options) (a .out-points .now) (a .out-faces .now) (a .report .now) (a .origins .now) (a .work .now) _ (refusal .repair-refusal .ensures) (fine .enum-told .given .1) (at-mend .mend .ensures))
+
+add-wipe : tie.Need-add-wipe
+add-wipe c =
+    let at-mend = c .before .before .before .before .before .before .before .before .before .before .before .before .before .before .before .before .before .before .before .before .before .before .before .before .before .before .before in
+    let fine = at-mend .before .before .before .before .before in
+    let refusal = fine .before .before in
+    let a = refusal .before .before .before .before .before .before .before .before .args in
+    omega (arith, sizes (a .points .now) (a .faces .now) (a .s) (a .options) (a .out-points .now) (a .out-faces .now) (a .report .now) (a .origins .now) (a .work .now) _ (refusal .repair-refusal .ensures) (fine .enum-told .given .1) (at-mend .mend .ensures))
+
+add-wipe-2 : tie.Need-add-wipe-2
+add-wipe-2 c =
+    let at-mend = c .before .before .before .before .before .before .before .before .before .before .before .before .before .before .before .before .before .before .before .before .before .before .before .before .before .before .before in
+    let fine = at-mend .before .before .before .before .before in
+    let refusal = fine .before .before in
+    let a = refusal .before .before .before .before .before .before .before .before .args in
+    omega (arith, sizes (a .points .now) (a .faces .now) (a .s) (a .options) (a .out-points .now) (a .out-faces .now) (a .report .now) (a .origins .now) (a .work .now) _ (refusal .repair-refusal .ensures) (fine .enum-told .given .1) (at-mend .mend .ensures))
+
+wipe-requires-3 : tie.Need-wipe-requires-3
+wipe-requires-3 c κs =
+    let at-mend = c .before .before .before .before .before .before .before .before .before .before .before .before .before .before .before .before .before .before .before .before .before .before .before .before .before .before .before in
+    let fine = at-mend .before .before .before .before .before in
+    let refusal = fine .before .before in
+    let a = refusal .before .before .before .before .before .before .before .before .args in
+    omega (arith, sizes (a .points .now) (a .faces .now) (a .s) (a .options) (a .out-points .now) (a .out-faces .now) (a .report .now) (a .origins .now) (a .work .now) _ (refusal .repair-refusal .ensures) (fine .enum-told .given .1) (at-mend .mend .ensures))
 
 same-length : tie.Need-same-length
 same-length c = search needs
@@ -80,8 +183,23 @@ same-length-3 c = search needs
 same-length-4 : tie.Need-same-length-4
 same-length-4 c = search needs
 
+same-length-5 : tie.Need-same-length-5
+same-length-5 c = search needs
+
 returns-2 : tie.Need-returns-2
-returns-2 c = is-done (c .before .before .before .before .before .before .before .before .before .before .before .before .before .before .before .before .before .before .before .before .before .before .before .before .before .before .before .before .before .before .before .before .before .before .before .before .before .before .args .points .now) (c .before .before .before .before .before .before .before .before .before .before .before .before .before .before .before .before .before .before .before .before .before .before .before .before .before .before .before .before .before .before .before .before .before .before .before .before .before .before .args .faces .now) (c .before .before .before .before .before .before .before .before .before .before .before .before .before .before .before .before .before .before .before .before .before .before .before .before .before .before .before .before .before .before .before .before .before .before .before .before .before .before .args .s) (c .before .before .before .before .before .before .before .before .before .before .before .before .before .before .before .before .before .before .before .before .before .before .before .before .before .before .before .before .before .before .before .before .before .before .before .before .before .before .args .options) (c .before .before .before .before .before .before .before .before .before .before .before .before .before .before .before .before .before .before .before .before .before .before .before .before .before .before .before .before .before .before .before .before .before .before .before .before .before .before .args .out-points .now) (c .before .before .before .before .before .before .before .before .before .before .before .before .before .before .before .before .before .before .before .before .before .before .before .before .before .before .before .before .before .before .before .before .before .before .before .before .before .before .args .out-faces .now) (c .before .before .before .before .before .before .before .before .before .before .before .before .before .before .before .before .before .before .before .before .before .before .before .before .before .before .before .before .before .before .before .before .before .before .before .before .before .before .args .report .now) (c .before .before .before .before .before .before .before .before .before .before .before .before .before .before .before .before .before .before .before .before .before .before .before .before .before .before .before .before .before .before .before .before .before .before .before .before .before .before .args .work .now) _ (c .before .before .before .before .before .before .before .before .before .before .before .before .before .before .before .before .before .before .before .before .before .before .before .before .before .before .before .before .before .before .before .repair-refusal .ensures) (c .before .before .before .before .before .before .before .before .before .before .before .before .before .before .before .before .before .before .before .before .before .before .before .before .before .before .before .before .before .enum-told .given .1) (c .before .before .before .before .before .before .before .before .before .before .before .before .before .before .before .before .before .before .before .before .before .before .before .before .before .mend .ensures) (c .before .before .before .before .before .before .before .before .before .before .before .before .before .before .wipe-points .ensures .0) (c .before .before .before .before .before .before .before .before .before .before .before .before .before .before .wipe-points .ensures .1) (c .before .before .before .before .before .before .before .before .before .before .wipe .ensures .0) (c .before .before .before .before .before .before .before .before .before .before .wipe .ensures .1) (c .before .before .before .before .before .before .write-report .ensures) (c .before .before .wipe2 .ensures .0) (c .before .before .wipe2 .ensures .1)
+returns-2 c =
+    let at-work = c .before .before in
+    let at-origins = at-work .before .before .before .before in
+    let at-report = at-origins .before .before .before .before in
+    let at-faces = at-report .before .before .before .before in
+    let at-points = at-faces .before .before .before .before in
+    let at-mend = at-points .before .before .before .before .before .before .before .before .before .before .before .before in
+    let fine = at-mend .before .before .before .before .before in
+    let refusal = fine .before .before in
+    let a = refusal .before .before .before .before .before .before .before .before .args in
+    is-done (a .points .now) (a .faces .now) (a .s) (a .options) (a .out-points .now) (a .out-faces .now) (a .report .now) (a .origins .now) (a .work .now) _ (refusal .repair-refusal .ensures) (fine .enum-told .given .1) (at-mend .mend .ensures)
+    (at-points .wipe-points .ensures .0) (at-points .wipe-points .ensures .1) (at-faces .wipe .ensures .0) (at-faces .wipe .ensures .1) (at-report .write-report .ensures)
+    (at-origins .wipe2 .ensures .0) (at-origins .wipe2 .ensures .1) (at-work .wipe3 .ensures .0) (at-work .wipe3 .ensures .1)
 
 pub repair-spec : {M : Type 1} → statement M
 repair-spec =
@@ -103,13 +221,16 @@ repair-spec =
     sub-wipe
     wipe-requires
     write-report-requires
+    sub-wipe-2
+    wipe-requires-2
     mul-wipe-2
     mul-wipe-3
     add-wipe
     add-wipe-2
-    wipe-requires-2
+    wipe-requires-3
     same-length
     same-length-2
     same-length-3
     same-length-4
+    same-length-5
     returns-2)

@@ -44,7 +44,7 @@ fn refused(verdict: Verdict, number: u32, place: usize)
     }
 }
 
-// The verdict on a repair, with the lengths of its four rooms.
+// The verdict on a repair, with the lengths of its five rooms.
 fn repair(
     points: &[f64],
     faces: &[u32],
@@ -53,14 +53,16 @@ fn repair(
     first: usize,
     second: usize,
     third: usize,
+    fourth: usize,
     work: usize,
 ) -> Verdict
-    ensures { λ r. ⌜ checkOf r ≡ decided (repair-list (now (points .entry)) (now (faces .entry)) s options first second third work) ⌝ }
+    ensures { λ r. ⌜ checkOf r ≡ decided (repair-list (now (points .entry)) (now (faces .entry)) s options first second third fourth work) ⌝ }
 {
     let rooms = repair_refusal::Rooms {
         out_points: first,
         out_faces: second,
         report: third,
+        origins: fourth,
         work: work,
     };
     repair_refusal::repair_refusal(points, faces, s, options, rooms)
@@ -118,17 +120,17 @@ fn settings() {
     let points = [0.0, 0.0, 0.0, 0.0, 0.0, 0.0, 0.0, 0.0, 0.0];
     let faces = [0, 1, 2];
     let nan = 0.0 / 0.0;
-    accepted(repair(&points, &faces, 1.0, 63, 18, 3, 11, 176));
-    accepted(repair(&points, &faces, -0.0, 0, 18, 3, 11, 176));
+    accepted(repair(&points, &faces, 1.0, 63, 18, 3, 11, 1, 176));
+    accepted(repair(&points, &faces, -0.0, 0, 18, 3, 11, 1, 176));
     refused(
-        repair(&points, &faces, 1.0000000000000002, 0, 18, 3, 11, 176),
+        repair(&points, &faces, 1.0000000000000002, 0, 18, 3, 11, 1, 176),
         3,
         0,
     );
-    refused(repair(&points, &faces, nan, 64, 18, 3, 11, 176), 3, 0);
-    refused(repair(&points, &faces, 0.0, 64, 18, 3, 11, 176), 3, 1);
+    refused(repair(&points, &faces, nan, 64, 18, 3, 11, 1, 176), 3, 0);
+    refused(repair(&points, &faces, 0.0, 64, 18, 3, 11, 1, 176), 3, 1);
     refused(
-        repair(&points, &faces, 0.0, 4294967295, 18, 3, 11, 176),
+        repair(&points, &faces, 0.0, 4294967295, 18, 3, 11, 1, 176),
         3,
         1,
     );
@@ -138,9 +140,13 @@ fn settings() {
 fn lengths() {
     let points = [0.0, 0.0, 0.0, 0.0, 0.0, 0.0, 0.0, 0.0, 0.0];
     let faces = [0, 1, 2, 9];
-    refused(repair(&points[..8], &faces, 2.0, 64, 18, 3, 11, 176), 1, 0);
-    refused(repair(&points, &faces, 2.0, 64, 18, 3, 11, 176), 1, 1);
-    accepted(repair(&points[..0], &faces[..0], 0.0, 0, 0, 0, 11, 64));
+    refused(
+        repair(&points[..8], &faces, 2.0, 64, 18, 3, 11, 1, 176),
+        1,
+        0,
+    );
+    refused(repair(&points, &faces, 2.0, 64, 18, 3, 11, 1, 176), 1, 1);
+    accepted(repair(&points[..0], &faces[..0], 0.0, 0, 0, 0, 11, 0, 64));
 }
 
 // 4: 2^100 passes, the next f64 does not; infinity and NaN neither.
@@ -150,10 +156,10 @@ fn domain() {
     let beyond = [FAR, 0.0, 0.0, 0.0, -BEYOND, 0.0, BEYOND, 0.0, 0.0];
     let infinite = [0.0, 0.0, 1.0 / 0.0, 0.0, 0.0, 0.0, 0.0, 0.0, 0.0];
     let nan = [0.0, 0.0, 0.0, 0.0, 0.0, 0.0, 0.0, 0.0, 0.0 / 0.0];
-    accepted(repair(&far, &faces, 0.0, 0, 18, 3, 11, 176));
-    refused(repair(&beyond, &faces, 0.0, 0, 18, 3, 11, 176), 4, 1);
-    refused(repair(&infinite, &faces, 0.0, 0, 18, 3, 11, 176), 4, 0);
-    refused(repair(&nan, &faces, 0.0, 0, 18, 3, 11, 176), 4, 2);
+    accepted(repair(&far, &faces, 0.0, 0, 18, 3, 11, 1, 176));
+    refused(repair(&beyond, &faces, 0.0, 0, 18, 3, 11, 1, 176), 4, 1);
+    refused(repair(&infinite, &faces, 0.0, 0, 18, 3, 11, 1, 176), 4, 0);
+    refused(repair(&nan, &faces, 0.0, 0, 18, 3, 11, 1, 176), 4, 2);
 }
 
 // 5: corner P-1 passes, corner P is refused.
@@ -161,18 +167,23 @@ fn corners() {
     let points = [0.0, 0.0, 0.0, 0.0, 0.0, 0.0, 0.0, 0.0, 0.0];
     let faces = [0, 1, 2];
     let stray = [0, 1, 2, 0, 3, 0, 4294967295, 0, 0];
-    accepted(repair(&points, &faces, 0.0, 0, 18, 3, 11, 176));
-    refused(repair(&points, &stray, 0.0, 0, 0, 0, 0, 0), 5, 1);
+    accepted(repair(&points, &faces, 0.0, 0, 18, 3, 11, 1, 176));
+    refused(repair(&points, &stray, 0.0, 0, 0, 0, 0, 0, 0), 5, 1);
 }
 
 // 6: rooms of a repair, of the edge call and of the loop call, one entry too short.
 fn rooms() {
     let points = [0.0, 0.0, 0.0, 0.0, 0.0, 0.0, 0.0, 0.0, 0.0];
     let faces = [0, 1, 2];
-    refused(repair(&points, &faces, 0.0, 0, 17, 2, 10, 175), 6, 0);
-    refused(repair(&points, &faces, 0.0, 0, 18, 2, 10, 175), 6, 1);
-    refused(repair(&points, &faces, 0.0, 0, 18, 3, 10, 175), 6, 2);
-    refused(repair(&points, &faces, 0.0, 0, HUGE, HUGE, HUGE, 175), 6, 3);
+    refused(repair(&points, &faces, 0.0, 0, 17, 2, 10, 0, 175), 6, 0);
+    refused(repair(&points, &faces, 0.0, 0, 18, 2, 10, 0, 175), 6, 1);
+    refused(repair(&points, &faces, 0.0, 0, 18, 3, 10, 0, 175), 6, 2);
+    refused(repair(&points, &faces, 0.0, 0, 18, 3, 11, 0, 175), 6, 3);
+    refused(
+        repair(&points, &faces, 0.0, 0, HUGE, HUGE, HUGE, HUGE, 175),
+        6,
+        4,
+    );
     accepted(edges(&points, &faces, 6, 3, 176));
     refused(edges(&points, &faces, 5, 2, 175), 6, 0);
     refused(edges(&points, &faces, 6, 2, 175), 6, 1);

@@ -155,6 +155,17 @@ fn faces(faces: &mut [u32], work: &mut [u32])
     show::row(work, work.len());
 }
 
+// A row numbered, and its entries by flags: those that stay.
+fn ones(row: &mut [u32], work: &[u32])
+    requires { ⌜ length (now row) ≡ 6 ⌝ }
+    requires { ⌜ length (now work) ≡ 5 ⌝ }
+{
+    rows::number(row, 5);
+    show::row(row, row.len());
+    show::number(rows::retain_ones(row, work, 1, 4) as u64);
+    show::row(row, row.len());
+}
+
 // Points by flags: those that stay. Then a region cleared, and a row copied.
 fn points(points: &mut [f64], work: &[u32], to: &mut [f64])
     requires { ⌜ length (now points) ≡ 13 ⌝ }
@@ -201,4 +212,5 @@ fn main() {
     let flags = [0, 1, 0, 1, 0];
     let mut room = [50.0, 51.0, 52.0, 53.0, 54.0, 55.0];
     points(&mut coordinates, &flags, &mut room);
+    ones(&mut [9; 6], &flags);
 }

@@ -15,6 +15,7 @@ fn repair(points: &[f64], faces: &[u32], options: u32, mended: &[f64]) {
     let mut out_points = [7.0; 64];
     let mut out_faces = [7u32; 16];
     let mut report = [7u32; 12];
+    let mut origins = [7u32; 6];
     let mut work = [7u32; 470];
     let r = shell::shell_repair(
         points,
@@ -24,6 +25,7 @@ fn repair(points: &[f64], faces: &[u32], options: u32, mended: &[f64]) {
         &mut out_points,
         &mut out_faces,
         &mut report,
+        &mut origins,
         &mut work,
     );
     io::write_all(1, b"repair ");
@@ -31,10 +33,12 @@ fn repair(points: &[f64], faces: &[u32], options: u32, mended: &[f64]) {
     show::number(r.points);
     show::number(r.faces);
     show::number(r.counts);
+    show::number(r.origins);
     show::end_line();
     floats(&out_points, mended);
     show::row(&out_faces, out_faces.len());
     show::row(&report, report.len());
+    show::row(&origins, origins.len());
     show::runs(&work);
 }
 

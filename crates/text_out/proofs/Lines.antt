@@ -134,7 +134,7 @@ unfolding face
 face-again fs {w = w} {w′ = w′} {next = next} {r = r} {i = i} v h q =
     let e = face-in fs i h in
     let l = length-faces fs in
-    again face-line (facesOf fs) 35 v (record { a = 0; b = 0; c = 0; origin = 0 }) (omega arith) (subst (λ (f : Face). Puts w next (face-line f) w′ r) (sym e) q) (face-long _)
+    again face-line (facesOf fs) 35 v (record { a = 0; b = 0; c = 0; origin = 0 }) (omega arith) (subst (λ (f : Face). Puts w next (face-line f) w′ r) (sym e) q) (face-long (face (facesOf fs) i))
 
 -- the field of a count
 abbrev pub field : ℕ → List ℕ

@@ -115,7 +115,7 @@ unfolding face
 triple-again fs {w = w} {w′ = w′} {next = next} {r = r} {i = i} v h q =
     let e = face-in fs i h in
     let l = length-faces fs in
-    again triple 13 (facesOf fs) v (record { a = 0; b = 0; c = 0; origin = 0 }) (omega arith) (subst (λ (f : Face). Puts w next (triple f) w′ r) (sym e) q) (triple-long _)
+    again triple 13 (facesOf fs) v (record { a = 0; b = 0; c = 0; origin = 0 }) (omega arith) (subst (λ (f : Face). Puts w next (triple f) w′ r) (sym e) q) (triple-long (face (facesOf fs) i))
 
 -- all are
 pub triples-done : (fs : List ℕ) {w₀ w : List ℕ} {at next i : ℕ} → SoFar triple 13 (facesOf fs) w₀ at w next i → length fs / 3 ≤ i → Puts w₀ at (each triple (facesOf fs)) w next

@@ -18,6 +18,9 @@ slice-aggregate-repair-3 c = search needs
 slice-aggregate-repair-4 : tie.Need-slice-aggregate-repair-4
 slice-aggregate-repair-4 c = search needs
 
+slice-aggregate-repair-5 : tie.Need-slice-aggregate-repair-5
+slice-aggregate-repair-5 c = search needs
+
 repair-requires : tie.Need-repair-requires
 repair-requires c κs = search needs
 
@@ -31,34 +34,55 @@ enum-known-p : tie.Need-enum-known-p
 enum-known-p c = search needs
 
 array-share-prefix-mended : tie.Need-array-share-prefix-mended
-array-share-prefix-mended c = points-in (c .before .before .before .before .before .before .before .before .before .before .before .before .before .before .before .before .args .threshold) (c .before .before .before .before .before .before .before .before .before .before .before .before .before .before .before .before .args .options) (c .before .before .before .before .before .before .before .before .before .before .before .before .before .before .before .before .pre) (record { points = refl; faces = refl; report = refl; origins = refl; work = refl }) (c .before .before .before .before .before .before .before .before .repair .result) (c .before .before .before .before .before .before .before .before .repair .ensures) (c .before .before .p .given .1) (c .before .before .before .before .before .before .before .before .repair .kept .1 .1 .1 .1 .0)
+array-share-prefix-mended c =
+    let at-repair = c .before .before .before .before .before .before .before .before .before in
+    let start = at-repair .before .before .before .before .before .before .before .before .before in
+    points-in (start .args .threshold) (start .args .options) (start .pre) (record { points = refl; faces = refl; report = refl; origins = refl; work = refl }) (at-repair .repair .result) (at-repair .repair .ensures) (c .before .before .p .given .1) (at-repair .repair .kept .1 .1 .1 .1 .0)
 
 slice-aggregate-put-mesh : tie.Need-slice-aggregate-put-mesh
-slice-aggregate-put-mesh c = sym (length-take-le _ _ (points-in (c .before .before .before .before .before .before .before .before .before .before .before .before .before .before .before .before .before .args .threshold) (c .before .before .before .before .before .before .before .before .before .before .before .before .before .before .before .before .before .args .options) (c .before .before .before .before .before .before .before .before .before .before .before .before .before .before .before .before .before .pre) (record { points = refl; faces = refl; report = refl; origins = refl; work = refl }) (c .before .before .before .before .before .before .before .before .before .repair .result) (c .before .before .before .before .before .before .before .before .before .repair .ensures) (c .before .before .before .p .given .1) (c .before .before .before .before .before .before .before .before .before .repair .kept .1 .1 .1 .1 .0)))
+slice-aggregate-put-mesh c =
+    let at-repair = c .before .before .before .before .before .before .before .before .before .before in
+    let start = at-repair .before .before .before .before .before .before .before .before .before in
+    sym (length-take-le _ _ (points-in (start .args .threshold) (start .args .options) (start .pre) (record { points = refl; faces = refl; report = refl; origins = refl; work = refl }) (at-repair .repair .result) (at-repair .repair .ensures) (c .before .before .before .p .given .1) (at-repair .repair .kept .1 .1 .1 .1 .0)))
 
 array-share-prefix-triples : tie.Need-array-share-prefix-triples
-array-share-prefix-triples c = faces-in (c .before .before .before .before .before .before .before .before .before .before .before .before .before .before .before .before .before .args .threshold) (c .before .before .before .before .before .before .before .before .before .before .before .before .before .before .before .before .before .args .options) (c .before .before .before .before .before .before .before .before .before .before .before .before .before .before .before .before .before .pre) (record { points = refl; faces = refl; report = refl; origins = refl; work = refl }) (c .before .before .before .before .before .before .before .before .before .repair .result) (c .before .before .before .before .before .before .before .before .before .repair .ensures) (c .before .before .before .p .given .1) (c .before .before .before .before .before .before .before .before .before .repair .kept .1 .1 .1 .1 .1 .0)
+array-share-prefix-triples c =
+    let at-repair = c .before .before .before .before .before .before .before .before .before .before in
+    let start = at-repair .before .before .before .before .before .before .before .before .before in
+    faces-in (start .args .threshold) (start .args .options) (start .pre) (record { points = refl; faces = refl; report = refl; origins = refl; work = refl }) (at-repair .repair .result) (at-repair .repair .ensures) (c .before .before .before .p .given .1) (at-repair .repair .kept .1 .1 .1 .1 .1 .0)
 
 slice-aggregate-put-mesh-2 : tie.Need-slice-aggregate-put-mesh-2
-slice-aggregate-put-mesh-2 c = sym (length-take-le _ _ (faces-in (c .before .before .before .before .before .before .before .before .before .before .before .before .before .before .before .before .before .before .args .threshold) (c .before .before .before .before .before .before .before .before .before .before .before .before .before .before .before .before .before .before .args .options) (c .before .before .before .before .before .before .before .before .before .before .before .before .before .before .before .before .before .before .pre) (record { points = refl; faces = refl; report = refl; origins = refl; work = refl }) (c .before .before .before .before .before .before .before .before .before .before .repair .result) (c .before .before .before .before .before .before .before .before .before .before .repair .ensures) (c .before .before .before .before .p .given .1) (c .before .before .before .before .before .before .before .before .before .before .repair .kept .1 .1 .1 .1 .1 .0)))
+slice-aggregate-put-mesh-2 c =
+    let at-repair = c .before .before .before .before .before .before .before .before .before .before .before in
+    let start = at-repair .before .before .before .before .before .before .before .before .before in
+    sym (length-take-le _ _ (faces-in (start .args .threshold) (start .args .options) (start .pre) (record { points = refl; faces = refl; report = refl; origins = refl; work = refl }) (at-repair .repair .result) (at-repair .repair .ensures) (c .before .before .before .before .p .given .1) (at-repair .repair .kept .1 .1 .1 .1 .1 .0)))
 
 slice-aggregate-put-mesh-3 : tie.Need-slice-aggregate-put-mesh-3
 slice-aggregate-put-mesh-3 c = search needs
 
 put-mesh-requires : tie.Need-put-mesh-requires
-put-mesh-requires c κs = writes (c .before .before .before .before .before .before .before .before .before .before .before .before .before .before .before .before .before .before .before .args .threshold) (c .before .before .before .before .before .before .before .before .before .before .before .before .before .before .before .before .before .before .before .args .options) (c .before .before .before .before .before .before .before .before .before .before .before .before .before .before .before .before .before .before .before .pre) (record { points = refl; faces = refl; report = refl; origins = refl; work = refl }) (c .before .before .before .before .before .before .before .before .before .before .before .repair .result) (c .before .before .before .before .before .before .before .before .before .before .before .repair .ensures) (c .before .before .before .before .before .p .given .1) (c .before .before .before .before .before .before .before .before .before .before .before .repair .kept .1 .1 .1 .1 .1 .1 .0)
+put-mesh-requires c κs =
+    let at-repair = c .before .before .before .before .before .before .before .before .before .before .before .before in
+    let start = at-repair .before .before .before .before .before .before .before .before .before in
+    writes (start .args .threshold) (start .args .options) (start .pre) (record { points = refl; faces = refl; report = refl; origins = refl; work = refl }) (at-repair .repair .result) (at-repair .repair .ensures) (c .before .before .before .before .before .p .given .1) (at-repair .repair .kept .1 .1 .1 .1 .1 .1 .0)
 
 same-length : tie.Need-same-length
 same-length c = search needs
 
 returns : tie.Need-returns
-returns c = puts-refusal (c .before .before .before .before .before .before .before .before .before .before .before .before .before .before .before .before .before .before .before .args .threshold) (c .before .before .before .before .before .before .before .before .before .before .before .before .before .before .before .before .before .before .before .args .options) (c .before .before .before .before .before .before .before .before .before .before .before .before .before .before .before .before .before .before .before .pre) (record { points = refl; faces = refl; report = refl; origins = refl; work = refl }) (c .before .before .before .before .before .before .before .before .before .before .before .repair .result) (c .before .before .before .before .before .before .before .before .before .before .before .repair .ensures) (c .before .before .before .before .before .number .given .1) (c .before .before .put-refusal .ensures)
+returns c =
+    let at-repair = c .before .before .before .before .before .before .before .before .before .before .before .before in
+    let start = at-repair .before .before .before .before .before .before .before .before .before in
+    puts-refusal (start .args .threshold) (start .args .options) (start .pre) (record { points = refl; faces = refl; report = refl; origins = refl; work = refl }) (at-repair .repair .result) (at-repair .repair .ensures) (c .before .before .before .before .before .number .given .1) (c .before .before .put-refusal .ensures)
 
 same-length-2 : tie.Need-same-length-2
 same-length-2 c = search needs
 
 returns-2 : tie.Need-returns-2
-returns-2 c = puts-mesh (c .before .before .before .before .before .before .before .before .before .before .before .before .before .before .before .before .before .before .before .before .before .before .args .threshold) (c .before .before .before .before .before .before .before .before .before .before .before .before .before .before .before .before .before .before .before .before .before .before .args .options) (c .before .before .before .before .before .before .before .before .before .before .before .before .before .before .before .before .before .before .before .before .before .before .pre) (record { points = refl; faces = refl; report = refl; origins = refl; work = refl }) (c .before .before .before .before .before .before .before .before .before .before .before .before .before .before .repair .result) (c .before .before .before .before .before .before .before .before .before .before .before .before .before .before .repair .ensures) (c .before .before .before .before .before .before .before .before .p .given .1) (c .before .before .before .before .before .before .before .before .before .before .before .before .before .before .repair .kept .1 .1 .1 .1 .1 .1 .0) (c .before .before .put-mesh .ensures)
+returns-2 c =
+    let at-repair = c .before .before .before .before .before .before .before .before .before .before .before .before .before .before .before in
+    let start = at-repair .before .before .before .before .before .before .before .before .before in
+    puts-mesh (start .args .threshold) (start .args .options) (start .pre) (record { points = refl; faces = refl; report = refl; origins = refl; work = refl }) (at-repair .repair .result) (at-repair .repair .ensures) (c .before .before .before .before .before .before .before .before .p .given .1) (at-repair .repair .kept .1 .1 .1 .1 .1 .1 .0) (c .before .before .put-mesh .ensures)
 
 pub mend-spec : {M : Type 1} → statement M
 mend-spec =
@@ -68,6 +92,7 @@ mend-spec =
     slice-aggregate-repair-2
     slice-aggregate-repair-3
     slice-aggregate-repair-4
+    slice-aggregate-repair-5
     repair-requires
     enum-known-number
     put-refusal-requires

@@ -44,5 +44,6 @@ module _ {points : List Float} {faces : List ℕ} {i : ℕ} {xs : List Float} {k
       {r s : rule.Patch} {xs′ : List Float} → r ≡ recordAt xs k
       → s ≡ rule.with-face (pointsOf points) r (faceOf (getD faces (3 * i) 0) (getD faces (3 * i + 1) 0) (getD faces (3 * i + 2) 0))
       → OnlyOf nan (7 * k) 7 xs xs′ → recordAt xs′ k ≡ s → AddGives points faces i xs k xs′
+  unfolding rule.with-face float.area
   added {r} {s} {xs′} er es o w =
       record { only = o; added = w ∙ es ∙ rw (er, face-in faces i (p .there)) }

@@ -56,6 +56,19 @@ refused-requires-4 : tie.Need-refused-requires-4
 unfolding every-rule
 refused-requires-4 c κs = c .repair4 .ensures
 
+slice-aggregate-repair-9 : tie.Need-slice-aggregate-repair-9
+slice-aggregate-repair-9 c = search needs
+
+slice-aggregate-repair-10 : tie.Need-slice-aggregate-repair-10
+slice-aggregate-repair-10 c = search needs
+
+repair-requires-5 : tie.Need-repair-requires-5
+repair-requires-5 c κs = search needs
+
+refused-requires-5 : tie.Need-refused-requires-5
+unfolding every-rule
+refused-requires-5 c κs = c .repair5 .ensures
+
 slice-aggregate-edges : tie.Need-slice-aggregate-edges
 slice-aggregate-edges c = search needs
 
@@ -78,9 +91,9 @@ slice-aggregate-edges-4 c = search needs
 edges-requires-2 : tie.Need-edges-requires-2
 edges-requires-2 c κs = search needs
 
-refused-requires-5 : tie.Need-refused-requires-5
+refused-requires-6 : tie.Need-refused-requires-6
 unfolding every-rule
-refused-requires-5 c κs = c .edges2 .ensures
+refused-requires-6 c κs = c .edges2 .ensures
 
 slice-aggregate-edges-5 : tie.Need-slice-aggregate-edges-5
 slice-aggregate-edges-5 c = search needs
@@ -91,9 +104,9 @@ slice-aggregate-edges-6 c = search needs
 edges-requires-3 : tie.Need-edges-requires-3
 edges-requires-3 c κs = search needs
 
-refused-requires-6 : tie.Need-refused-requires-6
+refused-requires-7 : tie.Need-refused-requires-7
 unfolding every-rule
-refused-requires-6 c κs = c .edges3 .ensures
+refused-requires-7 c κs = c .edges3 .ensures
 
 slice-aggregate-edges-7 : tie.Need-slice-aggregate-edges-7
 slice-aggregate-edges-7 c = search needs
@@ -104,9 +117,9 @@ slice-aggregate-edges-8 c = search needs
 edges-requires-4 : tie.Need-edges-requires-4
 edges-requires-4 c κs = search needs
 
-refused-requires-7 : tie.Need-refused-requires-7
+refused-requires-8 : tie.Need-refused-requires-8
 unfolding every-rule
-refused-requires-7 c κs = c .edges4 .ensures
+refused-requires-8 c κs = c .edges4 .ensures
 
 slice-aggregate-loops : tie.Need-slice-aggregate-loops
 slice-aggregate-loops c = search needs
@@ -130,9 +143,9 @@ slice-aggregate-loops-4 c = search needs
 loops-requires-2 : tie.Need-loops-requires-2
 loops-requires-2 c κs = search needs
 
-refused-requires-8 : tie.Need-refused-requires-8
+refused-requires-9 : tie.Need-refused-requires-9
 unfolding every-rule
-refused-requires-8 c κs = c .loops2 .ensures
+refused-requires-9 c κs = c .loops2 .ensures
 
 slice-aggregate-loops-5 : tie.Need-slice-aggregate-loops-5
 slice-aggregate-loops-5 c = search needs
@@ -143,9 +156,9 @@ slice-aggregate-loops-6 c = search needs
 loops-requires-3 : tie.Need-loops-requires-3
 loops-requires-3 c κs = search needs
 
-refused-requires-9 : tie.Need-refused-requires-9
+refused-requires-10 : tie.Need-refused-requires-10
 unfolding every-rule
-refused-requires-9 c κs = c .loops3 .ensures
+refused-requires-10 c κs = c .loops3 .ensures
 
 slice-aggregate-loops-7 : tie.Need-slice-aggregate-loops-7
 slice-aggregate-loops-7 c = search needs
@@ -156,9 +169,9 @@ slice-aggregate-loops-8 c = search needs
 loops-requires-4 : tie.Need-loops-requires-4
 loops-requires-4 c κs = search needs
 
-refused-requires-10 : tie.Need-refused-requires-10
+refused-requires-11 : tie.Need-refused-requires-11
 unfolding every-rule
-refused-requires-10 c κs = c .loops4 .ensures
+refused-requires-11 c κs = c .loops4 .ensures
 
 returns : tie.Need-returns
 returns c = search needs
@@ -183,6 +196,10 @@ rooms-spec =
     slice-aggregate-repair-8
     repair-requires-4
     refused-requires-4
+    slice-aggregate-repair-9
+    slice-aggregate-repair-10
+    repair-requires-5
+    refused-requires-5
     slice-aggregate-edges
     slice-aggregate-edges-2
     edges-requires
@@ -190,15 +207,15 @@ rooms-spec =
     slice-aggregate-edges-3
     slice-aggregate-edges-4
     edges-requires-2
-    refused-requires-5
+    refused-requires-6
     slice-aggregate-edges-5
     slice-aggregate-edges-6
     edges-requires-3
-    refused-requires-6
+    refused-requires-7
     slice-aggregate-edges-7
     slice-aggregate-edges-8
     edges-requires-4
-    refused-requires-7
+    refused-requires-8
     slice-aggregate-loops
     slice-aggregate-loops-2
     loops-requires
@@ -206,13 +223,13 @@ rooms-spec =
     slice-aggregate-loops-3
     slice-aggregate-loops-4
     loops-requires-2
-    refused-requires-8
+    refused-requires-9
     slice-aggregate-loops-5
     slice-aggregate-loops-6
     loops-requires-3
-    refused-requires-9
+    refused-requires-10
     slice-aggregate-loops-7
     slice-aggregate-loops-8
     loops-requires-4
-    refused-requires-10
+    refused-requires-11
     returns)

@@ -43,9 +43,12 @@ slice-aggregate-edges-2 c = search needs
 slice-aggregate-edges-3 : tie.Need-slice-aggregate-edges-3
 slice-aggregate-edges-3 c = search needs
 
+slice-aggregate-edges-4 : tie.Need-slice-aggregate-edges-4
+slice-aggregate-edges-4 c = search needs
+
 edges-requires : tie.Need-edges-requires
 unfolding all
-edges-requires c κs = ready _ _ 1 _ _ refl refl (omega arith) (omega arith) tt refl
+edges-requires c κs = (ready _ _ 1 _ _ refl refl (omega arith) (omega arith) tt refl, omega arith)
 
 slice-aggregate-collisions : tie.Need-slice-aggregate-collisions
 slice-aggregate-collisions c = search needs
@@ -56,12 +59,12 @@ slice-aggregate-collisions-2 c = search needs
 slice-aggregate-collisions-3 : tie.Need-slice-aggregate-collisions-3
 slice-aggregate-collisions-3 c = search needs
 
+slice-aggregate-collisions-4 : tie.Need-slice-aggregate-collisions-4
+slice-aggregate-collisions-4 c = search needs
+
 collisions-requires : tie.Need-collisions-requires
 unfolding all
-collisions-requires c κs = ready _ _ 1 _ _ refl refl (omega arith) (omega arith) tt refl
-
-slice-aggregate-edges-4 : tie.Need-slice-aggregate-edges-4
-slice-aggregate-edges-4 c = search needs
+collisions-requires c κs = (ready _ _ 1 _ _ refl refl (omega arith) (omega arith) tt refl, omega arith)
 
 slice-aggregate-edges-5 : tie.Need-slice-aggregate-edges-5
 slice-aggregate-edges-5 c = search needs
@@ -69,22 +72,18 @@ slice-aggregate-edges-5 c = search needs
 slice-aggregate-edges-6 : tie.Need-slice-aggregate-edges-6
 slice-aggregate-edges-6 c = search needs
 
-edges-requires-2 : tie.Need-edges-requires-2
-unfolding all
-edges-requires-2 c κs = ready _ _ 3 _ _ refl refl (omega arith) (omega arith) tt refl
-
 slice-aggregate-edges-7 : tie.Need-slice-aggregate-edges-7
 slice-aggregate-edges-7 c = search needs
 
 slice-aggregate-edges-8 : tie.Need-slice-aggregate-edges-8
 slice-aggregate-edges-8 c = search needs
 
+edges-requires-2 : tie.Need-edges-requires-2
+unfolding all
+edges-requires-2 c κs = (ready _ _ 3 _ _ refl refl (omega arith) (omega arith) tt refl, omega arith)
+
 slice-aggregate-edges-9 : tie.Need-slice-aggregate-edges-9
 slice-aggregate-edges-9 c = search needs
-
-edges-requires-3 : tie.Need-edges-requires-3
-unfolding all
-edges-requires-3 c κs = ready _ _ 3 _ _ refl refl (omega arith) (omega arith) tt refl
 
 slice-aggregate-edges-10 : tie.Need-slice-aggregate-edges-10
 slice-aggregate-edges-10 c = search needs
@@ -95,12 +94,25 @@ slice-aggregate-edges-11 c = search needs
 slice-aggregate-edges-12 : tie.Need-slice-aggregate-edges-12
 slice-aggregate-edges-12 c = search needs
 
+edges-requires-3 : tie.Need-edges-requires-3
+unfolding all
+edges-requires-3 c κs = (ready _ _ 3 _ _ refl refl (omega arith) (omega arith) tt refl, omega arith)
+
+slice-aggregate-edges-13 : tie.Need-slice-aggregate-edges-13
+slice-aggregate-edges-13 c = search needs
+
+slice-aggregate-edges-14 : tie.Need-slice-aggregate-edges-14
+slice-aggregate-edges-14 c = search needs
+
+slice-aggregate-edges-15 : tie.Need-slice-aggregate-edges-15
+slice-aggregate-edges-15 c = search needs
+
+slice-aggregate-edges-16 : tie.Need-slice-aggregate-edges-16
+slice-aggregate-edges-16 c = search needs
+
 edges-requires-4 : tie.Need-edges-requires-4
 unfolding all
-edges-requires-4 c κs = ready _ _ 4 _ _ refl refl (omega arith) (omega arith) tt refl
-
-slice-aggregate-collisions-4 : tie.Need-slice-aggregate-collisions-4
-slice-aggregate-collisions-4 c = search needs
+edges-requires-4 c κs = (ready _ _ 4 _ _ refl refl (omega arith) (omega arith) tt refl, omega arith)
 
 slice-aggregate-collisions-5 : tie.Need-slice-aggregate-collisions-5
 slice-aggregate-collisions-5 c = search needs
@@ -108,22 +120,18 @@ slice-aggregate-collisions-5 c = search needs
 slice-aggregate-collisions-6 : tie.Need-slice-aggregate-collisions-6
 slice-aggregate-collisions-6 c = search needs
 
-collisions-requires-2 : tie.Need-collisions-requires-2
-unfolding all
-collisions-requires-2 c κs = ready _ _ 3 _ _ refl refl (omega arith) (omega arith) tt refl
-
 slice-aggregate-collisions-7 : tie.Need-slice-aggregate-collisions-7
 slice-aggregate-collisions-7 c = search needs
 
 slice-aggregate-collisions-8 : tie.Need-slice-aggregate-collisions-8
 slice-aggregate-collisions-8 c = search needs
 
+collisions-requires-2 : tie.Need-collisions-requires-2
+unfolding all
+collisions-requires-2 c κs = (ready _ _ 3 _ _ refl refl (omega arith) (omega arith) tt refl, omega arith)
+
 slice-aggregate-collisions-9 : tie.Need-slice-aggregate-collisions-9
 slice-aggregate-collisions-9 c = search needs
-
-collisions-requires-3 : tie.Need-collisions-requires-3
-unfolding all
-collisions-requires-3 c κs = ready _ _ 3 _ _ refl refl (omega arith) (omega arith) tt refl
 
 slice-aggregate-collisions-10 : tie.Need-slice-aggregate-collisions-10
 slice-aggregate-collisions-10 c = search needs
@@ -134,9 +142,25 @@ slice-aggregate-collisions-11 c = search needs
 slice-aggregate-collisions-12 : tie.Need-slice-aggregate-collisions-12
 slice-aggregate-collisions-12 c = search needs
 
+collisions-requires-3 : tie.Need-collisions-requires-3
+unfolding all
+collisions-requires-3 c κs = (ready _ _ 3 _ _ refl refl (omega arith) (omega arith) tt refl, omega arith)
+
+slice-aggregate-collisions-13 : tie.Need-slice-aggregate-collisions-13
+slice-aggregate-collisions-13 c = search needs
+
+slice-aggregate-collisions-14 : tie.Need-slice-aggregate-collisions-14
+slice-aggregate-collisions-14 c = search needs
+
+slice-aggregate-collisions-15 : tie.Need-slice-aggregate-collisions-15
+slice-aggregate-collisions-15 c = search needs
+
+slice-aggregate-collisions-16 : tie.Need-slice-aggregate-collisions-16
+slice-aggregate-collisions-16 c = search needs
+
 collisions-requires-4 : tie.Need-collisions-requires-4
 unfolding all
-collisions-requires-4 c κs = ready _ _ 5 _ _ refl refl (omega arith) (omega arith) tt refl
+collisions-requires-4 c κs = (ready _ _ 5 _ _ refl refl (omega arith) (omega arith) tt refl, omega arith)
 
 returns : tie.Need-returns
 returns c = search needs
@@ -148,33 +172,41 @@ main-spec =
     slice-aggregate-edges
     slice-aggregate-edges-2
     slice-aggregate-edges-3
+    slice-aggregate-edges-4
     edges-requires
     slice-aggregate-collisions
     slice-aggregate-collisions-2
     slice-aggregate-collisions-3
+    slice-aggregate-collisions-4
     collisions-requires
-    slice-aggregate-edges-4
     slice-aggregate-edges-5
     slice-aggregate-edges-6
-    edges-requires-2
     slice-aggregate-edges-7
     slice-aggregate-edges-8
+    edges-requires-2
     slice-aggregate-edges-9
-    edges-requires-3
     slice-aggregate-edges-10
     slice-aggregate-edges-11
     slice-aggregate-edges-12
+    edges-requires-3
+    slice-aggregate-edges-13
+    slice-aggregate-edges-14
+    slice-aggregate-edges-15
+    slice-aggregate-edges-16
     edges-requires-4
-    slice-aggregate-collisions-4
     slice-aggregate-collisions-5
     slice-aggregate-collisions-6
-    collisions-requires-2
     slice-aggregate-collisions-7
     slice-aggregate-collisions-8
+    collisions-requires-2
     slice-aggregate-collisions-9
-    collisions-requires-3
     slice-aggregate-collisions-10
     slice-aggregate-collisions-11
     slice-aggregate-collisions-12
+    collisions-requires-3
+    slice-aggregate-collisions-13
+    slice-aggregate-collisions-14
+    slice-aggregate-collisions-15
+    slice-aggregate-collisions-16
     collisions-requires-4
     returns)

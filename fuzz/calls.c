@@ -1,7 +1,7 @@
 /* A fuzz target: bytes become an input of one of the calls and rooms for it; one of the edge call is asked of the loop call too. Number, place, counts and
- * every entry of every room must be those of the documents (document.c, passes.c, ply.c); of what a repair with all six options gives, demand 3 must hold and
- * the check say yes; what the check says yes to, the edge call and the loop call must accept; a PLY file that is written must be read as what was written, and
- * one that is read be written again. */
+ * every entry of every room must be those of the documents (document.c, passes.c, ply.c); the origins of every repair must rise and name faces that stand where
+ * those of the output do; of what a repair with all six options gives, demand 3 must hold and the check say yes; what the check says yes to, the edge call and
+ * the loop call must accept; a PLY file that is written must be read as what was written, and one that is read be written again. */
 #define _DEFAULT_SOURCE
 #include "blocks.h"
 #include "document.h"
@@ -285,8 +285,8 @@ static Given call(const Asked *a, void **r) {
     Given g = {0, 0, {0}};
     if (a->call == REPAIR) {
         ShellRepaired x = shell_repair(a->points, a->points_len, a->faces, a->faces_len, a->s, a->options, r[0], a->room[0], r[1], a->room[1], r[2], a->room[2],
-                                       r[3], a->room[3]);
-        g = (Given){x.number, x.place, {x.points, x.faces, x.counts}};
+                                       r[3], a->room[3], r[4], a->room[4]);
+        g = (Given){x.number, x.place, {x.points, x.faces, x.counts, x.origins}};
     } else if (a->call == EDGES) {
         ShellEdges x = shell_edges(a->points, a->points_len, a->faces, a->faces_len, r[0], a->room[0], r[1], a->room[1], r[2], a->room[2], r[3], a->room[3]);
         g = (Given){x.number, x.place, {x.edges, x.lengths, x.face_edges}};
@@ -377,12 +377,17 @@ static void after_yes(const Asked *a, const Look *look, const double *points, vo
         wrong(a, "the loop call refuses what the check says yes to");
 }
 
-/* What is promised of a mesh that is mended with all six options. */
+/* What is promised of a mesh that is mended: with any options that its faces are traced, with all six the rest of demand 3. */
 static void after_repair(const Asked *a, const Look *look, const Given *g, void **r) {
     size_t P = g->entries[0] / 3, F = g->entries[1] / 3;
+    const char *what = document_traced(a, r[0], r[1], F, r[3]);
+    if (what != NULL)
+        wrong(a, what);
+    if (a->options != 63)
+        return;
     double *points = copy(r[0], 24 * P);
     uint32_t *faces = copy(r[1], 12 * F);
-    const char *what = document_demand(a, points, P, faces, F, r[2]);
+    what = document_demand(a, P, faces, F, r[2]);
     if (what != NULL)
         wrong(a, what);
     Asked check = {.call = CHECK, .P = P, .faces = faces, .faces_len = 3 * F};
@@ -445,7 +450,7 @@ int LLVMFuzzerTestOneInput(const uint8_t *data, size_t size) {
     for (int k = POINTS; k <= FILE_BYTES; k++)
         keep(k);
     Given g = try(&a, &look, r);
-    if (a.call == REPAIR && g.number == 0 && a.options == 63)
+    if (a.call == REPAIR && g.number == 0)
         after_repair(&a, &look, &g, r);
     if (a.call == CHECK && g.number == 0 && g.entries[0] == 1) {
         double *points = row(3 * a.P, 8);

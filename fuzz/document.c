@@ -10,10 +10,10 @@ int document_rooms(const Asked *a, size_t size[6], uint64_t stated[6]) {
     if (a->call == READ_PLY && document_form(a->file, a->file_len, &P, &F) == 0)
         P = F = 0;
     uint64_t work = 16 * P + 64 * F + 64, file = 170 + 24 * P + 13 * F + (uint64_t)snprintf(NULL, 0, "%lu%lu", (unsigned long)P, (unsigned long)F);
-    static const size_t sizes[CALLS][6] = {{8, 4, 4, 4}, {4, 8, 4, 4}, {4}, {4, 8, 4, 4}, {1}, {4, 4, 4}, {1, 4}, {8, 4, 4}};
-    static const int rooms[CALLS] = {4, 4, 1, 4, 1, 3, 2, 3};
-    const uint64_t all[CALLS][6] = {{3 * (P + 3 * F), 3 * F, 11, work}, {6 * F, 3 * F, 3 * F, work}, {work}, {C, 7 * C, C, 4 * C}, {512}, {3 * F, 3 * F, work},
-                                    {file, work}, {3 * P, 3 * F, work}};
+    static const size_t sizes[CALLS][6] = {{8, 4, 4, 4, 4}, {4, 8, 4, 4}, {4}, {4, 8, 4, 4}, {1}, {4, 4, 4}, {1, 4}, {8, 4, 4}};
+    static const int rooms[CALLS] = {5, 4, 1, 4, 1, 3, 2, 3};
+    const uint64_t all[CALLS][6] = {{3 * (P + 3 * F), 3 * F, 11, F, work}, {6 * F, 3 * F, 3 * F, work}, {work}, {C, 7 * C, C, 4 * C}, {512},
+                                    {3 * F, 3 * F, work}, {file, work}, {3 * P, 3 * F, work}};
     memcpy(size, sizes[a->call], sizeof sizes[0]);
     memcpy(stated, all[a->call], sizeof all[0]);
     return rooms[a->call];
@@ -332,17 +332,25 @@ static int stands(const double *was_points, const uint32_t *was, const double *p
     return same || exchanged;
 }
 
-const char *document_demand(const Asked *a, const double *points, size_t P, const uint32_t *faces, size_t F, const uint32_t *report) {
-    size_t was = a->faces_len / 3, k = 0;
+const char *document_traced(const Asked *a, const double *points, const uint32_t *faces, size_t F, const uint32_t *origins) {
+    for (size_t k = 0; k < F; k++) {
+        if (origins[k] >= a->faces_len / 3)
+            return "an origin is no input face";
+        if (k > 0 && origins[k - 1] >= origins[k])
+            return "origins do not rise";
+        if (!stands(a->points, a->faces + 3 * origins[k], points, faces + 3 * k))
+            return "a face does not stand where its origin does";
+    }
+    return NULL;
+}
+
+const char *document_demand(const Asked *a, size_t P, const uint32_t *faces, size_t F, const uint32_t *report) {
+    size_t was = a->faces_len / 3;
     if (was != F + report[0] + report[1] + report[2] + report[4] + report[5] || a->P + report[7] != P + report[10])
         return "the counts do not add up";
     for (size_t i = 0; i < 3 * F; i++)
         if (faces[i] >= P)
             return "a corner is no point";
-    for (size_t i = 0; i < was && k < F; i++)
-        k += stands(a->points, a->faces + 3 * i, points, faces + 3 * k);
-    if (k != F)
-        return "a face is no input face";
     if (!each_once(faces, 3 * F))
         return "a directed edge is walked twice";
     return one_group(faces, 3 * F, P, 1) ? NULL : "a point has not one fan";

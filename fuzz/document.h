@@ -1,4 +1,4 @@
-/* What document 01, with items 2, 3, 5 and 6 of document 02, says that a call must answer, in plain C and from the documents alone, so that it shares nothing
+/* What document 01, with items 2, 3, 5, 6 and 7 of document 02, says that a call must answer, in plain C and from the documents alone, so that it shares nothing
  * with the library. */
 #ifndef JOGASMUN_DOCUMENT_H
 #define JOGASMUN_DOCUMENT_H
@@ -36,6 +36,9 @@ void document_free(Wanted *w);
 /* The rows of an accepted repair. */
 void document_repair(const Asked *a, Wanted *w);
 
+/* The origins alone of an accepted repair, into a row of F entries, and how many. Passes 5 and 6 leave each face in its place, so they are not run. */
+size_t document_origins(const double *points, size_t P, const uint32_t *faces, size_t F, double s, uint32_t options, uint32_t *origins);
+
 /* The header of a PLY file with these two texts for its counts; its length. */
 enum { HEADER = 256 };
 size_t document_header(const char *vertices, const char *faces, char out[HEADER]);
@@ -54,7 +57,11 @@ int document_read_refused(const Asked *a, Wanted *w);
 void document_read(const Asked *a, Wanted *w);
 void document_write(const Asked *a, Wanted *w);
 
-/* What differs from demand 3 in what a repair with all six options gives, or NULL. Its boundary is looked at by the loop call's answer. */
-const char *document_demand(const Asked *a, const double *points, size_t P, const uint32_t *faces, size_t F, const uint32_t *report);
+/* What differs from demand 3, but for its sentence on origins, in what a repair with all six options gives, or NULL. Its boundary is looked at by the loop
+ * call's answer. */
+const char *document_demand(const Asked *a, size_t P, const uint32_t *faces, size_t F, const uint32_t *report);
+
+/* What differs from the sentence on origins in what a repair with any options gives, or NULL. */
+const char *document_traced(const Asked *a, const double *points, const uint32_t *faces, size_t F, const uint32_t *origins);
 
 #endif

@@ -5,9 +5,10 @@
 #include <stdlib.h>
 #include <string.h>
 
+/* A face is three corners in `faces` and a fourth number, the place that it has in the input. */
 typedef struct {
     double *points, s;
-    uint32_t *faces, *report;
+    uint32_t *faces, *origins, *report;
     size_t P, F;
 } Mesh;
 
@@ -56,8 +57,10 @@ static int ranks_first(const Mesh *m, uint32_t x, uint32_t y) {
 static uint32_t leave(Mesh *m, const uint8_t *marks) {
     size_t kept = 0, before = m->F;
     for (size_t i = 0; i < before; i++)
-        if (!marks[i])
-            memmove(m->faces + 3 * kept++, m->faces + 3 * i, 12);
+        if (!marks[i]) {
+            memmove(m->faces + 3 * kept, m->faces + 3 * i, 12);
+            m->origins[kept++] = m->origins[i];
+        }
     m->F = kept;
     return (uint32_t)(before - kept);
 }
@@ -301,22 +304,35 @@ static void pass6(Mesh *m) {
     free(new);
 }
 
-void document_repair(const Asked *a, Wanted *w) {
-    Mesh m = {row(3 * (a->P + a->faces_len), 8), a->s, row(a->faces_len, 4), row(11, 4), a->P, a->faces_len / 3};
-    if (a->points_len > 0)
-        memcpy(m.points, a->points, 8 * a->points_len);
-    if (a->faces_len > 0)
-        memcpy(m.faces, a->faces, 4 * a->faces_len);
-    if (a->options & 1)
-        pass1(&m);
-    if (a->options & 2)
-        pass2(&m);
-    if (a->options & 4)
-        pass3(&m);
-    if (a->options & 16) {
-        orient(&m);
-        collisions(&m);
+/* A mesh of its own, each face with its place. */
+static Mesh begun(const double *points, size_t P, const uint32_t *faces, size_t F, double s) {
+    Mesh m = {row(3 * (P + 3 * F), 8), s, row(3 * F, 4), row(F, 4), row(11, 4), P, F};
+    if (P > 0)
+        memcpy(m.points, points, 24 * P);
+    if (F > 0)
+        memcpy(m.faces, faces, 12 * F);
+    for (uint32_t i = 0; i < F; i++)
+        m.origins[i] = i;
+    return m;
+}
+
+/* Passes 1 to 4, those that may drop a face. */
+static void drop_faces(Mesh *m, uint32_t options) {
+    if (options & 1)
+        pass1(m);
+    if (options & 2)
+        pass2(m);
+    if (options & 4)
+        pass3(m);
+    if (options & 16) {
+        orient(m);
+        collisions(m);
     }
+}
+
+void document_repair(const Asked *a, Wanted *w) {
+    Mesh m = begun(a->points, a->P, a->faces, a->faces_len / 3, a->s);
+    drop_faces(&m, a->options);
     if (a->options & 8)
         pass5(&m);
     if (a->options & 32)
@@ -324,7 +340,20 @@ void document_repair(const Asked *a, Wanted *w) {
     w->row[0] = m.points;
     w->row[1] = m.faces;
     w->row[2] = m.report;
+    w->row[3] = m.origins;
     w->entries[0] = 3 * m.P;
     w->entries[1] = 3 * m.F;
     w->entries[2] = 11;
+    w->entries[3] = m.F;
+}
+
+size_t document_origins(const double *points, size_t P, const uint32_t *faces, size_t F, double s, uint32_t options, uint32_t *origins) {
+    Mesh m = begun(points, P, faces, F, s);
+    drop_faces(&m, options);
+    memcpy(origins, m.origins, 4 * m.F);
+    free(m.points);
+    free(m.faces);
+    free(m.origins);
+    free(m.report);
+    return m.F;
 }

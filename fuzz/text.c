@@ -106,9 +106,9 @@ static int read_job(Text t, Job *job) {
 /* Mends the job's mesh and prints the answer; returns its length. */
 static size_t print_answer(const Job *job, char *out) {
     static double points[SHELL_POINTS_ROOM(MOST, MOST)];
-    static uint32_t faces[SHELL_FACES_ROOM(MOST)], report[SHELL_REPORT_ROOM], work[SHELL_WORK_ROOM(MOST, MOST)];
+    static uint32_t faces[SHELL_FACES_ROOM(MOST)], report[SHELL_REPORT_ROOM], origins[SHELL_ORIGINS_ROOM(MOST)], work[SHELL_WORK_ROOM(MOST, MOST)];
     ShellRepaired r = shell_repair(job->points, 3 * job->P, job->faces, 3 * job->F, job->s, job->options, points, SHELL_POINTS_ROOM(MOST, MOST), faces,
-                                   SHELL_FACES_ROOM(MOST), report, SHELL_REPORT_ROOM, work, SHELL_WORK_ROOM(MOST, MOST));
+                                   SHELL_FACES_ROOM(MOST), report, SHELL_REPORT_ROOM, origins, SHELL_ORIGINS_ROOM(MOST), work, SHELL_WORK_ROOM(MOST, MOST));
     const uint64_t entries[3] = {r.points, r.faces, r.counts};
     int at = 0;
     blocks_seen(0, r.number, r.place, entries, 3);

@@ -1,7 +1,8 @@
 /* The chain repair, check, edges, loops, and writing to a PLY file and reading it, on damaged meshes, from a fixed seed: `chain MESHES`. After a repair with
  * all six options each mesh must be what is proved of it: the check says yes, the edge call and the loop call accept, each boundary edge stands in exactly one
- * loop, each directed edge is walked at most once, every point is used and has one fan, each face is an input face in input order, as many faces as repeat a
- * corner are counted so, and the counts add up. Before the repair the check must say yes exactly if no face repeats a corner, each directed edge is walked at
+ * loop, each directed edge is walked at most once, every point is used and has one fan, as many faces as repeat a corner are counted so, and the counts add
+ * up; and after it and after repairs with other options, the origins rise strictly, one for each face, and each names an input face that has its corners in the
+ * same places, bit by bit, at most the last two exchanged. Before the repair the check must say yes exactly if no face repeats a corner, each directed edge is walked at
  * most once and each point that is used has one fan, and where it says yes the edge call and the loop call must accept; the edge call must accept whatever the
  * loop call accepts or refuses for its boundary, and refuse the same where an edge is crowded. Before and after it the mesh is read from the PLY file that it
  * is written to with the same bits. The first mesh that differs is printed. */
@@ -21,7 +22,7 @@ typedef struct {
 /* The rooms of repair, edges and loops, and how many entries stand in them. */
 typedef struct {
     double *points, *lengths;
-    uint32_t *faces, *report, *work, *edges, *face_edges, *loop_vertices, *loop_ends;
+    uint32_t *faces, *report, *origins, *work, *edges, *face_edges, *loop_vertices, *loop_ends;
     ShellRepaired repaired;
     ShellEdges found;
     ShellLoops loops;
@@ -203,9 +204,10 @@ static void free_edges(Rooms *r) {
 }
 
 /* What all meshes together had: those that are sound before the repair, those that are not for the fans at a point alone, and those whose edges are listed
- * though their loops are refused; boundary edges and loops after the repair, and degenerate faces of both kinds before it; bytes of PLY files. */
+ * though their loops are refused; boundary edges and loops after the repair, and degenerate faces of both kinds before it; bytes of PLY files; faces that are
+ * traced by their origins, those of them that have another place in the output, and those that stand there with their corners exchanged. */
 typedef struct {
-    uint64_t sound, tied, listed, boundary, loops, repeated, thin, bytes;
+    uint64_t sound, tied, listed, boundary, loops, repeated, thin, bytes, traced, moved, turned;
 } Sums;
 
 /* Whether a PLY file is counted and read as this mesh, in rooms that are just large enough. */
@@ -340,23 +342,39 @@ static int adds_up(const Mesh *m, const uint32_t *report, size_t P, size_t F) {
     return m->F == F + removed && m->P + report[SHELL_POINTS_ADDED_BY_SPLITTING] == P + report[SHELL_ISOLATED_VERTICES_REMOVED];
 }
 
-/* Whether a face of the output stands where the input's does, corners 1 and 2 exchanged or not. */
+/* Whether a face of the output stands where the input's does, bit by bit: 1 if so, 2 if only with corners 1 and 2 exchanged, else 0. */
 static int stands(const Mesh *m, const uint32_t *was, const double *points, const uint32_t *is) {
     int same = 1, exchanged = 1;
     for (int k = 0; k < 3; k++) {
         same = same && memcmp(m->points + 3 * was[k], points + 3 * is[k], 24) == 0;
         exchanged = exchanged && memcmp(m->points + 3 * was[k], points + 3 * is[(3 - k) % 3], 24) == 0;
     }
-    return same || exchanged;
+    return same ? 1 : exchanged ? 2 : 0;
 }
 
-/* Whether the faces of the output are input faces, in input order. */
-static int in_order(const Mesh *m, const Rooms *r, size_t F) {
-    size_t k = 0;
-    for (size_t i = 0; i < m->F && k < F; i++)
-        if (stands(m, m->faces + 3 * i, r->points, r->faces + 3 * k))
-            k++;
-    return k == F;
+/* How the origins do not say where the faces of the output come from, or NULL: one for each face, below F, rising strictly, in the same place; and the rest of
+ * the room, which has one entry more than is stated, as it must be. */
+static const char *untraced(const Mesh *m, const Rooms *r, uint32_t options, Sums *sums) {
+    size_t F = r->repaired.faces / 3;
+    if (r->repaired.origins != F)
+        return "there is not one origin for each face";
+    for (size_t k = 0; k < F; k++) {
+        uint32_t origin = r->origins[k];
+        if (origin >= m->F)
+            return "an origin is no input face";
+        if (k > 0 && origin <= r->origins[k - 1])
+            return "the origins do not rise";
+        int how = stands(m, m->faces + 3 * origin, r->points, r->faces + 3 * k);
+        if (how == 0 || (how == 2 && !(options & SHELL_ORIENT_CONSISTENTLY)))
+            return "a face does not stand where its origin does";
+        sums->traced++;
+        sums->moved += origin != k;
+        sums->turned += how == 2;
+    }
+    for (size_t k = F; k < m->F; k++)
+        if (r->origins[k] != 0)
+            return "behind the origins it is not zero";
+    return r->origins[m->F] == 0x5a5a5a5a ? NULL : "an entry beyond the room of the origins is changed";
 }
 
 /* How often the loops do: each is listed against its walk. */
@@ -394,8 +412,9 @@ static const char *fault(const Mesh *m, Rooms *r, Sums *sums) {
         return "another number of faces repeat a corner";
     if (!adds_up(m, r->report, P, F))
         return "the counts do not add up";
-    if (!in_order(m, r, F))
-        return "a face is no input face";
+    const char *found = untraced(m, r, SHELL_ALL_OPTIONS, sums);
+    if (found != NULL)
+        return found;
     for (uint32_t v = 0; v < P; v++)
         if (!one_fan(r->faces, F, v))
             return "a point has not one fan";
@@ -410,22 +429,60 @@ static const char *fault(const Mesh *m, Rooms *r, Sums *sums) {
     return looped(r, P, F, &sums->boundary) ? there_and_back(r->points, P, r->faces, F, sums) : "a boundary edge is not in one loop";
 }
 
-/* Repairs the mesh, and says what differs after it. */
-static const char *chain(const Mesh *m, Sums *sums) {
+/* The repair in rooms that are just large enough, but for one entry more for the origins, and a work room for what may come out. */
+static Rooms repair(const Mesh *m, uint32_t options) {
     size_t P = m->P, F = m->F, most = SHELL_WORK_ROOM(P + 3 * F, F);
     Rooms r = {.points = room(SHELL_POINTS_ROOM(P, F), 8), .faces = room(SHELL_FACES_ROOM(F), 4), .report = room(SHELL_REPORT_ROOM, 4), .work = room(most, 4)};
-    r.repaired = shell_repair(m->points, 3 * P, m->faces, 3 * F, m->s, SHELL_ALL_OPTIONS, r.points, SHELL_POINTS_ROOM(P, F), r.faces, SHELL_FACES_ROOM(F),
-                              r.report, SHELL_REPORT_ROOM, r.work, most);
+    r.origins = room(SHELL_ORIGINS_ROOM(F) + 1, 4);
+    r.repaired = shell_repair(m->points, 3 * P, m->faces, 3 * F, m->s, options, r.points, SHELL_POINTS_ROOM(P, F), r.faces, SHELL_FACES_ROOM(F), r.report,
+                              SHELL_REPORT_ROOM, r.origins, SHELL_ORIGINS_ROOM(F) + 1, r.work, most);
+    return r;
+}
+
+static void free_rooms(Rooms *r) {
+    free_edges(r);
+    free(r->points);
+    free(r->faces);
+    free(r->report);
+    free(r->origins);
+    free(r->work);
+}
+
+/* Repairs the mesh, and says what differs after it. */
+static const char *chain(const Mesh *m, Sums *sums) {
+    Rooms r = repair(m, SHELL_ALL_OPTIONS);
     const char *found = fault(m, &r, sums);
     sums->loops += r.loops.loop_ends;
     sums->repeated += r.report[SHELL_REPEATED_REMOVED];
     sums->thin += r.report[SHELL_THIN_REMOVED];
-    free_edges(&r);
-    free(r.points);
-    free(r.faces);
-    free(r.report);
-    free(r.work);
+    free_rooms(&r);
     return found;
+}
+
+/* Whether the origins are 0 to F - 1. */
+static int all_there(const Mesh *m, const Rooms *r) {
+    for (uint32_t k = 0; k < m->F; k++)
+        if (r->origins[k] != k)
+            return 0;
+    return r->repaired.origins == m->F;
+}
+
+/* Repairs the mesh with these options, and without those of them that drop a face, and says how its faces are not traced. */
+static const char *otherwise(const Mesh *m, uint32_t some, Sums *sums) {
+    static const uint32_t dropping = SHELL_DROP_DEGENERATE | SHELL_DROP_DUPLICATE_FACES | SHELL_RESOLVE_NONMANIFOLD_EDGES | SHELL_ORIENT_CONSISTENTLY;
+    const uint32_t options[2] = {some, some & ~dropping};
+    for (int k = 0; k < 2; k++) {
+        Rooms r = repair(m, options[k]);
+        const char *found = r.repaired.number == SHELL_ACCEPTED ? untraced(m, &r, options[k], sums) : "the repair refuses";
+        if (found == NULL && k == 1 && !all_there(m, &r))
+            found = "a face leaves though no pass drops one";
+        free_rooms(&r);
+        if (found != NULL) {
+            printf("chain: with options %u\n", options[k]);
+            return found;
+        }
+    }
+    return NULL;
 }
 
 int main(int count, char **names) {
@@ -434,10 +491,12 @@ int main(int count, char **names) {
         return 2;
     }
     unsigned long meshes = strtoul(names[1], NULL, 10);
-    Sums sums = {0, 0, 0, 0, 0, 0, 0, 0};
+    Sums sums = {0, 0, 0, 0, 0, 0, 0, 0, 0, 0, 0};
     for (unsigned long k = 0; k < meshes; k++) {
         Mesh m = k < PLAIN ? plain(k) : damaged();
         const char *found = chain(&m, &sums);
+        if (found == NULL)
+            found = otherwise(&m, (uint32_t)(k % SHELL_ALL_OPTIONS), &sums);
         if (found == NULL)
             found = unmended(&m, &sums);
         if (found == NULL)
@@ -449,8 +508,10 @@ int main(int count, char **names) {
         }
     }
     printf("chain: %lu meshes, %lu of them sound before the repair, %lu not sound for the fans at a point alone, %lu with edges but no loops; it removes %lu "
-           "faces that repeat a corner and %lu thin ones; after it %lu boundary edges in %lu loops; %lu bytes of PLY files there and back\n",
+           "faces that repeat a corner and %lu thin ones; after it %lu boundary edges in %lu loops; %lu bytes of PLY files there and back; with these and other "
+           "options %lu faces traced by their origins, %lu of them in another place of the list, %lu with corners exchanged\n",
            meshes, (unsigned long)sums.sound, (unsigned long)sums.tied, (unsigned long)sums.listed, (unsigned long)sums.repeated, (unsigned long)sums.thin,
-           (unsigned long)sums.boundary, (unsigned long)sums.loops, (unsigned long)sums.bytes);
+           (unsigned long)sums.boundary, (unsigned long)sums.loops, (unsigned long)sums.bytes, (unsigned long)sums.traced, (unsigned long)sums.moved,
+           (unsigned long)sums.turned);
     return 0;
 }

@@ -1,19 +1,19 @@
-/* The panel builder's way to call the library: mend a shell, say what was done, check it, list its edges and its boundary, write it as a PLY file for the
- * layout program and read it back, and sort its patches. Shells that are not mended are checked too, and their edges listed: of one the loops are refused, and
- * of one, two bodies that share a tip, only the check says that it is not sound. */
+/* The panel builder's way to call the library: mend a shell, say what was done and which face of the scan its last face is, check it, list its edges and its
+ * boundary, write it as a PLY file for the layout program and read it back, and sort its patches. Shells that are not mended are checked too, and their edges
+ * listed: of one the loops are refused, and of one, two bodies that share a tip, only the check says that it is not sound. */
 #include "shell.h"
 #include <stdio.h>
 #include <string.h>
 
 /* The calls, their rooms and the places of a report are those of the header's edition. */
-#if SHELL_VERSION != 6
-#error "written for edition 6 of shell.h"
+#if SHELL_VERSION != 7
+#error "written for edition 7 of shell.h"
 #endif
 
 /* Rooms for shells of up to 7 points and 8 faces. A repair may add 3 points a face, so the calls after it want a work room for that many. */
 enum { P = 7, F = 8, MOST = P + 3 * F };
 static double mended[SHELL_POINTS_ROOM(P, F)], lengths[SHELL_LENGTHS_ROOM(F)];
-static uint32_t triples[SHELL_FACES_ROOM(F)], report[SHELL_REPORT_ROOM], work[SHELL_WORK_ROOM(MOST, F)];
+static uint32_t triples[SHELL_FACES_ROOM(F)], report[SHELL_REPORT_ROOM], origins[SHELL_ORIGINS_ROOM(F)], work[SHELL_WORK_ROOM(MOST, F)];
 static uint32_t edges[SHELL_EDGES_ROOM(F)], face_edges[SHELL_FACE_EDGES_ROOM(F)], loop_vertices[SHELL_LOOP_VERTICES_ROOM(F)], loop_ends[SHELL_LOOP_ENDS_ROOM(F)];
 static uint8_t file[SHELL_PLY_FILE_ROOM(MOST, F)];
 static double read_points[SHELL_PLY_POINTS_ROOM(MOST)];
@@ -93,9 +93,15 @@ static int there_and_back(const double *points, size_t points_len, const uint32_
     return !same;
 }
 
-/* A repair with every pass, its report as a line, and the calls that want a mended shell. */
+/* Where a face of the output comes from: touch tables are built on the scan, and face k of the output is face origins[k] of it. */
+static void print_origin(size_t k) {
+    printf("  face %zu is face %u of the scan\n", k, origins[k]);
+}
+
+/* A repair with every pass, its report as a line, the origin of its last face, and the calls that want a mended shell. */
 static int mend(const char *name, const double *points, size_t points_len, const uint32_t *faces, size_t faces_len) {
-    ShellRepaired repaired = shell_repair(points, points_len, faces, faces_len, 1e-12, SHELL_ALL_OPTIONS, ROOM(mended), ROOM(triples), ROOM(report), ROOM(work));
+    ShellRepaired repaired = shell_repair(points, points_len, faces, faces_len, 1e-12, SHELL_ALL_OPTIONS, ROOM(mended), ROOM(triples), ROOM(report),
+                                          ROOM(origins), ROOM(work));
     if (repaired.number != SHELL_ACCEPTED)
         return refused("repair", repaired.number, repaired.place);
     printf("%s: %u points, %u faces\n  faces", name, (unsigned)repaired.points / 3, (unsigned)repaired.faces / 3);
@@ -109,6 +115,8 @@ static int mend(const char *name, const double *points, size_t points_len, const
     printf("\n  %.*s\n", (int)written.bytes, (const char *)line);
     if (report[SHELL_REPEATED_REMOVED] + report[SHELL_THIN_REMOVED] > 0)
         printf("  of the degenerate faces %u repeat a corner, %u are thin\n", report[SHELL_REPEATED_REMOVED], report[SHELL_THIN_REMOVED]);
+    if (repaired.origins > 0)
+        print_origin(repaired.origins - 1);
 
     return check(repaired.points / 3, triples, repaired.faces, 1) || list(mended, repaired.points, triples, repaired.faces) ||
            there_and_back(mended, repaired.points, triples, repaired.faces);
@@ -134,7 +142,7 @@ int main(void) {
                  cube[] = {0, 0, 0, 1, 0, 0, 0, 1, 0, 0, 0, 1, 1, 1, 1}, row[] = {0, 0, 0, 1, 0, 0, 2, 0, 0, 3, 0, 0, 0, 1, 0},
                  tips[] = {0, 0, 0, 1, 0, 1, 0, 1, 1, -1, -1, 1, 1, 0, -1, 0, 1, -1, -1, -1, -1};
     const uint32_t bowtie[] = {0, 1, 2, 0, 3, 4}, crowded[] = {0, 1, 2, 0, 1, 3, 0, 1, 4}, moebius[] = {0, 1, 2, 1, 2, 3, 2, 3, 4, 3, 4, 0, 4, 0, 1},
-                   crumbs[] = {0, 1, 4, 0, 0, 1, 0, 1, 2, 0, 2, 3, 1, 2, 3},
+                   crumbs[] = {0, 0, 1, 0, 1, 2, 0, 2, 3, 0, 1, 4, 1, 2, 3},
                    hourglass[] = {0, 2, 1, 0, 1, 3, 1, 2, 3, 2, 0, 3, 0, 4, 5, 0, 6, 4, 4, 6, 5, 5, 6, 0};
     return mend("bowtie", ROOM(cross), ROOM(bowtie)) || mend("three faces on an edge", ROOM(legs), ROOM(crowded)) ||
            mend("Moebius strip", ROOM(cube), ROOM(moebius)) || mend("crumbs", ROOM(row), ROOM(crumbs)) || measure("bowtie", ROOM(cross), ROOM(bowtie)) ||

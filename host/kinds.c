@@ -45,13 +45,13 @@ static const Known known[] = {
 };
 
 static double mended[SHELL_POINTS_ROOM(P, MOST)];
-static uint32_t triples[SHELL_FACES_ROOM(MOST)], work[SHELL_WORK_ROOM(P, MOST)], report[SHELL_REPORT_ROOM + 1];
+static uint32_t triples[SHELL_FACES_ROOM(MOST)], origins[SHELL_ORIGINS_ROOM(MOST)], work[SHELL_WORK_ROOM(P, MOST)], report[SHELL_REPORT_ROOM + 1];
 
 /* The repair of a known mesh in a dirty report room of so many entries. */
 static ShellRepaired repair(const Known *k, size_t entries) {
     memset(report, 0x5a, sizeof report);
     return shell_repair(points, 3 * P, k->faces, 3 * k->F, k->s, k->options, mended, SHELL_POINTS_ROOM(P, MOST), triples, SHELL_FACES_ROOM(MOST), report,
-                        entries, work, SHELL_WORK_ROOM(P, MOST));
+                        entries, origins, SHELL_ORIGINS_ROOM(MOST), work, SHELL_WORK_ROOM(P, MOST));
 }
 
 /* Whether a known mesh is mended as it must be. */
@@ -69,7 +69,8 @@ static void rooms(void) {
     int kept = 1;
     for (size_t i = 0; i < SHELL_REPORT_ROOM + 1; i++)
         kept = kept && report[i] == dirty;
-    expect(ten.number == SHELL_SHORT_ROOM && ten.place == 2 && ten.points == 0 && ten.faces == 0 && ten.counts == 0 && kept, "a report room of ten is refused");
+    expect(ten.number == SHELL_SHORT_ROOM && ten.place == 2 && ten.points == 0 && ten.faces == 0 && ten.counts == 0 && ten.origins == 0 && kept,
+           "a report room of ten is refused");
     ShellRepaired eleven = repair(known, 11);
     expect(eleven.number == SHELL_ACCEPTED && eleven.counts == 11 && report[10] == 0 && report[11] == dirty, "a report room of eleven is filled");
     ShellRepaired twelve = repair(known, 12);

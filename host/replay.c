@@ -6,6 +6,10 @@
  * first of them the number of input faces that repeat a corner, as it is counted here; the report room is lent one entry longer. A line gets the count in
  * two parts.
  *
+ * No origins were recorded. A room for them is lent with two entries more than is stated, and they must be the one list that rises strictly and names for each
+ * recorded face an input face in the same place; where several lists do, the one of the passes in plain C (fuzz/passes.c). A recorded refusal of the work room,
+ * 6 at place 3, is one at place 4.
+ *
  * A recorded answer of call 2 has edges and loops together, in six rooms, and is asked of both calls: rooms 0, 1, 2, 5 of the edge call, 3, 4, 5 of the loop
  * call. 6 is that of the call that has the room, 8 that of the loop call; what the other call must then give, the record does not say, and it is found here by
  * document 01's rule.
@@ -15,6 +19,7 @@
  *
  * No call for PLY files was recorded. Points and faces of call 2 are written to one: refused 1, 2, 4 and 5 as recorded, and accepted else; and so are those
  * that a recorded repair gives. What is written must be read again as it was. */
+#include "document.h"
 #include "shell.h"
 #include <math.h>
 #include <stdio.h>
@@ -219,31 +224,90 @@ static int there_and_back(Row points, Row faces, uint64_t number, uint64_t place
     return ok;
 }
 
+/* The input of a recorded repair. */
+typedef struct {
+    double s, *points;
+    uint32_t options, *faces;
+    uint64_t P, F;
+} Scan;
+
+/* Whether output face k of a recorded answer stands where input face i does, corners 1 and 2 exchanged or not. */
+static int stands(const Scan *scan, uint64_t i, const Recorded *want, uint64_t k) {
+    int same = 1, exchanged = 1;
+    for (uint64_t j = 0; j < 9; j++) {
+        uint64_t was, is = entry(want->row[0], 3 * entry(want->row[1], 3 * k + j / 3) + j % 3);
+        uint64_t other = entry(want->row[0], 3 * entry(want->row[1], 3 * k + (3 - j / 3) % 3) + j % 3);
+        memcpy(&was, scan->points + 3 * (size_t)scan->faces[3 * i + j / 3] + j % 3, 8);
+        same = same && was == is;
+        exchanged = exchanged && was == other;
+    }
+    return same || exchanged;
+}
+
+/* How many origins were told by their places alone, and how many by the passes. */
+static unsigned long by_place, by_passes;
+
+/* The origins of the faces of a recorded answer: each face takes the first input face that is free for it, and from behind the last; where that is the same
+ * list there is no other. */
+static Row traced(const Scan *scan, const Recorded *want, uint64_t *origins) {
+    uint64_t n = want->row[1].count / 3, k = 0, alone = 1;
+    for (uint64_t i = 0; i < scan->F && k < n; i++)
+        if (stands(scan, i, want, k))
+            origins[k++] = i;
+    alone = k == n;
+    for (uint64_t i = scan->F; i-- > 0 && k > 0 && alone;)
+        if (stands(scan, i, want, k - 1))
+            alone = origins[--k] == i;
+    if (alone) {
+        by_place += n;
+        return (Row){n, 0, origins};
+    }
+    uint32_t *found = lent(scan->F, 4);
+    n = document_origins(scan->points, scan->P, scan->faces, scan->F, scan->s, scan->options, found);
+    for (uint64_t i = 0; i < n; i++)
+        origins[i] = found[i];
+    by_passes += n;
+    free(found);
+    return (Row){n, 0, origins};
+}
+
+/* What a recorded repair must give: of an accepted one the report of eleven counts and the origins too, of a short work room its place. */
+static Recorded in_five_rooms(Recorded want, const Scan *scan, Row faces, uint64_t eleven[SHELL_REPORT_ROOM], uint64_t *origins) {
+    if (want.number == SHELL_SHORT_ROOM && want.place == 3)
+        want.place = 4;
+    if (want.number == 0) {
+        want.row[2] = by_kind(want.row[2], scan->options & SHELL_DROP_DEGENERATE ? repeated(faces) : 0, eleven);
+        want.row[3] = traced(scan, &want, origins);
+    }
+    return want;
+}
+
 static int replay_repair(Words *w, Recorded want, int zero) {
-    uint32_t options = (uint32_t)one(w);
+    Scan scan = {.options = (uint32_t)one(w)};
     uint64_t bits = one(w);
-    double s;
-    memcpy(&s, &bits, 8);
-    Row points = array(w), faces = array(w);
-    uint64_t length[4], P = points.count / 3, F = faces.count / 3;
-    uint64_t stated[4] = {SHELL_POINTS_ROOM(P, F), SHELL_FACES_ROOM(F), SHELL_REPORT_ROOM, SHELL_WORK_ROOM(P, F)};
-    const size_t size[4] = {8, 4, 4, 4};
-    void *room[4];
-    Row recorded = array(w);
-    const uint64_t longer[4] = {entry(recorded, 0), entry(recorded, 1), entry(recorded, 2) + 1, entry(recorded, 3)};
-    uint64_t eleven[SHELL_REPORT_ROOM];
-    lend((Row){4, 0, longer}, 4, size, length, room, zero);
-    if (want.number == 0)
-        want.row[2] = by_kind(want.row[2], options & SHELL_DROP_DEGENERATE ? repeated(faces) : 0, eleven);
+    memcpy(&scan.s, &bits, 8);
+    Row points = array(w), faces = array(w), recorded = array(w);
+    uint64_t length[5], P = points.count / 3, F = faces.count / 3;
+    uint64_t stated[5] = {SHELL_POINTS_ROOM(P, F), SHELL_FACES_ROOM(F), SHELL_REPORT_ROOM, SHELL_ORIGINS_ROOM(F), SHELL_WORK_ROOM(P, F)};
+    const size_t size[5] = {8, 4, 4, 4, 4};
+    void *room[5];
+    const uint64_t longer[5] = {entry(recorded, 0), entry(recorded, 1), entry(recorded, 2) + 1, F + 2, entry(recorded, 3)};
+    uint64_t eleven[SHELL_REPORT_ROOM], *origins = malloc(8 * F + 8);
+    scan.points = floats(points);
+    scan.faces = numbers(faces);
+    scan.P = P;
+    scan.F = F;
+    lend((Row){5, 0, longer}, 5, size, length, room, zero);
+    want = in_five_rooms(want, &scan, faces, eleven, origins);
     int written = want.number != 0 || want.row[0].count / 3 > SHELL_MOST_POINTS || there_and_back(want.row[0], want.row[1], 0, 0);
-    double *coordinates = floats(points);
-    uint32_t *corners = numbers(faces);
-    ShellRepaired got = shell_repair(coordinates, points.count, corners, faces.count, s, options, room[0], length[0], room[1], length[1], room[2],
-                                     length[2], room[3], length[3]);
-    uint64_t entries[3] = {got.points, got.faces, got.counts};
-    free(coordinates);
-    free(corners);
-    return returned(want, 4, size, length, stated, entries, room, zero) && got.number == want.number && got.place == want.place && written;
+    ShellRepaired got = shell_repair(scan.points, points.count, scan.faces, faces.count, scan.s, scan.options, room[0], length[0], room[1], length[1],
+                                     room[2], length[2], room[3], length[3], room[4], length[4]);
+    uint64_t entries[4] = {got.points, got.faces, got.counts, got.origins};
+    int as_recorded = returned(want, 5, size, length, stated, entries, room, zero) && got.number == want.number && got.place == want.place;
+    free(scan.points);
+    free(scan.faces);
+    free(origins);
+    return as_recorded && written;
 }
 
 /* A use of an edge: its ends, the lower first, and its entry, 3i for step (1,2) of face i, 3i + 1 for (2,0), 3i + 2 for (0,1). */
@@ -612,8 +676,8 @@ int main(int count, char **names) {
     }
     free(cases.words);
     free(answers.words);
-    printf("replay: as recorded repair %lu, edges and loops %lu, check %lu (a recorded yes is a no here %lu times), patches %lu, line %lu; to a PLY file and back "
-           "%lu; different %lu\n",
-           same[1], same[2], same[3], other_checks, same[4], same[5], files, different);
+    printf("replay: as recorded repair %lu (origins %lu by place, %lu by the passes), edges and loops %lu, check %lu (a recorded yes is a no here %lu times), "
+           "patches %lu, line %lu; to a PLY file and back %lu; different %lu\n",
+           same[1], by_place, by_passes, same[2], same[3], other_checks, same[4], same[5], files, different);
     return different != 0 || !(same[1] && same[2] && same[3] && same[4] && same[5] && files);
 }

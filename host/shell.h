@@ -21,13 +21,15 @@ extern "C" {
 #endif
 
 /* The edition of this header: a higher number where a call, a room, a report or the meaning of an answer is another, or a call is new, so that a program can
- * tell whether it was written for it. In edition 6 the edge check says no to more meshes: to those too in which the faces at a point form several groups. All
- * else is as in edition 5, which has the three calls for PLY files and refusals 13 and 14 beside what edition 3 has; there is no edition 4. So an object file
- * that was compiled against edition 3 or 5 may be linked. In edition 3 shell_edges lists the edges and shell_loops the boundary loops, each in rooms of its
- * own; in edition 2 shell_edges has the rooms and the answers of both. A report has eleven counts in each; where no edition is defined it has ten, and a
- * program that was built for those and lends ten is refused, SHELL_SHORT_ROOM at place 2. An object file that was compiled against edition 2 or none must not
- * be linked: it hands over other rooms. */
-#define SHELL_VERSION 6
+ * tell whether it was written for it. In edition 7 shell_repair has a further room, for origins, between report and work, and tells how many stand there: a
+ * short work room is SHELL_SHORT_ROOM at place 4, and was at place 3. An object file that was compiled against an earlier edition must not be linked where it
+ * calls shell_repair: it hands over other rooms, and takes another answer. Every other call is as in edition 6. There the edge check says no to more meshes
+ * than in edition 5: to those too in which the faces at a point form several groups. Edition 5 has the three calls for PLY files and refusals 13 and 14 beside
+ * what edition 3 has; there is no edition 4. So an object file that was compiled against edition 3, 5 or 6 may be linked where it does not call shell_repair.
+ * In edition 3 shell_edges lists the edges and shell_loops the boundary loops, each in rooms of its own; in edition 2 shell_edges has the rooms and the answers
+ * of both. A report has eleven counts in each; where no edition is defined it has ten, and a program for those that lends ten is refused, SHELL_SHORT_ROOM at
+ * place 2. An object file that was compiled against edition 2 or none must not be linked. */
+#define SHELL_VERSION 7
 
 /* The numbers a call may give back, and what `place` then is. */
 enum {
@@ -63,6 +65,7 @@ enum {
 #define SHELL_POINTS_ROOM(P, F) (3 * ((size_t)(P) + 3 * (size_t)(F)))
 #define SHELL_FACES_ROOM(F) (3 * (size_t)(F))
 #define SHELL_REPORT_ROOM ((size_t)11)
+#define SHELL_ORIGINS_ROOM(F) ((size_t)(F))
 #define SHELL_EDGES_ROOM(F) (6 * (size_t)(F))
 #define SHELL_LENGTHS_ROOM(F) (3 * (size_t)(F))
 #define SHELL_FACE_EDGES_ROOM(F) (3 * (size_t)(F))
@@ -110,18 +113,29 @@ enum {
     SHELL_ISOLATED_VERTICES_REMOVED = 10
 };
 
-/* The repair, for a degeneracy threshold 0 <= s <= 1 and options: the mended points, the mended faces, and the eleven counts of the report. With all
- * options the edge check says yes to what comes out, and the edge call and the loop call accept it: no face repeats a corner, no directed edge is walked
- * twice, and the faces at each point are one fan. What comes out may have up to P + 3F points. A face before the first that leaves or changes is stored once
- * in its room (counted, host/stores.c). Rooms, in this order: SHELL_POINTS_ROOM(P, F), SHELL_FACES_ROOM(F), SHELL_REPORT_ROOM, SHELL_WORK_ROOM(P, F). */
+/* The repair, for a degeneracy threshold 0 <= s <= 1 and options: the mended points, the mended faces, the eleven counts of the report, and the origins. With
+ * all options the edge check says yes to what comes out, and the edge call and the loop call accept it: no face repeats a corner, no directed edge is walked
+ * twice, and the faces at each point are one fan. What comes out may have up to P + 3F points.
+ *
+ * Face k of the output is face origins[k] of the scan, both counted from 0, whatever the options are:
+ *
+ *     for (size_t k = 0; k < repaired.origins; k++)
+ *         touch[k] = touch_of_scan[origins[k]];
+ *
+ * There is one origin for each face of the output, so `origins` is `faces` / 3; only that number says where the list ends, since 0 is an origin too and the
+ * rest of the room is zero. Origins rise strictly, so that no face of the scan is named twice. The named face has its corners in the same places, bit by bit;
+ * at most its last two corners are exchanged, and an exchange keeps the origin. The numbers of the corners may be others, where points are copied or leave.
+ *
+ * A face before the first that leaves or changes is stored once in its room, and an origin before the first face that leaves likewise (counted,
+ * host/stores.c). Rooms, in this order: SHELL_POINTS_ROOM(P, F), SHELL_FACES_ROOM(F), SHELL_REPORT_ROOM, SHELL_ORIGINS_ROOM(F), SHELL_WORK_ROOM(P, F). */
 typedef struct {
     uint32_t number, place;
-    uint64_t points, faces, counts;
+    uint64_t points, faces, counts, origins;
 } ShellRepaired;
 
 ShellRepaired shell_repair(const double *points, size_t points_len, const uint32_t *faces, size_t faces_len, double s, uint32_t options,
                            double *out_points, size_t out_points_len, uint32_t *out_faces, size_t out_faces_len, uint32_t *report, size_t report_len,
-                           uint32_t *work, size_t work_len);
+                           uint32_t *origins, size_t origins_len, uint32_t *work, size_t work_len);
 
 /* The edge call. Edges: two ends each, the lower first, sorted; lengths: one for each edge; face edges: for each face the positions of its edges (1,2),
  * (2,0), (0,1) among them. The boundary does not matter: bowties too are accepted. Rooms, in this order: SHELL_EDGES_ROOM(F), SHELL_LENGTHS_ROOM(F),

@@ -1,10 +1,10 @@
-/* Mends a shell from the mould shop or the layout program: shellfix [-s THRESHOLD] [-o OUT.ply] IN
+/* Mends a shell from the mould shop or the layout program: shellfix [-s THRESHOLD] [-o OUT.ply] [-f FILE] IN
  * Or checks it as it is: shellfix -c IN
  *
  * Reads a binary STL file, or a PLY file of the form that shell.h tells, repairs it with all options, checks it, and prints what was mended and how many edges
  * and boundary loops it has then. Where degenerate faces were removed it says how many of them repeat a corner and how many are thin: a scanner is adjusted by
- * that. THRESHOLD is the sine, from 0 to 1, of the angle at a face's first corner up to which the face is thin. OUT.ply gets the mended shell as a PLY file. A
- * refusal is printed in words with its number and place; of a PLY file that is not of the form, with the first line of its header that differs; where only the
+ * that. THRESHOLD is the sine, from 0 to 1, of the angle at a face's first corner up to which the face is thin. OUT.ply gets the mended shell as a PLY file,
+ * and FILE a line for each of its faces, in their order: which face of IN it is, from 0, so that tables built on the scan can be carried over. A refusal is printed in words with its number and place; of a PLY file that is not of the form, with the first line of its header that differs; where only the
  * loops are refused, after the number of edges and with the place of the vertex at fault. For a large file each stage is told on standard error. Exit status:
  * 0; 1 for a refusal, or for a shell that the check does not pass, and then nothing is written; 2 if the words or the threshold are not understood, a file
  * cannot be read or written, or memory runs out.
@@ -233,15 +233,23 @@ static int read_mesh(const uint8_t *file, size_t length, Mesh *mesh) {
     return is_ply ? read_ply(file, length, mesh) : read_stl(file, length, mesh);
 }
 
-/* The repair of a mesh with all options, and its report. */
-static int mend(const Mesh *mesh, double s, Mesh *mended, uint32_t *report) {
+/* A mended mesh, what was done, and for each face which face of the scan it is. */
+typedef struct {
+    Mesh mesh;
+    uint32_t report[SHELL_REPORT_ROOM], *origins;
+} Mended;
+
+/* The repair of a mesh with all options. */
+static int mend(const Mesh *mesh, double s, Mended *mended) {
     size_t p = mesh->point_count, f = mesh->face_count;
     double *points = room(SHELL_POINTS_ROOM(p, f), sizeof *points);
     uint32_t *faces = room(SHELL_FACES_ROOM(f), sizeof *faces), *work = room(SHELL_WORK_ROOM(p, f), sizeof *work);
+    mended->origins = room(SHELL_ORIGINS_ROOM(f), sizeof *mended->origins);
     ShellRepaired repaired = shell_repair(mesh->points, 3 * p, mesh->faces, 3 * f, s, SHELL_ALL_OPTIONS, points, SHELL_POINTS_ROOM(p, f), faces,
-                                          SHELL_FACES_ROOM(f), report, SHELL_REPORT_ROOM, work, SHELL_WORK_ROOM(p, f));
+                                          SHELL_FACES_ROOM(f), mended->report, SHELL_REPORT_ROOM, mended->origins, SHELL_ORIGINS_ROOM(f), work,
+                                          SHELL_WORK_ROOM(p, f));
     free(work);
-    *mended = (Mesh){points, faces, repaired.points / 3, repaired.faces / 3, mesh->large};
+    mended->mesh = (Mesh){points, faces, repaired.points / 3, repaired.faces / 3, mesh->large};
     return accepted("repair", repaired.number, repaired.place);
 }
 
@@ -309,41 +317,57 @@ static int count_edges(const Mesh *mesh, uint32_t *work, size_t work_length) {
 }
 
 /* What is said of a mended mesh: the report, the check's answer, and the counts of edges and loops. */
-static int describe(const Mesh *mended, const uint32_t *report, const char *threshold) {
-    size_t work_length = SHELL_WORK_ROOM(mended->point_count, mended->face_count);
+static int describe(const Mended *mended, const char *threshold) {
+    const Mesh *mesh = &mended->mesh;
+    size_t work_length = SHELL_WORK_ROOM(mesh->point_count, mesh->face_count);
     uint32_t *work = room(work_length, sizeof *work);
-    printf("mended: %zu points, %zu faces\n", mended->point_count, mended->face_count);
-    int good = print_report(report, threshold);
-    good = good && check(mended, work, work_length) == SOUND;
-    stage(mended, "listing the edges and loops of");
-    good = good && count_edges(mended, work, work_length);
+    printf("mended: %zu points, %zu faces\n", mesh->point_count, mesh->face_count);
+    int good = print_report(mended->report, threshold);
+    good = good && check(mesh, work, work_length) == SOUND;
+    stage(mesh, "listing the edges and loops of");
+    good = good && count_edges(mesh, work, work_length);
     free(work);
     return good;
 }
 
-/* Says why a file cannot be written, and ends the program. What was written beside it is taken away. */
-static _Noreturn void cannot_write(const char *name, const char *part) {
+/* A file that is written: its name and its bytes; and while it is not finished, the name of the new file beside it, and the name that this one is to take. */
+typedef struct {
+    const char *name;
+    uint8_t *bytes;
+    size_t length;
+    char *part, *to;
+} Output;
+
+/* The mended shell, and its origins. */
+enum { SHELL, ORIGINS, OUTPUTS };
+static Output outputs[OUTPUTS];
+
+/* Says why a file cannot be written, and ends the program. New files that are not finished are taken away. */
+static _Noreturn void cannot_write(const char *name) {
     fprintf(stderr, "shellfix: cannot write %s: %s\n", name, strerror(errno));
-    if (part != NULL)
-        remove(part);
+    for (int k = 0; k < OUTPUTS; k++)
+        if (outputs[k].part != NULL)
+            remove(outputs[k].part);
     exit(TROUBLE);
 }
 
-/* Opens a new file beside the one of this name, and tells its name. NULL if that cannot be done. */
-static FILE *open_beside(const char *name, char **part) {
-    size_t length = strlen(name) + sizeof ".part99";
+/* Opens a new file beside the one whose name it is to take. NULL if that cannot be done. */
+static FILE *open_beside(Output *out) {
+    size_t length = strlen(out->to) + sizeof ".part99";
     FILE *file = NULL;
-    *part = room(length, 1);
+    char *part = room(length, 1);
     for (int k = 0; k < 100 && file == NULL && (k == 0 || errno == EEXIST); k++) {
-        snprintf(*part, length, k == 0 ? "%s.part" : "%s.part%d", name, k);
-        file = fopen(*part, "wbx");
+        snprintf(part, length, k == 0 ? "%s.part" : "%s.part%d", out->to, k);
+        file = fopen(part, "wbx");
     }
+    if (file != NULL)
+        out->part = part;
     return file;
 }
 
 /* Writes all bytes and closes the file; whether every one of them arrived, on the disk too where there is one. */
-static int put_bytes(FILE *file, const uint8_t *bytes, size_t length) {
-    int good = fwrite(bytes, 1, length, file) == length && fflush(file) == 0 && (fsync(fileno(file)) == 0 || errno == EINVAL || errno == EROFS);
+static int put_bytes(FILE *file, const Output *out) {
+    int good = fwrite(out->bytes, 1, out->length, file) == out->length && fflush(file) == 0 && (fsync(fileno(file)) == 0 || errno == EINVAL || errno == EROFS);
     int error = errno;
     if (fclose(file) != 0 && good)
         return 0;
@@ -351,47 +375,76 @@ static int put_bytes(FILE *file, const uint8_t *bytes, size_t length) {
     return good;
 }
 
-/* Writes bytes to a file, or ends the program. They go to a new file beside it, which takes its name when all of them are there, so that what it held is not
- * lost before. What is no file, like a pipe, is written to as it is. */
-static void write_file(const char *name, const uint8_t *bytes, size_t length) {
+/* Writes the bytes of a file, or ends the program. They go to a new file beside it, so that what it held is not lost before all of them are there. What is no
+ * file, like a pipe, is written to as it is. */
+static void put_beside(Output *out) {
     struct stat held;
-    char *end = realpath(name, NULL), *part;
+    char *end = realpath(out->name, NULL);
     int there = end != NULL && stat(end, &held) == 0;
-    if (end == NULL && errno != ENOENT)
-        cannot_write(name, NULL);
+    if (end == NULL && (errno != ENOENT || *out->name == 0))
+        cannot_write(out->name);
     if (there && !S_ISREG(held.st_mode)) {
         FILE *file = fopen(end, "wb");
-        if (file == NULL || !put_bytes(file, bytes, length))
-            cannot_write(name, NULL);
+        if (file == NULL || !put_bytes(file, out))
+            cannot_write(out->name);
         free(end);
         return;
     }
     if (there && access(end, W_OK) != 0)
-        cannot_write(name, NULL);
-    const char *to = there ? end : name;
-    FILE *file = open_beside(to, &part);
+        cannot_write(out->name);
+    out->to = there ? end : strdup(out->name);
+    FILE *file = out->to == NULL ? NULL : open_beside(out);
     if (file == NULL)
-        cannot_write(name, NULL);
+        cannot_write(out->name);
     if (there)
         fchmod(fileno(file), held.st_mode & 07777);
-    if (!put_bytes(file, bytes, length) || rename(part, to) != 0)
-        cannot_write(name, part);
-    free(part), free(end);
+    if (!put_bytes(file, out))
+        cannot_write(out->name);
 }
 
-/* The mesh as a PLY file of this name. */
-static int write_mesh(const Mesh *mesh, const char *name) {
+/* Lets the new file take its name. */
+static void take_name(Output *out) {
+    if (out->part != NULL && rename(out->part, out->to) != 0)
+        cannot_write(out->name);
+    free(out->part), free(out->to);
+    out->part = out->to = NULL;
+}
+
+/* The mesh as a PLY file. */
+static int put_mesh(const Mesh *mesh, Output *out) {
     size_t p = mesh->point_count, f = mesh->face_count;
-    uint8_t *file = room(SHELL_PLY_FILE_ROOM(p, f), 1);
     uint32_t *work = room(SHELL_WORK_ROOM(p, f), sizeof *work);
-    ShellPlyFile written = shell_write_ply(mesh->points, 3 * p, mesh->faces, 3 * f, file, SHELL_PLY_FILE_ROOM(p, f), work, SHELL_WORK_ROOM(p, f));
+    out->bytes = room(SHELL_PLY_FILE_ROOM(p, f), 1);
+    ShellPlyFile written = shell_write_ply(mesh->points, 3 * p, mesh->faces, 3 * f, out->bytes, SHELL_PLY_FILE_ROOM(p, f), work, SHELL_WORK_ROOM(p, f));
     free(work);
-    int good = accepted("write", written.number, written.place);
-    if (good) {
-        write_file(name, file, written.bytes);
-        printf("written: %llu bytes to %s\n", (unsigned long long)written.bytes, name);
-    }
-    free(file);
+    out->length = written.bytes;
+    return accepted("write", written.number, written.place);
+}
+
+/* The origins as text, a line for each face. */
+static void put_origins(const Mended *mended, Output *out) {
+    const size_t longest = sizeof "4294967295\n";
+    out->bytes = room(longest * mended->mesh.face_count, 1);
+    for (size_t k = 0; k < mended->mesh.face_count; k++)
+        out->length += (size_t)snprintf((char *)out->bytes + out->length, longest, "%u\n", mended->origins[k]);
+}
+
+/* Writes the files that have a name: none of them takes it before all are on the disk, so that the origins that stand there fit the shell that stands there. */
+static int write_outputs(const Mended *mended) {
+    Output *shell = outputs + SHELL, *origins = outputs + ORIGINS;
+    int good = shell->name == NULL || put_mesh(&mended->mesh, shell);
+    if (good && origins->name != NULL)
+        put_origins(mended, origins);
+    for (int k = 0; k < OUTPUTS && good; k++)
+        if (outputs[k].name != NULL)
+            put_beside(outputs + k);
+    for (int k = 0; k < OUTPUTS && good; k++)
+        take_name(outputs + k);
+    if (good && shell->name != NULL)
+        printf("written: %zu bytes to %s\n", shell->length, shell->name);
+    if (good && origins->name != NULL)
+        printf("written: the origins of %zu faces to %s\n", mended->mesh.face_count, origins->name);
+    free(shell->bytes), free(origins->bytes);
     return good;
 }
 
@@ -443,25 +496,24 @@ static int judge(const Mesh *mesh) {
     return status;
 }
 
-/* What the words ask for: a file to read and, if any, one to write, a threshold as it is written and as a number, whether the shell is only checked, and
- * whether only help is wanted. */
+/* What the words ask for: a file to read, a threshold as it is written and as a number, whether the shell is only checked, and whether only help is wanted. The
+ * files to write are in `outputs`. */
 typedef struct {
-    const char *name, *output, *threshold;
+    const char *name, *threshold;
     double s;
     int check, help;
 } Asked;
 
-/* Mends a mesh, describes what came out, and writes it if that is asked for; the exit status. */
+/* Mends a mesh, describes what came out, and writes what is asked for; the exit status. */
 static int mend_mesh(const Mesh *mesh, const Asked *asked) {
-    Mesh mended;
-    uint32_t report[SHELL_REPORT_ROOM] = {0};
+    Mended mended = {.report = {0}};
     stage(mesh, "repairing");
-    int good = mend(mesh, asked->s, &mended, report) && describe(&mended, report, asked->threshold);
-    if (good && asked->output != NULL) {
-        stage(&mended, "writing");
-        good = write_mesh(&mended, asked->output);
+    int good = mend(mesh, asked->s, &mended) && describe(&mended, asked->threshold);
+    if (good && (outputs[SHELL].name != NULL || outputs[ORIGINS].name != NULL)) {
+        stage(&mended.mesh, "writing");
+        good = write_outputs(&mended);
     }
-    free(mended.points), free(mended.faces);
+    free(mended.mesh.points), free(mended.mesh.faces), free(mended.origins);
     return good ? SOUND : REFUSED;
 }
 
@@ -494,9 +546,10 @@ static int read_threshold(const char *word, Asked *asked) {
 }
 
 /* The options, by a letter or by a name. */
-static const char letters[] = ":s:o:ch";
+static const char letters[] = ":s:o:f:ch";
 static const struct option options[] = {{"threshold", required_argument, NULL, 's'},
                                         {"output", required_argument, NULL, 'o'},
+                                        {"origins", required_argument, NULL, 'f'},
                                         {"check", no_argument, NULL, 'c'},
                                         {"help", no_argument, NULL, 'h'},
                                         {NULL, 0, NULL, 0}};
@@ -514,18 +567,25 @@ static int bad_option(int found, char **given) {
     return 0;
 }
 
+/* Takes the name of a file to write, if there is none yet. */
+static int name_output(Output *out, const char *what) {
+    if (out->name != NULL) {
+        fprintf(stderr, "shellfix: %s is written, and not %s too\n", what, optarg);
+        return 0;
+    }
+    out->name = optarg;
+    return 1;
+}
+
 /* Takes one option into what is asked for; if it cannot, says why. */
 static int take_option(int found, char **given, Asked *asked) {
     switch (found) {
     case 's':
         return read_threshold(optarg, asked);
     case 'o':
-        if (asked->output != NULL) {
-            fprintf(stderr, "shellfix: one file is written, and not %s too\n", optarg);
-            return 0;
-        }
-        asked->output = optarg;
-        return 1;
+        return name_output(outputs + SHELL, "one file");
+    case 'f':
+        return name_output(outputs + ORIGINS, "one list of origins");
     case 'c':
         asked->check = 1;
         return 1;
@@ -543,8 +603,13 @@ static int read_words(int count, char **given, Asked *asked) {
     while ((found = getopt_long(count, given, letters, options, NULL)) != -1)
         if (!take_option(found, given, asked))
             return 0;
-    if (asked->check && !asked->help && (asked->threshold != NULL || asked->output != NULL)) {
-        fprintf(stderr, "shellfix: with -c nothing is mended, so -%c has nothing to do\n", asked->threshold != NULL ? 's' : 'o');
+    const char *shell = outputs[SHELL].name, *origins = outputs[ORIGINS].name;
+    if (asked->check && !asked->help && (asked->threshold != NULL || shell != NULL || origins != NULL)) {
+        fprintf(stderr, "shellfix: with -c nothing is mended, so -%c has nothing to do\n", asked->threshold != NULL ? 's' : shell != NULL ? 'o' : 'f');
+        return 0;
+    }
+    if (shell != NULL && origins != NULL && strcmp(shell, origins) == 0) {
+        fprintf(stderr, "shellfix: %s cannot be both the mended shell and its origins\n", shell);
         return 0;
     }
     if (optind + 1 < count)
@@ -555,11 +620,12 @@ static int read_words(int count, char **given, Asked *asked) {
 
 /* How it is called, and what --help says besides. */
 static const char usage[] =
-    "usage: shellfix [-s THRESHOLD] [-o OUT.ply] IN\n"
+    "usage: shellfix [-s THRESHOLD] [-o OUT.ply] [-f FILE] IN\n"
     "       shellfix -c IN\n"
     "  IN: a binary STL file, or a PLY file of the form that -o writes\n"
     "  -s, --threshold THRESHOLD: from 0 to 1; a face is thin up to this sine of the angle at its first corner; " THRESHOLD " where none is given\n"
     "  -o, --output OUT.ply: the mended shell is written to this file, as binary PLY\n"
+    "  -f, --origins FILE: a line for each face of the mended shell, in its order, is written to this file: which face of IN it is, from 0\n"
     "  -c, --check: the shell is checked as it is, and not mended\n"
     "  -h, --help: this text\n";
 static const char more[] =
@@ -578,7 +644,7 @@ static int ended(int status) {
 }
 
 int main(int count, char **given) {
-    Asked asked = {NULL, NULL, NULL, 0, 0, 0};
+    Asked asked = {NULL, NULL, 0, 0, 0};
     if (!read_words(count, given, &asked) || (asked.threshold == NULL && !read_threshold(THRESHOLD, &asked))) {
         fputs(usage, stderr);
         return TROUBLE;

@@ -26,7 +26,7 @@ static uint32_t below(uint32_t n) {
 }
 
 static struct {
-    uint32_t *faces, *labels, *work, *row[3], report[SHELL_REPORT_ROOM], options, number;
+    uint32_t *faces, *labels, *work, *row[3], *origins, report[SHELL_REPORT_ROOM], options, number;
     double *points, *mended, *lengths;
     size_t P, F, file_bytes;
     uint8_t line[SHELL_LINE_ROOM], *file;
@@ -133,7 +133,7 @@ static void run(void) {
     size_t P = job.P, F = job.F, work = SHELL_WORK_ROOM(P, F), C = PATCH_COUNT;
     if (job.call == REPAIR)
         job.number = shell_repair(job.points, 3 * P, job.faces, 3 * F, 1e-12, job.options, job.mended, SHELL_POINTS_ROOM(P, F), job.row[0], SHELL_FACES_ROOM(F),
-                                  job.report, SHELL_REPORT_ROOM, job.work, work)
+                                  job.report, SHELL_REPORT_ROOM, job.origins, SHELL_ORIGINS_ROOM(F), job.work, work)
                          .number;
     if (job.call == EDGES)
         job.number = shell_edges(job.points, 3 * P, job.faces, 3 * F, job.row[1], SHELL_EDGES_ROOM(F), job.lengths, SHELL_LENGTHS_ROOM(F), job.row[2],
@@ -259,6 +259,7 @@ static void of_size(size_t F, size_t first) {
     accepted = refused = 0;
     job.faces = room(3 * F, 4);
     job.labels = room(F, 4);
+    job.origins = room(SHELL_ORIGINS_ROOM(F), 4);
     job.lengths = room(SHELL_LENGTHS_ROOM(F) + SHELL_NUMBERS_ROOM(PATCH_COUNT), 8);
     for (int k = 0; k < 3; k++)
         job.row[k] = room(SHELL_EDGES_ROOM(F) + PATCH_COUNT, 4);
@@ -272,6 +273,7 @@ static void of_size(size_t F, size_t first) {
     printf(" in %lu accepted and %lu refused calls\n", accepted, refused);
     free(job.faces);
     free(job.labels);
+    free(job.origins);
     free(job.lengths);
     for (int k = 0; k < 3; k++)
         free(job.row[k]);

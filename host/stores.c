@@ -1,11 +1,11 @@
-/* How often a repair stores each entry of its points room and its faces room: `stores [SIDE]`, to be run under valgrind's lackey, which lists every store;
- * tests/stores.py counts them.
+/* How often a repair stores each entry of its points room, its faces room and its origins room: `stores [SIDE]`, to be run under valgrind's lackey, which lists
+ * every store; tests/stores.py counts them.
  *
  * Each mesh is a grid of SIDE times SIDE squares with faults that are known: which face leaves in which pass, which corners change their number, which points
  * leave. It is mended by the library, and where all options are on by two stand-ins too that go by the known faults, in the same rooms. The sparing one stores
- * a face again only from the first that leaves in a pass on, and a corner in passes 5 and 6 only where its number changes; that is the most that the library
- * may store. The plain one stores every kept face again in each pass that is on, and every corner in passes 5 and 6: the counter must see that. All three
- * must give the same mesh. Printed are, addresses in hexadecimal:
+ * a face and its origin again only from the first that leaves in a pass on, and a corner in passes 5 and 6 only where its number changes; that is the most that
+ * the library may store. The plain one stores every kept face and its origin again in each pass that is on, and every corner in passes 5 and 6: the counter must
+ * see that. All three must give the same mesh and the same origins. Printed are, addresses in hexadecimal:
  *
  *     marks BEGAN ENDED                               a call stands between a store to the one and a store to the other, each of one byte
  *     call BY OPTIONS MESH                            one call, by `library`, `sparing` or `plain`, in the order of the marks
@@ -22,8 +22,8 @@
 enum { SIDE = 8, LEAST_SIDE = 6, MOST_SIDE = 64, MOST_POINTS = (MOST_SIDE + 1) * (MOST_SIDE + 1) + 16, MOST_FACES = 2 * MOST_SIDE * MOST_SIDE + 32 };
 
 /* A mesh and its faults: for each face the pass that drops it, or 0; whether pass 4 turns it over; whether pass 5 gives it the copy of the point `split`, if
- * one is; and for each point whether no face uses it once the faces have left. The first face that leaves or changes, and the first point that leaves; NONE if
- * there is none. */
+ * one is; and for each point whether no face uses it once the faces have left. The first face that leaves or changes, the first that leaves, and the first point
+ * that leaves; NONE if there is none. */
 typedef struct {
     uint32_t options;
     size_t P, F;
@@ -31,7 +31,7 @@ typedef struct {
     uint32_t faces[3 * MOST_FACES];
     uint8_t leaves[MOST_FACES], turns[MOST_FACES], takes[MOST_FACES], alone[MOST_POINTS];
     uint32_t split;
-    size_t first_face, first_point;
+    size_t first_face, first_gone, first_point;
 } Mesh;
 
 enum { NONE = MOST_POINTS + MOST_FACES };
@@ -91,8 +91,12 @@ static void put_face(Mesh *m, size_t k, uint32_t a, uint32_t b, uint32_t c, uint
     m->turns[k] = m->takes[k] = 0;
     if (k <= m->first_face && m->first_face != NONE)
         m->first_face++;
-    if (pass != 0)
+    if (k <= m->first_gone && m->first_gone != NONE)
+        m->first_gone++;
+    if (pass != 0) {
         m->first_face = lower(k, m->first_face);
+        m->first_gone = lower(k, m->first_gone);
+    }
 }
 
 /* Adds a point behind the others. */
@@ -305,18 +309,24 @@ static const struct {
     {"faults for every pass, falling", 63, every_falling},
 };
 
-/* A point list and a face list at the front of their rooms, and how often each entry was stored there. */
+/* A point list, a face list and the origins of its faces at the front of their rooms, and how often each entry was stored there. */
 typedef struct {
     double *points;
-    uint32_t *faces;
+    uint32_t *faces, *origins;
     size_t P, F;
-    uint8_t point_stores[3 * (MOST_POINTS + 1)], face_stores[3 * MOST_FACES];
+    uint8_t point_stores[3 * (MOST_POINTS + 1)], face_stores[3 * MOST_FACES], origin_stores[MOST_FACES];
 } Lists;
 
 /* Stores an entry of the face list, by one store. */
 static void store_corner(Lists *l, size_t i, uint32_t v) {
     *(volatile uint32_t *)(l->faces + i) = v;
     l->face_stores[i]++;
+}
+
+/* Stores an origin, by one store. */
+static void store_origin(Lists *l, size_t i, uint32_t face) {
+    *(volatile uint32_t *)(l->origins + i) = face;
+    l->origin_stores[i]++;
 }
 
 /* Stores an entry of the point list, by one store. */
@@ -331,25 +341,25 @@ static void change_corner(Lists *l, size_t i, uint32_t v, int plain) {
         store_corner(l, i, v);
 }
 
-/* Drops the faces that leave in a pass. `which` says which face of the mesh stands in each place. */
-static void drop_faces(const Mesh *m, int pass, int plain, Lists *l, uint32_t *which) {
+/* Drops the faces that leave in a pass, with their origins. */
+static void drop_faces(const Mesh *m, int pass, int plain, Lists *l) {
     size_t i = 0;
-    while (!plain && i < l->F && m->leaves[which[i]] != pass)
+    while (!plain && i < l->F && m->leaves[l->origins[i]] != pass)
         i++;
     size_t kept = i;
     for (; i < l->F; i++)
-        if (m->leaves[which[i]] != pass) {
+        if (m->leaves[l->origins[i]] != pass) {
             for (size_t j = 0; j < 3; j++)
                 store_corner(l, 3 * kept + j, l->faces[3 * i + j]);
-            which[kept++] = which[i];
+            store_origin(l, kept++, l->origins[i]);
         }
     l->F = kept;
 }
 
 /* Exchanges corners 1 and 2 of each face that is turned over. */
-static void turn_faces(const Mesh *m, Lists *l, const uint32_t *which) {
+static void turn_faces(const Mesh *m, Lists *l) {
     for (size_t i = 0; i < l->F; i++)
-        if (m->turns[which[i]]) {
+        if (m->turns[l->origins[i]]) {
             uint32_t b = l->faces[3 * i + 1];
             store_corner(l, 3 * i + 1, l->faces[3 * i + 2]);
             store_corner(l, 3 * i + 2, b);
@@ -357,10 +367,10 @@ static void turn_faces(const Mesh *m, Lists *l, const uint32_t *which) {
 }
 
 /* Copies the point that is split, if a face takes the copy, and gives it to those that do. */
-static void split_point(const Mesh *m, int plain, Lists *l, const uint32_t *which) {
+static void split_point(const Mesh *m, int plain, Lists *l) {
     size_t takers = 0;
     for (size_t i = 0; i < 3 * l->F; i++) {
-        int takes = m->takes[which[i / 3]] && l->faces[i] == m->split;
+        int takes = m->takes[l->origins[i / 3]] && l->faces[i] == m->split;
         change_corner(l, i, takes ? (uint32_t)l->P : l->faces[i], plain);
         takers += takes != 0;
     }
@@ -390,9 +400,9 @@ static void drop_points(const Mesh *m, int plain, Lists *l) {
 /* Mends a mesh by its known faults, in the plain way or the sparing one. */
 static void mend(const Mesh *m, int plain, Lists *l) {
     static const uint32_t options[] = {0, SHELL_DROP_DEGENERATE, SHELL_DROP_DUPLICATE_FACES, SHELL_RESOLVE_NONMANIFOLD_EDGES, SHELL_ORIENT_CONSISTENTLY};
-    static uint32_t which[MOST_FACES];
     memset(l->point_stores, 0, 3 * (m->P + 1));
     memset(l->face_stores, 0, 3 * m->F);
+    memset(l->origin_stores, 0, m->F);
     l->P = m->P;
     l->F = m->F;
     for (size_t i = 0; i < 3 * m->P; i++)
@@ -400,23 +410,25 @@ static void mend(const Mesh *m, int plain, Lists *l) {
     for (size_t i = 0; i < 3 * m->F; i++)
         store_corner(l, i, m->faces[i]);
     for (uint32_t i = 0; i < m->F; i++)
-        which[i] = i;
+        store_origin(l, i, i);
     for (int pass = 1; pass <= 4; pass++)
         if (m->options & options[pass]) {
             if (pass == 4)
-                turn_faces(m, l, which);
-            drop_faces(m, pass, plain, l, which);
+                turn_faces(m, l);
+            drop_faces(m, pass, plain, l);
         }
     if (m->options & SHELL_SPLIT_BOWTIE_VERTICES)
-        split_point(m, plain, l, which);
+        split_point(m, plain, l);
     if (m->options & SHELL_DROP_ISOLATED_VERTICES)
         drop_points(m, plain, l);
 }
 
 static double points_room[SHELL_POINTS_ROOM(MOST_POINTS, MOST_FACES)], known_points[3 * (MOST_POINTS + 1)];
 static uint32_t faces_room[SHELL_FACES_ROOM(MOST_FACES)], known_faces[SHELL_FACES_ROOM(MOST_FACES)];
+static uint32_t origins_room[SHELL_ORIGINS_ROOM(MOST_FACES)], known_origins[SHELL_ORIGINS_ROOM(MOST_FACES)];
 static uint32_t report[SHELL_REPORT_ROOM], work[SHELL_WORK_ROOM(MOST_POINTS, MOST_FACES)];
-static Lists known = {.points = known_points, .faces = known_faces}, seen = {.points = points_room, .faces = faces_room};
+static Lists known = {.points = known_points, .faces = known_faces, .origins = known_origins};
+static Lists seen = {.points = points_room, .faces = faces_room, .origins = origins_room};
 static volatile uint8_t began, ended;
 
 /* Prints the numbers of a row, a digit for each. */
@@ -440,19 +452,19 @@ static void print_room(const char *name, const void *room, size_t bytes, size_t 
 
 enum { LIBRARY, SPARING, PLAIN };
 
-/* One call between the marks, in dirty rooms. Whether it gives the mesh that is known. */
-static int call(const Mesh *m, int by, const char *what) {
-    static const char *const names[] = {"library", "sparing", "plain"};
-    size_t points = SHELL_POINTS_ROOM(m->P, m->F), faces = SHELL_FACES_ROOM(m->F);
+/* Mends a mesh between the marks, in dirty rooms. Whether it is accepted. */
+static int between_marks(const Mesh *m, int by) {
+    size_t points = SHELL_POINTS_ROOM(m->P, m->F), faces = SHELL_FACES_ROOM(m->F), origins = SHELL_ORIGINS_ROOM(m->F);
     ShellRepaired r = {0};
     memset(points_room, 0x5a, points * sizeof *points_room);
     memset(faces_room, 0x5a, faces * sizeof *faces_room);
+    memset(origins_room, 0x5a, origins * sizeof *origins_room);
     atomic_signal_fence(memory_order_seq_cst);
     began = 1;
     atomic_signal_fence(memory_order_seq_cst);
     if (by == LIBRARY)
-        r = shell_repair(m->points, 3 * m->P, m->faces, 3 * m->F, 1e-12, m->options, points_room, points, faces_room, faces, report, SHELL_REPORT_ROOM, work,
-                         SHELL_WORK_ROOM(m->P, m->F));
+        r = shell_repair(m->points, 3 * m->P, m->faces, 3 * m->F, 1e-12, m->options, points_room, points, faces_room, faces, report, SHELL_REPORT_ROOM,
+                         origins_room, origins, work, SHELL_WORK_ROOM(m->P, m->F));
     else
         mend(m, by == PLAIN, &seen);
     atomic_signal_fence(memory_order_seq_cst);
@@ -462,12 +474,22 @@ static int call(const Mesh *m, int by, const char *what) {
         seen.P = (size_t)r.points / 3;
         seen.F = (size_t)r.faces / 3;
     }
+    return r.number == SHELL_ACCEPTED && (by != LIBRARY || r.origins == seen.F);
+}
+
+/* One call, and what is known of its rooms. Whether it gives the mesh that is known. */
+static int call(const Mesh *m, int by, const char *what) {
+    static const char *const names[] = {"library", "sparing", "plain"};
+    int good = between_marks(m, by), made = by != LIBRARY;
     printf("call %s %" PRIu32 " %s, %zu faces\n", names[by], m->options, what, m->F);
-    print_room("faces", faces_room, sizeof *faces_room, 3 * m->first_face, 3 * known.F, faces, known.face_stores, by == LIBRARY ? NULL : seen.face_stores);
-    print_room("points", points_room, sizeof *points_room, 3 * m->first_point, 3 * known.P, points, known.point_stores,
-               by == LIBRARY ? NULL : seen.point_stores);
-    return r.number == SHELL_ACCEPTED && seen.P == known.P && seen.F == known.F && memcmp(points_room, known_points, 24 * known.P) == 0 &&
-           memcmp(faces_room, known_faces, 12 * known.F) == 0;
+    print_room("faces", faces_room, sizeof *faces_room, 3 * m->first_face, 3 * known.F, SHELL_FACES_ROOM(m->F), known.face_stores,
+               made ? seen.face_stores : NULL);
+    print_room("origins", origins_room, sizeof *origins_room, m->first_gone, known.F, SHELL_ORIGINS_ROOM(m->F), known.origin_stores,
+               made ? seen.origin_stores : NULL);
+    print_room("points", points_room, sizeof *points_room, 3 * m->first_point, 3 * known.P, SHELL_POINTS_ROOM(m->P, m->F), known.point_stores,
+               made ? seen.point_stores : NULL);
+    return good && seen.P == known.P && seen.F == known.F && memcmp(points_room, known_points, 24 * known.P) == 0 &&
+           memcmp(faces_room, known_faces, 12 * known.F) == 0 && memcmp(origins_room, known_origins, 4 * known.F) == 0;
 }
 
 /* How many faces leave in a pass. */
@@ -501,7 +523,7 @@ int main(int count, char **words) {
     for (size_t i = 0; i < sizeof cases / sizeof *cases; i++) {
         Mesh *m = meshes + i;
         m->options = cases[i].options;
-        m->first_face = m->first_point = NONE;
+        m->first_face = m->first_gone = m->first_point = NONE;
         cases[i].make(m);
         mend(m, 0, &known);
         int as_known = call(m, LIBRARY, cases[i].what) && reported(m);

@@ -27,6 +27,13 @@ for call in repair edges loops check patches line write_ply read_ply ply_counts;
     ! grep -qx "$call" <<<"$names" || calls+=(--cfg "has_$call")
 done
 
+# The passes in plain C, for the origins that the Rust does not tell.
+for file in passes uses; do
+    gcc -std=c11 -O2 -ffp-contract=off "-I$folder" -Ifuzz -c -o "$folder/$file.o" fuzz/$file.c
+done
+rm -f "$folder/libpasses.a"
+ar rc "$folder/libpasses.a" "$folder/passes.o" "$folder/uses.o"
+
 rust=(rustc --edition 2024 -O -D warnings)
 "${rust[@]}" --crate-type rlib --crate-name engeom --out-dir "$folder" "$folder/engeom/lib.rs"
-"${rust[@]}" "${calls[@]}" --extern "engeom=$folder/libengeom.rlib" -L "$folder" -l static=shell -o "$folder/oracle" oracle/src/main.rs
+"${rust[@]}" "${calls[@]}" --extern "engeom=$folder/libengeom.rlib" -L "$folder" -l static=shell -l static=passes -l m -o "$folder/oracle" oracle/src/main.rs

@@ -2,8 +2,9 @@
 # The library in a C program: the example prints what it must, the header is good for C++, recorded answers come out through the calls with every
 # room as it must be, degenerate faces are counted by kind and their sums printed up to the limits, the edges of bowties are listed though their loops are
 # refused, in work rooms of every kind, the edge check answers by its rule on every small mesh and what is found wrong is what the rule says, damaged meshes are
-# after a repair what is proved of them and go to a PLY file and back, what fuzzing found worth keeping comes out as the documents say, and a call takes no memory
-# but its rooms and no more stack than is promised; a sample under valgrind too, so that nothing outside a room is touched.
+# after a repair what is proved of them, with their faces traced by the origins, and go to a PLY file and back, what fuzzing found worth keeping comes out as the
+# documents say, and a call takes no memory but its rooms and no more stack than is promised; a sample under valgrind too, so that nothing outside a room is
+# touched.
 set -u
 here=$(cd "$(dirname "${BASH_SOURCE[0]}")/.." && pwd)
 room=$(mktemp -d) || exit 1
@@ -11,9 +12,10 @@ trap 'rm -rf "$room"' EXIT
 bash "$here/host/build.sh" "$room" || exit 1
 cd "$room" || exit 1
 flags=(-std=c11 -Wall -Wextra -Wpedantic -Werror -O2 -g -ffp-contract=off -I.)
-for program in example kinds bowties replay chain stack; do
+for program in example kinds bowties chain stack; do
     gcc "${flags[@]}" -o "$program" "$here/host/$program.c" libshell.a -lm || exit 1
 done
+gcc "${flags[@]}" "-I$here/fuzz" -o replay "$here/host/replay.c" "$here"/fuzz/{passes,uses}.c libshell.a -lm || exit 1
 gcc "${flags[@]}" -o checks "$here"/host/{checks,faults}.c libshell.a || exit 1
 g++ -std=c++17 -Wall -Werror -fsyntax-only -x c++ shell.h || exit 1
 # A call takes no memory but its rooms and the stack, and keeps nothing: the library names no function of the system but these, and has no data of its own.
@@ -41,7 +43,27 @@ uint64_t loops(double *points, uint32_t *faces, double *lengths, uint32_t *room)
 END
 ! gcc "${flags[@]}" -fsyntax-only both.c 2>told && grep -q 'too many arguments' told || exit 1
 ! gcc "${flags[@]}" -DASKS -fsyntax-only both.c 2>told && grep -q 'written for edition 2' told || exit 1
-# A program that was built for ten counts is told so by its compiler, if it asks, and by the library.
+# A program that hands the repair four rooms, as edition 6 and those before it have it, does not compile, whether it lends ten counts or eleven; and one that
+# asks for its edition is told so.
+cat >four.c <<'END'
+#include "shell.h"
+#ifdef ASKS
+#if SHELL_VERSION != 6
+#error "written for edition 6 of shell.h"
+#endif
+#endif
+uint64_t mended(double *points, uint32_t *faces, double *out, uint32_t *room);
+uint64_t mended(double *points, uint32_t *faces, double *out, uint32_t *room) {
+    return shell_repair(points, 9, faces, 3, 0, 63, out, 18, room, 3, room + 3, COUNTS, room + 3 + COUNTS, 176).faces;
+}
+END
+for counts in 10 11; do
+    ! gcc "${flags[@]}" -DCOUNTS=$counts -fsyntax-only four.c 2>told && grep -q 'too few arguments' told || exit 1
+    ! gcc "${flags[@]}" -DCOUNTS=$counts -DASKS -fsyntax-only four.c 2>told && grep -q 'written for edition 6' told || exit 1
+    sed 's/room + 3 + COUNTS, 176/room, 1, &/' four.c >five.c
+    gcc "${flags[@]}" -DCOUNTS=$counts -fsyntax-only five.c || exit 1
+done
+# A program that lends ten counts, though it has all five rooms, is told so by its compiler, if it asks for its edition, and by the library.
 sed '/^#define SHELL_VERSION /d; s/^#define SHELL_REPORT_ROOM .*/#define SHELL_REPORT_ROOM ((size_t)10)/' shell.h >old.h
 sed 's/"shell.h"/"old.h"/' "$here/host/example.c" >old.c
 ! gcc "${flags[@]}" -fsyntax-only old.c 2>told && grep -q 'written for edition' told || exit 1

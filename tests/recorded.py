@@ -1,13 +1,17 @@
 #!/usr/bin/env python3
 """Runs the rules on recorded answers of the Rust: writes a crate `recorded` of computed claims, one for each case.
 
-    recorded.py CASES FOLDER EVERY
+    recorded.py CASES FOLDER EVERY PASSES
 
 CASES has the recorded cases (texts NAME.txt with NAME.out, there or in text/, and lib.cases.bin with lib.answers.bin), FOLDER is where the crate is written,
-and every EVERY-th case that is small enough for antt is taken.
+every EVERY-th case that is small enough for antt is taken, and PASSES is fuzz/passes.c as a library.
 
 The recorded reports are document 01's and have one count of degenerate faces, where the rules have two. Of these the first must be the number of input faces
 that repeat a corner, as it is counted here, and their sum the recorded count; the report room is lent one entry longer. A line gets the count in two parts.
+
+No origins were recorded. A room for them is lent with one entry more than is stated, and they must be the one list that rises strictly and names for each
+recorded face an input face in the same place; where several lists do, the one of the passes in plain C. A recorded refusal of the work room, 6 at place 3, is
+one at place 4.
 
 A recorded answer of call 2 has edges and loops together, in six rooms, and is asked of both calls in one claim: rooms 0, 1, 2, 5 of the edge call, 3, 4, 5 of
 the loop call. 6 is that of the call that has the room, 8 that of the loop call; what the other call must then give, the record does not say, and it is found
@@ -16,6 +20,7 @@ here by document 01's rule.
 A recorded answer of call 3 may be document 01's, whose check does not ask for groups: a recorded yes is a yes only where the faces at each used point form one
 group, as it is found here."""
 import collections
+import ctypes
 import glob
 import math
 import os
@@ -58,7 +63,7 @@ told (refused number place) = number ∷ place ∷ []
 repairing : List Float → List ℕ → Float → ℕ → RepairRooms → List (List ℕ)
 repairing points faces s options r =
     let o = repair points faces s options r in
-    told (o .answer) ∷ bits (o .rooms .out-points) ∷ o .rooms .out-faces ∷ o .rooms .report ∷ o .rooms .work ∷ []
+    told (o .answer) ∷ bits (o .rooms .out-points) ∷ o .rooms .out-faces ∷ o .rooms .report ∷ o .rooms .origins ∷ o .rooms .work ∷ []
 
 listing : List Float → List ℕ → EdgesRooms → LoopsRooms → List (List ℕ)
 listing points faces r s =
@@ -104,6 +109,31 @@ def eleven(ten, options, faces):
     """The eleven counts for ten recorded ones: of the degenerate faces, those that repeat a corner and the others."""
     repeated = sum(len(set(faces[i : i + 3])) < 3 for i in range(0, len(faces), 3)) if options % 2 == 1 else 0
     return [repeated, ten[0] - repeated] + ten[1:]
+
+
+def fitting(was, now):
+    """For each of the faces in `now` the first place in `was` behind that of the face before it where the same corners stand, the last two exchanged or not."""
+    origins = []
+    for i, (a, b, c) in enumerate(was):
+        if len(origins) < len(now) and now[len(origins)] in ((a, b, c), (a, c, b)):
+            origins.append(i)
+    return origins
+
+
+def traced(passes, s, options, points, faces, mended, triples):
+    """The origins of recorded faces: from the front and from behind the same list, or else that of the passes in plain C."""
+    place = lambda row, v: tuple(row[3 * v : 3 * v + 3])
+    corners = lambda row, list_: [tuple(place(row, v) for v in list_[i : i + 3]) for i in range(0, len(list_), 3)]
+    was, now = corners(points, faces), corners(mended, triples)
+    first = fitting(was, now)
+    if first == [len(was) - 1 - i for i in fitting(was[::-1], now[::-1])][::-1]:
+        return first
+    given = (ctypes.c_uint64 * max(1, len(points)))(*points), (ctypes.c_uint32 * max(1, len(faces)))(*faces)
+    origins, threshold = (ctypes.c_uint32 * max(1, len(was)))(), struct.unpack("<d", struct.pack("<Q", s))[0]
+    passes.document_origins.restype = ctypes.c_size_t
+    size = ctypes.c_size_t
+    count = passes.document_origins(given[0], size(len(points) // 3), given[1], size(len(was)), ctypes.c_double(threshold), ctypes.c_uint32(options), origins)
+    return list(origins[:count])
 
 
 def in_parts(counts, turn):
@@ -295,7 +325,7 @@ def one_group_each(faces):
     return True
 
 
-def claim(call, case, answer, turn):
+def claim(call, case, answer, turn, passes):
     """One of the library's cases: the call's outcome by the rules, and what was recorded, with every room. The turn says how a line's count is parted."""
     w, a = Words(case), Words(answer)
     number, place = a.one(), a.one()
@@ -304,13 +334,16 @@ def claim(call, case, answer, turn):
     if call == 1:
         options, s, points, faces, lengths = w.one(), w.one(), w.array(), w.array(), w.array()
         P, F = len(points) // 3, len(faces) // 3
-        kinds = [DIRTY64, DIRTY32, DIRTY32, DIRTY32]
-        stated = [3 * (P + 3 * F), 3 * F, 11, 16 * P + 64 * F + 64]
+        kinds = [DIRTY64, DIRTY32, DIRTY32, DIRTY32, DIRTY32]
+        stated = [3 * (P + 3 * F), 3 * F, 11, F, 16 * P + 64 * F + 64]
         lengths[2] += 1
+        lengths.insert(3, F + 1)
+        place += number == 6 and place == 3
         if number == 0:
             answers[2] = eleven(answers[2], options, faces)
-            entries[2] += 1
-        lent = rooms(["out-points", "out-faces", "report", "work"], lengths, kinds)
+            answers.append(traced(passes, s, options, points, faces, *answers[:2]))
+            entries = [len(row) for row in answers]
+        lent = rooms(["out-points", "out-faces", "report", "origins", "work"], lengths, kinds)
         found = "repairing (floats %s) %s (ofBits binary64 %d) %d %s" % (listed(points), listed(faces), s, options, lent)
     elif call == 2:
         return both(w.array(), w.array(), w.array(), number, place, answers)
@@ -342,20 +375,20 @@ def claim(call, case, answer, turn):
     return found, rows(outcome(number, place, answers, entries, stated, lengths, kinds))
 
 
-def calls(cases):
+def calls(cases, passes):
     """The library's cases that are small enough."""
     both = zip(records(cases + "/lib.cases.bin"), records(cases + "/lib.answers.bin"))
     for turn, ((call, case), (_, answer)) in enumerate(both):
         if len(case) <= MOST_WORDS:
             try:
-                yield claim(call, case, answer, turn)
+                yield claim(call, case, answer, turn, passes)
             except Long:
                 pass
 
 
 def main():
-    cases, folder, every = sys.argv[1], sys.argv[2], int(sys.argv[3])
-    claims = (list(texts(cases)) + list(calls(cases)))[::every]
+    cases, folder, every, passes = sys.argv[1], sys.argv[2], int(sys.argv[3]), ctypes.CDLL(sys.argv[4])
+    claims = (list(texts(cases)) + list(calls(cases, passes)))[::every]
     os.makedirs(folder + "/src")
     os.makedirs(folder + "/specs")
     open(folder + "/src/lib.rt", "w").write("// Recorded answers stand in specs/.\n")

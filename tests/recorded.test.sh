@@ -13,7 +13,8 @@ for crate in root rules; do
     echo '// Only the definitions.' >"$room/crates/$crate/src/lib.rt"
 done
 printf '%s\n' 'root:' 'rules: root' 'recorded: root rules' >"$room/crates.txt"
-python3 "$here/tests/recorded.py" "$cases" "$room/crates/recorded" "${EVERY:-16}" || exit 1
+gcc -std=c11 -O2 -ffp-contract=off -shared -fPIC "-I$here/host" "-I$here/fuzz" -o "$room/passes.so" "$here"/fuzz/{passes,uses}.c -lm || exit 1
+python3 "$here/tests/recorded.py" "$cases" "$room/crates/recorded" "${EVERY:-16}" "$room/passes.so" || exit 1
 cd "$room" || exit 1
 log=$room/log
 rt check recorded >"$log" 2>&1

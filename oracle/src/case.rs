@@ -25,7 +25,7 @@ impl Call {
     /// The names of the call's rooms, in checking order.
     pub fn rooms(self) -> &'static [&'static str] {
         match self {
-            Call::Repair => &["points", "faces", "report", "work"],
+            Call::Repair => &["points", "faces", "report", "origins", "work"],
             Call::Edges => &["edges", "lengths", "face edges", "work"],
             Call::Loops => &["loop vertices", "loop ends", "work"],
             Call::Check => &["work"],
@@ -135,7 +135,7 @@ impl Case {
         let (p, f, c) = (self.p() as u128, self.f() as u128, self.patch_count as u128);
         let work = (4, 16 * p + 64 * f + 64);
         match self.call {
-            Call::Repair => vec![(8, 3 * (p + 3 * f)), (4, 3 * f), (4, REPORT as u128), work],
+            Call::Repair => vec![(8, 3 * (p + 3 * f)), (4, 3 * f), (4, REPORT as u128), (4, f), work],
             Call::Edges => vec![(4, 6 * f), (8, 3 * f), (4, 3 * f), work],
             Call::Loops => vec![(4, 3 * f), (4, 3 * f), work],
             Call::Check => vec![work],

@@ -8,7 +8,8 @@ use crate::refuse;
 use crate::there::{self, Outcome};
 use std::collections::BTreeMap;
 
-/// What is wrong: something in the reply, in a room, behind a room; repeated and thin faces exchanged, or all counted as one of the two; a short room
+/// What is wrong: something in the reply, in a room, behind a room; repeated and thin faces exchanged, or all counted as one of the two; origins that are off
+/// by one, that are places of the list that pass 1 leaves, or behind which it is not cleared, and a short work room told at the origins' place; a short room
 /// told by its place in a list of the rooms of edges and loops together; 8 told as 7, or before 7; a boundary that is not simple refused by the edge
 /// call, or only where its work room is dirty; dirt left behind zeros; loops listed as they are walked; or the whole answer is that of another input,
 /// without one bit of the options or limits, with the threshold's neighbour, without the second count, or with a sum of the first two that has lost its
@@ -34,6 +35,10 @@ pub enum Fault {
     KindsExchanged,
     AllRepeated,
     AllThin,
+    OriginsOffByOne,
+    OriginsOfPresent,
+    OriginsNotCleared,
+    WorkAtThree,
     SecondLeftOut,
     SumWraps,
     RoomOfBoth,
@@ -71,6 +76,9 @@ pub fn faults(call: Call) -> Vec<Fault> {
         Call::Line => all.extend([SecondLeftOut, SumWraps]),
         Call::WritePly => all.extend([AnswerOfTwoFaces, MinusZeroLost, CornersExchanged, HighByteFirst, BehindFile]),
         Call::ReadPly => all.extend([AnswerOfTwoFaces, NotCleared, MinusZeroLost, CornersExchanged, HighByteFirst, Miscounted]),
+    }
+    if call == Call::Repair {
+        all.extend([OriginsOffByOne, OriginsOfPresent, OriginsNotCleared, WorkAtThree]);
     }
     if call == Call::ReadPly {
         all.extend([FourFirst, NegativeTaken, ZerosTaken, TrailingTaken, CountWraps]);
@@ -199,6 +207,11 @@ impl Fault {
                 other.filter.set &= !(1 << bit);
             }
             Fault::Threshold => other.threshold = if case.threshold < 1.0 { case.threshold.next_up() } else { case.threshold.next_down() },
+            Fault::OriginsOfPresent if wanted.number == 0 => {
+                let mut rows = wanted.rows.clone();
+                rows[3] = there::present(case);
+                return Some(Outcome { rows, ..wanted.clone() });
+            }
             Fault::SecondLeftOut if case.counts.len() > 1 => other.counts[1] = 0,
             Fault::SumWraps if case.counts.len() > 1 => (other.counts[0], other.counts[1]) = (case.counts[0].wrapping_add(case.counts[1]), 0),
             Fault::BowtieRefused if wanted.number == 0 => return eight(case),
@@ -226,6 +239,11 @@ impl Fault {
         if accepted && case.call == Call::Repair {
             self.recount(&mut rooms[2]);
         }
+        if accepted && self == Fault::OriginsOffByOne {
+            let next: Vec<u8> = rooms[3].entries::<u32>(reply.counts[3] as usize).iter().flat_map(|origin| (origin + 1).to_ne_bytes()).collect();
+            let (bytes, start) = rooms[3].all_mut();
+            bytes[start..start + next.len()].copy_from_slice(&next);
+        }
         if accepted && self == Fault::LoopsWalked {
             turn(reply, rooms);
         }
@@ -241,6 +259,8 @@ impl Fault {
             Fault::Answer if accepted && lengths[0] > 0 => flip(0, 0),
             Fault::AnswerOfTwoFaces if accepted && case.f() > 1 => flip(0, 0),
             Fault::NotCleared if accepted && last > 0 && stated[1].1 > 0 => flip(1, stated[1].1 as i64 - 1),
+            Fault::OriginsNotCleared if accepted && reply.counts[3] < case.f() => flip(3, case.f() as i64 - 1),
+            Fault::WorkAtThree if reply.number == 6 && reply.place == 4 => reply.place = 3,
             Fault::WorkLeft if accepted && work > 0 => flip(last, work as i64 - 1),
             Fault::BehindStated if accepted && lengths[last] > work => flip(last, work as i64),
             Fault::BehindRoom => flip(0, lengths[0] as i64),

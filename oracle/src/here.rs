@@ -24,7 +24,8 @@ struct Given<const N: usize> {
 #[allow(dead_code)]
 unsafe extern "C" {
     fn shell_repair(points: *const f64, _: usize, faces: *const u32, _: usize, s: f64, options: u32,
-        out_points: *mut f64, _: usize, out_faces: *mut u32, _: usize, report: *mut u32, _: usize, work: *mut u32, _: usize) -> Given<3>;
+        out_points: *mut f64, _: usize, out_faces: *mut u32, _: usize, report: *mut u32, _: usize, origins: *mut u32, _: usize,
+        work: *mut u32, _: usize) -> Given<4>;
     fn shell_edges(points: *const f64, _: usize, faces: *const u32, _: usize,
         edges: *mut u32, _: usize, lengths: *mut f64, _: usize, face_edges: *mut u32, _: usize, work: *mut u32, _: usize) -> Given<3>;
     fn shell_loops(points: *const f64, _: usize, faces: *const u32, _: usize,
@@ -131,12 +132,12 @@ fn reply<const N: usize>(given: Given<N>) -> Reply {
 #[rustfmt::skip]
 fn repair(case: &Case, input: &mut Inputs, rooms: &mut [Lent]) -> Reply {
     let Inputs { points, faces, .. } = input;
-    let [out_points, out_faces, report, work] = rooms else { unreachable!() };
+    let [out_points, out_faces, report, origins, work] = rooms else { unreachable!() };
     reply(unsafe {
         shell_repair(
             points.pointer(), points.length(), faces.pointer(), faces.length(), case.threshold, case.options,
             out_points.pointer(), out_points.length(), out_faces.pointer(), out_faces.length(),
-            report.pointer(), report.length(), work.pointer(), work.length(),
+            report.pointer(), report.length(), origins.pointer(), origins.length(), work.pointer(), work.length(),
         )
     })
 }

@@ -13,6 +13,7 @@ mod here;
 mod large;
 mod lent;
 mod meshes;
+mod origins;
 mod places;
 mod planted;
 mod ply;

@@ -1,7 +1,8 @@
 //! Recorded answers, in the word form of tests/cases/FORMAT.md, against what the harness expects: so its own refusals and its Rust are tested too.
 //! They are document 01's, with one count of degenerate faces: a report room is lent one entry longer, a line gets the count in two parts, and of a
 //! report the sum of the two is compared. Edges and loops are one call there, of six rooms: a record of it is asked of both calls, as far as it speaks
-//! of each. A recorded answer of the edge check may be document 01's, which does not ask for groups at a point.
+//! of each. A recorded answer of the edge check may be document 01's, which does not ask for groups at a point. A repair has four rooms there and no origins: a
+//! room for them is lent between report and work, two entries longer than is stated, and 6 of the work room moves from place 3 to 4.
 
 use crate::case::{CALLS, Call, Case, EXACT, Room};
 use crate::{compare, print, there};
@@ -79,6 +80,7 @@ fn read(words: &mut Words, call: Call, turn: usize) -> Vec<Case> {
     let mut lengths = words.array();
     if call == Call::Repair {
         lengths[2] += 1;
+        lengths.insert(3, case.f() + 2);
     }
     let mut cases = vec![case.clone()];
     if call == Call::Edges {
@@ -128,6 +130,7 @@ impl Answer {
         let own = own(call);
         let mut answer = self.clone();
         match self.number {
+            6 if call == Call::Repair && self.place == 3 => answer.place = 4,
             0 if call == Call::Edges || call == Call::Loops => answer.rows = own[..own.len() - 1].iter().map(|&k| self.rows[k].clone()).collect(),
             6 => answer.place = own.iter().position(|&k| k as u64 == self.place)? as u64,
             8 if call == Call::Edges => return None,
@@ -155,6 +158,7 @@ fn as_recorded(case: &Case, recorded: &Answer) -> bool {
     let sizes = case.stated();
     let mut found: Vec<Vec<u64>> = outcome.rows.iter().enumerate().map(|(k, row)| row.chunks(sizes[k].0).map(word).collect()).collect();
     if case.call == Call::Repair {
+        found.pop();
         let repeated = found[2].remove(0);
         found[2][0] += repeated;
     }

@@ -36,7 +36,7 @@ fn seen(call: Call, fault: Fault) -> bool {
     let faces = found.case.f();
     let small = match fault {
         Fault::AnswerOfTwoFaces | Fault::BowtieRefused | Fault::BowtieRefusedInDirt | Fault::EightAsSeven | Fault::EightFirst => faces == 2,
-        Fault::HourglassPasses => faces == 2,
+        Fault::HourglassPasses | Fault::OriginsOfPresent => faces == 2,
         Fault::PatchesAsked => faces <= 6,
         Fault::Without(_) => faces <= 3,
         _ => faces <= 1,

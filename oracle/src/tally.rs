@@ -2,8 +2,8 @@
 
 use crate::case::{Call, Case, REPORT};
 use crate::ply::Parts;
-use crate::refuse;
 use crate::there::{self, Outcome};
+use crate::{origins, refuse};
 use std::cmp::Ordering;
 use std::collections::{BTreeMap, BTreeSet};
 
@@ -33,6 +33,16 @@ const COUNTS: [&str; REPORT] = [
 /// Entry i of a row of numbers.
 fn number(row: &[u8], i: usize) -> u32 {
     u32::from_ne_bytes(row[4 * i..4 * i + 4].try_into().unwrap())
+}
+
+/// A row of numbers.
+fn all_numbers(row: &[u8]) -> Vec<u32> {
+    (0..row.len() / 4).map(|i| number(row, i)).collect()
+}
+
+/// A row of floats.
+fn reals(row: &[u8]) -> Vec<f64> {
+    row.chunks_exact(8).map(|bytes| f64::from_ne_bytes(bytes.try_into().unwrap())).collect()
 }
 
 impl Tally {
@@ -69,6 +79,8 @@ impl Tally {
             Call::Repair => {
                 (0..REPORT).for_each(|k| count(COUNTS[k], number(&rows[2], k) > 0));
                 count("repeated and thin", number(&rows[2], 0) > 0 && number(&rows[2], 1) > 0);
+                count("an origin that is not its place", (0..counts[3] as usize).any(|k| number(&rows[3], k) != k as u32));
+                count("several lists of origins fit", origins::only(case, &reals(&rows[0]), &all_numbers(&rows[1])).is_none());
                 self.options.insert(case.options);
             }
             Call::Edges => {

@@ -1,10 +1,10 @@
 //! The Rust's answers, in the documents' form. It is asked only where document 01 accepts, or where it refuses by an error of its own. The edge check and the
-//! calls for PLY files, which it does not have, are answered by the documents.
+//! calls for PLY files, which it does not have, are answered by the documents; so are the origins of a repair where its output does not tell them.
 
 use crate::case::{Call, Case, REPORT};
 use crate::ply::Parts;
-use crate::refuse;
 use crate::time::LINES;
+use crate::{origins, refuse};
 use engeom::edges::{MeshEdges, edge_key, naive_edges, unique_edges};
 use engeom::normals::compute_face_normal;
 use engeom::patches::{PatchFilter, PatchLabels, PatchStats};
@@ -48,7 +48,8 @@ pub fn refused(call: Call, number: u32, place: u64) -> Outcome {
 /// How many counts a call gives back beside number and place.
 fn answer_counts(call: Call) -> usize {
     match call {
-        Call::Repair | Call::Edges | Call::Patches => 3,
+        Call::Repair => 4,
+        Call::Edges | Call::Patches => 3,
         Call::Loops | Call::ReadPly => 2,
         Call::Check | Call::Line | Call::WritePly => 1,
     }
@@ -137,11 +138,18 @@ pub fn mended(case: &Case) -> (Vec<f64>, Vec<u32>, [usize; REPORT]) {
     (coordinates, answer.faces.into_iter().flatten().collect(), eleven(case, &answer.report))
 }
 
-/// `repair_buffers`: counts and rows.
+/// `repair_buffers`, and the origins of its faces: counts and rows.
 fn repair(case: &Case) -> (Vec<u64>, Vec<Vec<u8>>) {
     let (points, faces, report) = mended(case);
-    let counts = vec![points.len() as u64, faces.len() as u64, REPORT as u64];
-    (counts, vec![floats(points), numbers(faces), numbers(report.map(|n| n as u32))])
+    let origins = origins::of(case, &points, &faces);
+    let counts = vec![points.len() as u64, faces.len() as u64, REPORT as u64, origins.len() as u64];
+    (counts, vec![floats(points), numbers(faces), numbers(report.map(|n| n as u32)), numbers(origins)])
+}
+
+/// The origins that a repair would give if each pass took the places of the list that it gets for origins: those of the list that pass 1 leaves.
+pub fn present(case: &Case) -> Vec<u8> {
+    let (points, faces, _) = mended(&Case { options: case.options & 1, ..case.clone() });
+    numbers(origins::by_passes(&Case { points, faces, options: case.options & !1, ..case.clone() }))
 }
 
 /// The Rust begins each loop anywhere and lists the loops in any order. Rotated so that the lowest vertex is last, and sorted by it, they are

@@ -1,5 +1,5 @@
-/* What document 01, with items 2, 3, 5, 6 and 7 of document 02, says that a call must answer, in plain C and from the documents alone, so that it shares nothing
- * with the library. */
+/* What document 01, with items 2, 3, 5, 6 and 7 of document 02, says that a call must answer, in plain C and from the documents alone, so that it shares
+ * nothing with the library. */
 #ifndef JOGASMUN_DOCUMENT_H
 #define JOGASMUN_DOCUMENT_H
 

@@ -1,11 +1,11 @@
 /* The chain repair, check, edges, loops, and writing to a PLY file and reading it, on damaged meshes, from a fixed seed: `chain MESHES`. After a repair with
  * all six options each mesh must be what is proved of it: the check says yes, the edge call and the loop call accept, each boundary edge stands in exactly one
- * loop, each directed edge is walked at most once, every point is used and has one fan, as many faces as repeat a corner are counted so, and the counts add
- * up; and after it and after repairs with other options, the origins rise strictly, one for each face, and each names an input face that has its corners in the
- * same places, bit by bit, at most the last two exchanged. Before the repair the check must say yes exactly if no face repeats a corner, each directed edge is walked at
- * most once and each point that is used has one fan, and where it says yes the edge call and the loop call must accept; the edge call must accept whatever the
- * loop call accepts or refuses for its boundary, and refuse the same where an edge is crowded. Before and after it the mesh is read from the PLY file that it
- * is written to with the same bits. The first mesh that differs is printed. */
+ * loop, each directed edge is walked at most once, every point is used and has one fan, as many faces as repeat a corner are counted so, and the counts add up;
+ * and after it and after repairs with other options, the origins rise strictly, one for each face, and each names an input face that has its corners in the
+ * same places, bit by bit, at most the last two exchanged. Before the repair the check must say yes exactly if no face repeats a corner, each directed edge is
+ * walked at most once and each point that is used has one fan, and where it says yes the edge call and the loop call must accept; the edge call must accept
+ * whatever the loop call accepts or refuses for its boundary, and refuse the same where an edge is crowded. Before and after it the mesh is read from the PLY
+ * file that it is written to with the same bits. The first mesh that differs is printed. */
 #include "shell.h"
 #include <stdio.h>
 #include <stdlib.h>
@@ -508,8 +508,8 @@ int main(int count, char **names) {
         }
     }
     printf("chain: %lu meshes, %lu of them sound before the repair, %lu not sound for the fans at a point alone, %lu with edges but no loops; it removes %lu "
-           "faces that repeat a corner and %lu thin ones; after it %lu boundary edges in %lu loops; %lu bytes of PLY files there and back; with these and other "
-           "options %lu faces traced by their origins, %lu of them in another place of the list, %lu with corners exchanged\n",
+           "faces that repeat a corner and %lu thin ones; after it %lu boundary edges in %lu loops; %lu bytes of PLY files there and back; with these and "
+           "other options %lu faces traced by their origins, %lu of them in another place of the list, %lu with corners exchanged\n",
            meshes, (unsigned long)sums.sound, (unsigned long)sums.tied, (unsigned long)sums.listed, (unsigned long)sums.repeated, (unsigned long)sums.thin,
            (unsigned long)sums.boundary, (unsigned long)sums.loops, (unsigned long)sums.bytes, (unsigned long)sums.traced, (unsigned long)sums.moved,
            (unsigned long)sums.turned);

@@ -1,10 +1,9 @@
 #!/usr/bin/env bash
-# The library in a C program: the example prints what it must, the header is good for C++, recorded answers come out through the calls with every
-# room as it must be, degenerate faces are counted by kind and their sums printed up to the limits, the edges of bowties are listed though their loops are
-# refused, in work rooms of every kind, the edge check answers by its rule on every small mesh and what is found wrong is what the rule says, damaged meshes are
-# after a repair what is proved of them, with their faces traced by the origins, and go to a PLY file and back, what fuzzing found worth keeping comes out as the
-# documents say, and a call takes no memory but its rooms and no more stack than is promised; a sample under valgrind too, so that nothing outside a room is
-# touched.
+# The library in a C program: the example prints what it must, the header is good for C++, recorded answers come out through the calls with every room as it
+# must be, degenerate faces are counted by kind and their sums printed up to the limits, the edges of bowties are listed though their loops are refused, in work
+# rooms of every kind, the edge check answers by its rule on every small mesh and what is found wrong is what the rule says, damaged meshes are after a repair
+# what is proved of them, with their faces traced by the origins, and go to a PLY file and back, what fuzzing found worth keeping comes out as the documents
+# say, and a call takes no memory but its rooms and no more stack than is promised; a sample under valgrind too, so that nothing outside a room is touched.
 set -u
 here=$(cd "$(dirname "${BASH_SOURCE[0]}")/.." && pwd)
 room=$(mktemp -d) || exit 1

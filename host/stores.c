@@ -4,8 +4,8 @@
  * Each mesh is a grid of SIDE times SIDE squares with faults that are known: which face leaves in which pass, which corners change their number, which points
  * leave. It is mended by the library, and where all options are on by two stand-ins too that go by the known faults, in the same rooms. The sparing one stores
  * a face and its origin again only from the first that leaves in a pass on, and a corner in passes 5 and 6 only where its number changes; that is the most that
- * the library may store. The plain one stores every kept face and its origin again in each pass that is on, and every corner in passes 5 and 6: the counter must
- * see that. All three must give the same mesh and the same origins. Printed are, addresses in hexadecimal:
+ * the library may store. The plain one stores every kept face and its origin again in each pass that is on, and every corner in passes 5 and 6: the counter
+ * must see that. All three must give the same mesh and the same origins. Printed are, addresses in hexadecimal:
  *
  *     marks BEGAN ENDED                               a call stands between a store to the one and a store to the other, each of one byte
  *     call BY OPTIONS MESH                            one call, by `library`, `sparing` or `plain`, in the order of the marks
@@ -22,8 +22,8 @@
 enum { SIDE = 8, LEAST_SIDE = 6, MOST_SIDE = 64, MOST_POINTS = (MOST_SIDE + 1) * (MOST_SIDE + 1) + 16, MOST_FACES = 2 * MOST_SIDE * MOST_SIDE + 32 };
 
 /* A mesh and its faults: for each face the pass that drops it, or 0; whether pass 4 turns it over; whether pass 5 gives it the copy of the point `split`, if
- * one is; and for each point whether no face uses it once the faces have left. The first face that leaves or changes, the first that leaves, and the first point
- * that leaves; NONE if there is none. */
+ * one is; and for each point whether no face uses it once the faces have left. The first face that leaves or changes, the first that leaves, and the first
+ * point that leaves; NONE if there is none. */
 typedef struct {
     uint32_t options;
     size_t P, F;

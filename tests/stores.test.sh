@@ -1,8 +1,8 @@
 #!/usr/bin/env bash
-# Which entries of its rooms a repair stores. No contract can see a store, so they are counted on the compiled library: valgrind's lackey lists every one, and
-# a face before the first fault of any pass must be stored once, by the copy into the room; one after it once more for each pass that drops a face before it;
-# a corner in passes 5 and 6 only where its number changes; points likewise; and an origin before the first face that leaves once, one after it once more for
-# each pass that drops a face before it (host/stores.c, tests/stores.py). The counter is tried on a list of stores that is known, and on stand-ins that close up in
+# Which entries of its rooms a repair stores. No contract can see a store, so they are counted on the compiled library: valgrind's lackey lists every one, and a
+# face before the first fault of any pass must be stored once, by the copy into the room; one after it once more for each pass that drops a face before it; a
+# corner in passes 5 and 6 only where its number changes; points likewise; and an origin before the first face that leaves once, one after it once more for each
+# pass that drops a face before it (host/stores.c, tests/stores.py). The counter is tried on a list of stores that is known, and on stand-ins that close up in
 # the sparing way and in the plain one.
 #
 # Without valgrind the faces before the first that leaves are put on read-only pages, and what closes up is called alone (host/pages.c), from the bench library.

@@ -4,10 +4,11 @@
  * Reads a binary STL file, or a PLY file of the form that shell.h tells, repairs it with all options, checks it, and prints what was mended and how many edges
  * and boundary loops it has then. Where degenerate faces were removed it says how many of them repeat a corner and how many are thin: a scanner is adjusted by
  * that. THRESHOLD is the sine, from 0 to 1, of the angle at a face's first corner up to which the face is thin. OUT.ply gets the mended shell as a PLY file,
- * and FILE a line for each of its faces, in their order: which face of IN it is, from 0, so that tables built on the scan can be carried over. A refusal is printed in words with its number and place; of a PLY file that is not of the form, with the first line of its header that differs; where only the
- * loops are refused, after the number of edges and with the place of the vertex at fault. For a large file each stage is told on standard error. Exit status:
- * 0; 1 for a refusal, or for a shell that the check does not pass, and then nothing is written; 2 if the words or the threshold are not understood, a file
- * cannot be read or written, or memory runs out.
+ * and FILE a line for each of its faces, in their order: which face of IN it is, from 0, so that tables built on the scan can be carried over. A refusal is
+ * printed in words with its number and place; of a PLY file that is not of the form, with the first line of its header that differs; where only the loops are
+ * refused, after the number of edges and with the place of the vertex at fault. For a large file each stage is told on standard error. Exit status: 0; 1 for a
+ * refusal, or for a shell that the check does not pass, and then nothing is written; 2 if the words or the threshold are not understood, a file cannot be read
+ * or written, or memory runs out.
  *
  * With -c nothing is mended. Where the check says no, what is wrong is told in words: faces that repeat a corner, directed edges that are walked more than
  * once, points where several surfaces touch; of each kind how many there are, and where the first is. The exit status is then 3. */

@@ -15,7 +15,7 @@ enum-known-number : tie.Need-enum-known-number
 enum-known-number c = search needs
 
 cast-place : tie.Need-cast-place
-cast-place c = omega (arith, repair-place _ _ _ _ _ (rw (c .before .number .given .1) at (c .before .before .before .before .before .before .before .before .before .before .before .repair .ensures)))
+cast-place c = omega (arith, repair-place _ _ _ _ _ (rw (c .before .number .given .1) at (c .before .before .before .before .before .before .before .before .before .before .before .before .before .repair .ensures)))
 
 same-length : tie.Need-same-length
 same-length c = search needs
@@ -29,11 +29,11 @@ same-length-3 c = search needs
 same-length-4 : tie.Need-same-length-4
 same-length-4 c = search needs
 
-returns : tie.Need-returns
-returns c = given-accepted (rw (c .before .a .given .1) at (c .before .before .before .before .before .before .before .before .before .before .before .repair .ensures))
-
 same-length-5 : tie.Need-same-length-5
 same-length-5 c = search needs
+
+returns : tie.Need-returns
+returns c = given-accepted (rw (c .before .a .given .1) at (c .before .before .before .before .before .before .before .before .before .before .before .before .before .repair .ensures))
 
 same-length-6 : tie.Need-same-length-6
 same-length-6 c = search needs
@@ -44,8 +44,14 @@ same-length-7 c = search needs
 same-length-8 : tie.Need-same-length-8
 same-length-8 c = search needs
 
+same-length-9 : tie.Need-same-length-9
+same-length-9 c = search needs
+
+same-length-10 : tie.Need-same-length-10
+same-length-10 c = search needs
+
 returns-2 : tie.Need-returns-2
-returns-2 c = given-refused 3 (rw (c .before .number .given .1) at (c .before .before .before .before .before .before .before .before .before .before .before .repair .ensures))
+returns-2 c = given-refused 4 (rw (c .before .number .given .1) at (c .before .before .before .before .before .before .before .before .before .before .before .before .before .repair .ensures))
 
 pub shell-repair-spec : {M : Type 1} → statement M
 shell-repair-spec =
@@ -59,9 +65,11 @@ shell-repair-spec =
     same-length-2
     same-length-3
     same-length-4
-    returns
     same-length-5
+    returns
     same-length-6
     same-length-7
     same-length-8
+    same-length-9
+    same-length-10
     returns-2)

@@ -598,6 +598,48 @@ static int take_option(int found, char **given, Asked *asked) {
     }
 }
 
+/* Where a file of this name stands, or will: its path without links, or that of its folder and its last part. NULL where it cannot stand. */
+static char *end_of(const char *name) {
+    const char *slash = strrchr(name, '/'), *last = slash == NULL ? name : slash + 1;
+    size_t folder = (size_t)(last - name), length;
+    char *end = realpath(name, NULL), *at, *real;
+    if (end != NULL)
+        return end;
+    at = room(folder + sizeof ".", 1);
+    memcpy(at, name, folder);
+    at[folder] = '.';
+    real = realpath(at, NULL);
+    free(at);
+    if (real == NULL)
+        return NULL;
+    length = strlen(real) + strlen(last) + sizeof "/";
+    end = room(length, 1);
+    snprintf(end, length, "%s/%s", real, last);
+    free(real);
+    return end;
+}
+
+/* Whether two names are those of one file. */
+static int one_file(const char *a, const char *b) {
+    char *end_a = end_of(a), *end_b = end_of(b);
+    int same = end_a != NULL && end_b != NULL ? strcmp(end_a, end_b) == 0 : strcmp(a, b) == 0;
+    free(end_a), free(end_b);
+    return same;
+}
+
+/* Whether the list of origins may take its name: it is neither that of the mended shell nor that of the scan; if not, says why. */
+static int free_name(const char *origins, const char *shell, const char *scan) {
+    if (shell != NULL && one_file(shell, origins)) {
+        fprintf(stderr, "shellfix: %s cannot be both the mended shell and its origins\n", shell);
+        return 0;
+    }
+    if (scan != NULL && one_file(scan, origins)) {
+        fprintf(stderr, "shellfix: the origins cannot take the place of %s, which they are counted in\n", scan);
+        return 0;
+    }
+    return 1;
+}
+
 /* Whether the words ask for one file or for help, and what else they ask for; if not, says why. */
 static int read_words(int count, char **given, Asked *asked) {
     int found;
@@ -609,13 +651,11 @@ static int read_words(int count, char **given, Asked *asked) {
         fprintf(stderr, "shellfix: with -c nothing is mended, so -%c has nothing to do\n", asked->threshold != NULL ? 's' : shell != NULL ? 'o' : 'f');
         return 0;
     }
-    if (shell != NULL && origins != NULL && strcmp(shell, origins) == 0) {
-        fprintf(stderr, "shellfix: %s cannot be both the mended shell and its origins\n", shell);
-        return 0;
-    }
     if (optind + 1 < count)
         fprintf(stderr, "shellfix: one file at a time, and not %s too\n", given[optind + 1]);
     asked->name = optind + 1 == count ? given[optind] : NULL;
+    if (origins != NULL && !free_name(origins, shell, asked->name))
+        return 0;
     return asked->name != NULL || (asked->help && optind == count);
 }
 

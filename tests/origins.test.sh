@@ -48,6 +48,12 @@ puzzled() {
     puzzled -c -f list made/empty.ply
     puzzled --check --origins=list made/empty.ply
     puzzled -o list -f list made/empty.ply
+    puzzled -o list -f ./list made/empty.ply
+    puzzled -o made/list -f made/../made/list made/empty.ply
+    echo >made/there && ln -s there made/link && puzzled -o made/link -f made/there made/empty.ply
+    puzzled -f made/empty.ply made/empty.ply
+    puzzled -f made/../made/empty.ply made/empty.ply
+    puzzled -o made/two-passes.ply -f ./made/two-passes.ply made/empty.ply
     [ ! -e list ] && [ ! -e other ] || echo "a list was written"
 } >found
 diff found "$here/tests/cases/origins/shellfix.out" || exit 1

@@ -35,11 +35,11 @@ yes-if (Refused n p) e = absurd (subst Is-accepted (sym e) tt)
 
 -- after an accepted repair with options 63 the edge check on what stands in the rooms says yes
 pub checked :
-    (points : List Float) (faces : List ℕ) (s : Float) (ps : List Float) (xs rs w : List ℕ) {ps′ : List Float} {xs′ rs′ w′ : List ℕ} {a b : ℕ}
-    → repaired-as.outcomeOf (repaired.Done a b) ps′ xs′ rs′ w′ ≡ repair points faces s 63 (repaired-as.roomsOf ps xs rs w)
+    (points : List Float) (faces : List ℕ) (s : Float) (ps : List Float) (xs rs os w : List ℕ) {ps′ : List Float} {xs′ rs′ os′ w′ : List ℕ} {a b n : ℕ}
+    → repaired-as.outcomeOf (repaired.Done a b n) ps′ xs′ rs′ os′ w′ ≡ repair points faces s 63 (repaired-as.roomsOf ps xs rs os w)
     → (work work′ : List ℕ) (r : Checked) → Check-enough (length (take a ps′) / 3) (length (take b xs′) / 3) work
     → outcomeOf r work′ ≡ check (length (take a ps′) / 3) (take b xs′) work → r ≡ Done true
-checked points faces s ps xs rs w e work work′ r enough o = yes-if r (ap (λ t. t .answer) o ∙ demanded-yes points faces s ps xs rs w e work enough)
+checked points faces s ps xs rs os w e work work′ r enough o = yes-if r (ap (λ t. t .answer) o ∙ demanded-yes points faces s ps xs rs os w e work enough)
 
 -- after an edge check that says yes, on the same faces over as many points
 module _ (points : List Float) (faces work : List ℕ) {work′ : List ℕ} (e : outcomeOf (Done true) work′ ≡ check (length points / 3) faces work) where

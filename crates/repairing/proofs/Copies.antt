@@ -150,6 +150,12 @@ turns-pay m inside (suc k) h =
     let t = turns m inside k (omega arith) in
     rw (through-last split m k) (omega (arith, split-pays (length (m .points)) now k (t .inside) h (t .grown), turns-pay m inside k (omega arith)))
 
+-- after the turns below k at most three points a face have been added
+pub turns-points :
+    (m : State) → Inside (length (m .points)) (m .faces) → (k : ℕ) → k ≤ length (m .points)
+    → length (through split m (below k) .points) ≤ length (m .points) + 3 * length (m .faces)
+turns-points m inside k h = omega (arith, turns-pay m inside k h)
+
 -- pass 5 adds at most three points a face
 pub pass5-points : (m : State) → Inside (length (m .points)) (m .faces) → length (pass5 m .points) ≤ length (m .points) + 3 * length (m .faces)
 unfolding pass5

@@ -54,7 +54,7 @@ oriented-own xs i h =
     turned-origin (face (facesOf xs) i) (face (oriented (facesOf xs) .walk .faces) i) (t .1 i) ∙ numbered xs i (rw (t .0) at h)
 
 -- a group that is split off keeps the origins of its faces
-off-origins : (v : ℕ) (m : State) (fan : List ℕ) → origins (split-off v m fan .faces) ≡ origins (m .faces)
+pub off-origins : (v : ℕ) (m : State) (fan : List ℕ) → origins (split-off v m fan .faces) ≡ origins (m .faces)
 unfolding split-off
 off-origins v m fan =
     map-map (λ g. g .origin) (λ i. cond (has i fan) (renamed new (face (m .faces) i)) (face (m .faces) i)) (below (length (m .faces)))

@@ -1,0 +1,2 @@
+-- `Told` has the lines that rows tell.
+pub mod Told

@@ -20,7 +20,7 @@ fn clear_used(faces: &[u32], n: usize, count: usize, work: &mut [u32])
 }
 
 // Flags each of the `count` points that none of the n faces uses.
-fn mark(faces: &[u32], n: usize, count: usize, work: &mut [u32])
+pub fn mark(faces: &[u32], n: usize, count: usize, work: &mut [u32])
     requires { ⌜ UseAsks (now faces) n count (now work) ⌝ }
     ensures { λ _. ⌜ UseGives (now (faces .entry)) n count (now (work .entry)) (now (work .exit)) ⌝ }
 {

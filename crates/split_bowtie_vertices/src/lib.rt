@@ -83,7 +83,7 @@ fn split_all(points: &mut [f64], work: &mut [u32], count: usize, n: usize) -> Sp
 }
 
 // Gives each of the n corners the number that it takes; one that keeps its number is not stored.
-fn rename(faces: &mut [u32], work: &[u32], leads: usize, numbers: usize, n: usize)
+pub fn rename(faces: &mut [u32], work: &[u32], leads: usize, numbers: usize, n: usize)
     requires { ⌜ RenameAsks (now faces) (now work) leads numbers n ⌝ }
     ensures { λ _. ⌜ RenameGives (now (faces .entry)) (now (work .entry)) leads numbers n (now (faces .exit)) ⌝ }
 {

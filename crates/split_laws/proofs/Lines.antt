@@ -4,7 +4,7 @@ use mathlib.Core.List.{List, [], _∷_, _++_, map, map-append, append-nil, appen
 use Prim.Native.Nat.{ℕ, zero, suc, _+_, _-_, _≤_, _<_}
 use native.Mathlib.Nat.{add-zero}
 use native.Mathlib.Omega.{arith}
-use lib.ListN.{length, getD, drop, replicate, length-append, length-replicate, List·getD-append}
+use lib.ListN.{length, getD, drop, replicate, length-append, length-replicate, getD-replicate, List·getD-append}
 use lib.Seq.{getD-append-add}
 use Rattle.rules.specs.Lists.{below, filter, each, through, has}
 use Rattle.rules.specs.Mesh.{Face, point, face, corners, renamed}
@@ -12,7 +12,7 @@ use Rattle.rules.specs.State.{State}
 use Rattle.rules.specs.Pass5.{fans, split-off, split, pass5}
 use Rattle.rules.specs.Mending.{Line, split-point, takers, Split-log, log-off, log-at, lines5}
 use Rattle.rules.proofs.Lists.{through-last}
-use Rattle.rules.proofs.Rising.{map-same}
+use Rattle.rules.proofs.Rising.{All, all-from, all-each, map-same}
 use Rattle.rules.proofs.Once.{Inside}
 use Rattle.rules.proofs.Splitting.{instead, target, face-map-below, length-map-below, split-faces, split-is}
 use Rattle.splitting.specs.Corners.{extras, base, goalOf}
@@ -113,6 +113,16 @@ unfolding base
 olds-many fs P zero = unfold oldsTo each below in (omega arith)
 olds-many fs P (suc k) =
     omega (arith, olds-many fs P k, ap length (olds-next fs k), length-append (oldsTo fs k) (replicate (extras fs k) k), length-replicate (extras fs k) k)
+
+-- they are points below k
+pub olds-low : (fs : List Face) (k : ℕ) → All (λ v. v < k) (oldsTo fs k)
+unfolding oldsTo
+olds-low fs k =
+    all-each (λ v. v < k) (λ v. replicate (extras fs v) v) (below k)
+    (on-below (λ v. All (λ u. u < k) (replicate (extras fs v) v)) k (λ v h. all-from (λ u. u < k) 0 (replicate (extras fs v) v) (λ i l. same v h i (extras fs v) l)))
+  where
+    same : (v : ℕ) → v < k → (i n : ℕ) → i < length (replicate n v) → getD (replicate n v) i 0 < k
+    same v h i n l = omega (arith, getD-replicate n i v 0 (omega (arith, length-replicate n v)))
 
 module _ (m : State) (inside : Inside (length (m .points)) (m .faces)) where
   -- the log when the points below k are passed

@@ -1,7 +1,7 @@
 -- One vertex more is split: its groups have numbers, and it stands as the old point of each. Assumes nothing.
 use mathlib.Core.Path.{_≡_, refl, sym, ap, ap₂, _∙_}
 use mathlib.Core.List.{List, _++_}
-use Prim.Native.Nat.{ℕ, suc, _+_, _*_, _-_, _≤_, _<_}
+use Prim.Native.Nat.{ℕ, suc, _+_, _*_, _-_, _^_, _≤_, _<_}
 use native.Mathlib.Omega.{arith}
 use lib.Ieee.{Float}
 use lib.ListN.{length, getD, replicate}
@@ -69,6 +69,8 @@ module _ {ys : List ℕ} {P olds v : ℕ} {w : List ℕ} {begin next : ℕ} (h :
     module _ {w′ : List ℕ} {free : ℕ} (g : RunGives w (12 * length ys + 2 + P + begin) (end - begin) (10 * length ys + 2 + P) (13 * length ys + 2 + P) (length ys) v next w′ free) where
       -- how far the old points go
       pub record Bounds : Type 0 where
+        pub few : 2 * length ys + P < 2 ^ 31
+        pub vertex : v < P
         pub least : P ≤ next
         pub free-is : free ≡ next + extras fs v
         pub most : free ≤ P + length ys
@@ -79,6 +81,8 @@ module _ {ys : List ℕ} {P olds v : ℕ} {w : List ℕ} {begin next : ℕ} (h :
       pub bounds : Bounds
       bounds =
           record {
+            few = q .rows .few;
+            vertex = h;
             least = omega (arith, base-least fs P v, q .next-is);
             free-is = added h over e g;
             most = omega (arith, added h over e g, q .next-is, base-most fs P v, few-extras fs v, run-fits (q .rows) v h);

@@ -110,7 +110,11 @@ sub-fill-2 : tie.Need-sub-fill-2
 sub-fill-2 c = search needs
 
 cast-fill : tie.Need-cast-fill
-cast-fill c = search needs
+cast-fill c =
+    let at-number-run = c .before .before .before in
+    let at-run-end = at-number-run .before .before in
+    let start = at-run-end .before .before .before in
+    omega (arith, limits (start .pre) (at-run-end .run-end .ensures) (at-number-run .number-run .ensures))
 
 fill-requires : tie.Need-fill-requires
 fill-requires c κs =

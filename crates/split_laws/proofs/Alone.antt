@@ -2,12 +2,11 @@
 use mathlib.Core.Path.{_≡_, refl, sym, ap, ap₂, _∙_, subst}
 use mathlib.Core.List.{List, map}
 use Prim.Native.Nat.{ℕ, _+_}
-use native.Mathlib.Omega.{arith}
 use lib.ListN.{length, getD, drop, replicate}
-use Rattle.rules.specs.Lists.{below, each}
+use Rattle.rules.specs.Lists.{below}
 use Rattle.rules.specs.Mesh.{Face, face, flatFaces, renamed}
 use Rattle.rules.specs.State.{State}
-use Rattle.rules.specs.Pass5.{fans, pass5}
+use Rattle.rules.specs.Pass5.{pass5}
 use Rattle.rules.proofs.Lists.{each-same}
 use Rattle.rules.proofs.Once.{Inside}
 use Rattle.rules.proofs.Relabel.{Alike, fans-alike, inside-alike, pass5-alike}

@@ -6,21 +6,20 @@ use native.Mathlib.Omega.{arith}
 use lib.Dec.{ltb}
 use lib.Ieee.{nan}
 use lib.ListN.{length, getD, take, length-replicate}
-use lib.Seq.{getD-take, length-take-le}
+use lib.Seq.{length-take-le}
 use Rattle.rows.specs.Region.{Only2, Holds, Out, Out.below, Out.above}
 use Rattle.rows.proofs.Regions.{getD-part, only-none}
 use Rattle.rules.specs.Lists.{count}
 use Rattle.rules.specs.Lists as lists
-use Rattle.rules.specs.Mesh.{face, facesOf, flatFaces}
+use Rattle.rules.specs.Mesh.{facesOf, flatFaces}
 use Rattle.rules.specs.State.{State}
 use Rattle.rules.specs.Pass5.{pass5}
-use Rattle.rules.proofs.Rising.{all-at, all-from}
-use Rattle.rules.proofs.Flat.{face-at, length-faces-take}
-use Rattle.rules.proofs.Once.{Inside, Corners-below}
-use Rattle.rules.proofs.Relabel.{Alike, flat-alike}
+use Rattle.rules.proofs.Rising.{all-at}
+use Rattle.rules.proofs.Once.{Inside}
+use Rattle.rules.proofs.Relabel.{Alike}
 use Rattle.leaving.specs.Pass.{standing, stateOf}
 use Rattle.leaving.proofs.Leaving.{length-points-take}
-use Rattle.splitting.specs.Corners.{extras, base}
+use Rattle.splitting.specs.Corners.{extras}
 use Rattle.corner_numbers.specs.Numbers.{SortAsks, SortGives}
 use Rattle.split_bowtie_vertices.specs.Splits.{RenameAsks, RenameGives, taken}
 use Rattle.split_bowtie_vertices.specs.Splits as splits
@@ -29,8 +28,9 @@ use Rattle.split_bowtie_vertices.proofs.Ending as ending
 use Rattle.split_laws.specs.Olds.{oldsTo, oldOf}
 use Rattle.split_laws.proofs.Lines.{olds-low, olds-many}
 use Rattle.split_laws.proofs.Alone.{old-alike, points-same, flat-alone}
-use Rattle.split_rows.specs.Rows.{Reached, AllAsks, AllGives, SplitAsks, Stands, SplitGives}
+use Rattle.split_rows.specs.Rows.{AllAsks, AllGives, SplitAsks, Stands, SplitGives}
 use Rattle.split_rows.proofs.Blank.{blank, over-blank}
+use Rattle.split_rows.proofs.Standing.{corners-in, stands-alike}
 
 module _ {xs : List ℕ} {n P : ℕ} {w : List ℕ} {olds : ℕ} (p : SplitAsks xs n P w olds) where
   -- the corners of the faces
@@ -100,22 +100,12 @@ module _ {xs : List ℕ} {n P : ℕ} {w : List ℕ} {olds : ℕ} (p : SplitAsks 
         many₀ = length-points-take (blank N) P (omega (arith, length-replicate N nan))
 
         inside₀ : Inside (length (m₀ .points)) (m₀ .faces)
-        unfolding face
-        inside₀ =
-            subst (λ k. Inside k (m₀ .faces)) (sym many₀)
-            (all-from (Corners-below P) (record { a = 0; b = 0; c = 0; origin = 0 }) (facesOf ys)
-            (λ k b.
-            let l = long in
-            let f = length-faces-take xs n (p .stand .fit) in
-            let t = s .reached .rows .inside in
-            subst (Corners-below P) (sym (face-at ys k (omega arith))) (t (3 * k) (omega arith), t (3 * k + 1) (omega arith), t (3 * k + 2) (omega arith))))
+        inside₀ = subst (λ k. Inside k (m₀ .faces)) (sym many₀) (corners-in (p .stand))
 
         -- any state of these faces
         module _ (m : State) (t : Stands P xs n m) where
           alike : Alike (m .faces) (standing xs n)
-          alike =
-              let a = subst (λ l. Alike (facesOf l) (m .faces)) (t .corners) (flat-alike (m .faces)) in
-              record { long = sym (a .long); at-a = λ i. sym (a .at-a i); at-b = λ i. sym (a .at-b i); at-c = λ i. sym (a .at-c i) }
+          alike = stands-alike t
 
           number : P + (r - P) ≡ length (pass5 m .points)
           number = omega (arith, least, points-same m m₀ inside₀ (t .many ∙ sym many₀) alike, whole .number [])

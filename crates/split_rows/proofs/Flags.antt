@@ -1,16 +1,16 @@
 -- The flags of the unused points, written to a part of the work room that is lent. Assumes nothing.
 use mathlib.Core.Path.{_≡_, sym, ap, _∙_, subst}
 use mathlib.Core.Bool.{Bool, not, cond}
-use mathlib.Core.List.{List, _++_}
+use mathlib.Core.List.{List}
 use Prim.Native.Nat.{ℕ, _+_, _*_, _-_, _≤_, _<_}
 use native.Mathlib.Nat.{zero-add}
 use native.Mathlib.Omega.{arith}
 use lib.ListN.{length, getD, take, List·getD-append}
 use lib.Seq.{getD-take, getD-append-add, length-take-le}
-use Rattle.rows.specs.Region.{Only, Holds, Out, Out.below, Out.above}
-use Rattle.rows.proofs.Splicing.{lent, lent-long, back, front-back, only-back}
+use Rattle.rows.specs.Region.{Only, Out, Out.below, Out.above}
+use Rattle.rows.proofs.Splicing.{lent, lent-long, back, only-back}
 use Rattle.rules.specs.Mesh.{Face, facesOf, flatFaces}
-use Rattle.rules.specs.Pass6.{used, marked6}
+use Rattle.rules.specs.Pass6.{marked6}
 use Rattle.rules.proofs.Relabel.{Alike, flat-alike, used-alike}
 use Rattle.leaving.specs.Pass.{standing}
 use Rattle.drop_isolated_vertices.specs.Unused.{UseAsks, UseGives}

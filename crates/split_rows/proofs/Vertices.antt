@@ -3,14 +3,13 @@ use mathlib.Core.Path.{_≡_, refl, sym, ap, ap₂, _∙_}
 use mathlib.Core.List.{List, _++_}
 use Prim.Native.Nat.{ℕ, suc, _+_, _*_, _-_, _^_, _≤_, _<_}
 use native.Mathlib.Omega.{arith}
-use lib.Ieee.{Float}
 use lib.ListN.{length, getD, replicate}
 use Rattle.rows.specs.Region.{part, Out.below, Only, Only2, Filled, Apart.before, Apart.after}
 use Rattle.rows.proofs.Regions.{part-add, kept, holds-kept, only-more, only2-left, only2-right, only2-both}
 use Rattle.rules.specs.Lists.{each}
 use Rattle.rules.specs.Lists as lists
 use Rattle.rules.specs.Mesh.{Face, facesOf}
-use Rattle.splitting.specs.Corners.{cornersAt, extras, numberAt, base}
+use Rattle.splitting.specs.Corners.{cornersAt, extras, base}
 use Rattle.splitting.proofs.Goals.{base-least}
 use Rattle.corner_numbers.specs.Numbers.{EndAsks, EndGives, RunAsks, RunGives}
 use Rattle.split_bowtie_vertices.specs.Splits as splits

@@ -1,12 +1,12 @@
 -- `split_rows::sort_takers` meets its contract. Assumes nothing.
 use mathlib.Core.Path.{_≡_, sym, ap, _∙_}
 use mathlib.Core.List.{List}
-use Prim.Native.Nat.{ℕ, _+_, _*_, _≤_, _<_}
+use Prim.Native.Nat.{ℕ, _+_, _*_, _<_}
 use native.Mathlib.Nat.{zero-add}
 use native.Mathlib.Omega.{arith}
-use lib.ListN.{length, getD, take}
+use lib.ListN.{getD, take}
 use lib.Seq.{getD-take}
-use Rattle.rows.specs.Region.{Only, Filled, RowGives, Apart.before, Apart.after}
+use Rattle.rows.specs.Region.{Only, Filled, RowGives, Apart.before}
 use Rattle.rows.proofs.Regions.{kept, only-both, only-more}
 use Rattle.sorting.specs.Order.{OrderAsks, OrderGives}
 use Rattle.split_rows.specs.Rows.{TakersAsks, TakersGives}

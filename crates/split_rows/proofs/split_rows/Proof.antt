@@ -1,6 +1,5 @@
 -- `split_rows::split_rows` meets its contract. Assumes nothing.
 use mathlib.Core.Path.{sym}
-use native.Mathlib.Omega.{arith}
 use Rattle.split_rows.proofs.Ending.{long, sort-ok, all-ok, rename-ok, least, done}
 use borrow.Author.Needs.{needs}
 use Rattle.split_rows.proofs.split_rows.Statement.{statement}

@@ -2,7 +2,6 @@
 use mathlib.Core.List.{List}
 use Prim.Native.Nat.{ℕ, _+_, _*_}
 use native.Mathlib.Omega.{arith}
-use lib.ListN.{length}
 use Rattle.split_bowtie_vertices.specs.Splits.{taken}
 use Rattle.split_rows.specs.Rows.{SplitAsks, SplitGives, TakersAsks, TakersGives, FlagsAsks}
 use borrow.Author.Needs.{needs}

@@ -5,3 +5,5 @@ pub mod Lines
 pub mod Rows
 -- `Alone` has that the number of points and the corners alone decide what pass 5 splits off.
 pub mod Alone
+-- `Examples` has small meshes, computed.
+pub mod Examples

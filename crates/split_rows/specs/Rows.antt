@@ -5,6 +5,7 @@ use mathlib.Core.List.{List}
 use Prim.Native.Nat.{ℕ, suc, _+_, _*_, _-_, _^_, _≤_, _<_}
 use lib.ListN.{length, getD, take}
 use Rattle.rows.specs.Region.{part, Only, Only2, Holds}
+use Rattle.rows.specs.Retain.{upTo}
 use Rattle.rules.specs.Lists.{below, each}
 use Rattle.rules.specs.Mesh.{Face, facesOf, flatFaces}
 use Rattle.rules.specs.State.{State}
@@ -15,6 +16,8 @@ use Rattle.splitting.specs.Corners.{cornersAt, numberAt, base}
 use Rattle.split_bowtie_vertices.specs.Splits.{taken}
 use Rattle.split_bowtie_vertices.specs.Splits as splits
 use Rattle.split_laws.specs.Olds.{oldsTo, oldOf}
+use Rattle.sorting.specs.Groups.{sortedBy}
+use Rattle.sorting.specs.Sort.{keyBy}
 use Rattle.sorting.specs.Order.{OrderGives}
 use Rattle.split_rows.specs.declared.Run.{Run}
 
@@ -81,13 +84,14 @@ pub record TakersAsks (w xs : List ℕ) (n P bins sorted : ℕ) : Type 0 where
   pub second : bins + P ≤ sorted
   pub room : sorted + 3 * n ≤ length w
 
--- the corners stand at the front, and were put in order there
+-- the corners stand at the front, were put in order there, and so their numbers are sorted by what stands there now
 pub record TakersGives (w xs : List ℕ) (n P bins sorted : ℕ) (w′ : List ℕ) : Type 0 where
   pub only : Only 0 (sorted + 3 * n) w w′
   pub column : take (3 * n) w′ ≡ take (3 * n) xs
   pub before : List ℕ
   pub column-before : take (3 * n) before ≡ take (3 * n) xs
   pub ordered : OrderGives before (3 * n) 0 bins P sorted w′
+  pub sorted-are : part w′ sorted (3 * n) ≡ sortedBy (keyBy w′ 0 (3 * n)) P (upTo (3 * n))
 
 -- the corners of n faces are of the P points, and a flag for each point has room
 pub record FlagsAsks (xs : List ℕ) (n P : ℕ) (w : List ℕ) (unused : ℕ) : Type 0 where

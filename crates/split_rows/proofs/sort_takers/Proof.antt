@@ -8,6 +8,8 @@ use lib.ListN.{getD, take}
 use lib.Seq.{getD-take}
 use Rattle.rows.specs.Region.{Only, Filled, RowGives, Apart.before}
 use Rattle.rows.proofs.Regions.{kept, only-both, only-more}
+use Rattle.rows.specs.Retain.{upTo}
+use Rattle.sorting.specs.Groups.{sortedBy, keyIn}
 use Rattle.sorting.specs.Order.{OrderAsks, OrderGives}
 use Rattle.split_rows.specs.Rows.{TakersAsks, TakersGives}
 use borrow.Author.Needs.{needs}
@@ -45,12 +47,14 @@ module _ {w xs : List ℕ} {n P bins sorted : ℕ} (p : TakersAsks w xs n P bins
   done {w₃} q =
       let a = g .only .long in
       let b = o .long in
+      let stays = kept (q .only) 0 (3 * n) (before (omega (arith, p .first, p .second))) (omega (arith, p .room)) in
       record {
         only = only-both (only-more (omega arith) (omega (arith, p .first, p .second)) (g .only)) (only-both (only-more (omega arith) (omega (arith, p .second)) o) (only-more (omega arith) (omega arith) (q .only)));
-        column = kept (q .only) 0 (3 * n) (before (omega (arith, p .first, p .second))) (omega (arith, p .room)) ∙ column;
+        column = stays ∙ column;
         before = w₂;
         column-before = column;
         ordered = q;
+        sorted-are = q .sorted ∙ ap (λ l. sortedBy (keyIn l) P (upTo (3 * n))) (sym stays);
       }
 
 mul-m : tie.Need-mul-m

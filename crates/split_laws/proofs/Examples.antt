@@ -3,10 +3,10 @@ use mathlib.Core.Path.{_≡_, refl}
 use mathlib.Core.List.{List, [], _∷_, map}
 use Prim.Native.Nat.{ℕ}
 use lib.ListN.{replicate}
-use Rattle.rules.specs.Mesh.{Point, facesOf, zero64}
+use Rattle.rules.specs.Mesh.{facesOf, zero64}
 use Rattle.rules.specs.State.{State, start}
 use Rattle.rules.specs.Pass5.{pass5}
-use Rattle.rules.specs.Mending.{Line, split-point, isolated-point, lines5, lines6}
+use Rattle.rules.specs.Mending.{split-point, isolated-point, lines5, lines6}
 use Rattle.rules.specs.Open.{every-rule}
 use Rattle.splitting.specs.Corners.{cornerAt, joinedAt, cornersAt, extra, extras}
 use Rattle.split_laws.specs.Olds.{oldsTo, takersOf}

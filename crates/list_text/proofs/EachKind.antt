@@ -5,7 +5,7 @@ use mathlib.Core.List.{List, [], _∷_, _++_, append-assoc, append-nil}
 use Prim.Native.Nat.{ℕ, _+_, _%_, _≤_, _<_}
 use native.Mathlib.Omega.{arith}
 use native.Mathlib.Decide.{ℕ-discrete, decLt}
-use borrow.Author.Tests.{eq-eqb, ne-eqb, eqb-true, eqb-false, le-leb, lt-leb}
+use borrow.Author.Tests.{eq-eqb, ne-eqb, le-leb, lt-leb}
 use lib.Dec.{eqb, leb}
 use lib.ListN.{length, getD, set, length-append}
 use Rattle.bytes.specs.Put.{Puts}
@@ -15,7 +15,6 @@ use Rattle.rules.specs.Line.{bytes, digits, decimal}
 use Rattle.rules.specs.Text.{text-line}
 use Rattle.rules.specs.Mending.{Reason, Line, dropped-face, exchange, isolated-point, for-repeated, for-thin, for-duplicate, for-edge, for-direction, pass-of, word-of, line-text}
 use Rattle.rules.proofs.Lists.{each-append, each-same}
-use Rattle.rules.proofs.Digits.{decimal-short}
 use Rattle.mending_rows.specs.Told.{code, drop-told, drops-told, first-told, exchanges-told}
 use Rattle.list_text.specs.Written.{kindOf, letterOf, tailWith, tailOf, field, kindText, rowText}
 

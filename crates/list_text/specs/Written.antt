@@ -1,7 +1,7 @@
 -- The words of this crate's contracts: the lines that rows tell, as bytes, and what the functions ask of the rows. Definitions only.
 use mathlib.Core.Path.{_≡_}
 use Prim.Native.String.{String}
-use mathlib.Core.Bool.{Bool, _&&_, cond}
+use mathlib.Core.Bool.{_&&_, cond}
 use mathlib.Core.List.{List, [], _∷_, _++_, map}
 use Prim.Native.Nat.{ℕ, _+_, _-_, _*_, _/_, _%_, _≤_, _<_}
 use lib.Dec.{eqb, leb}
@@ -72,9 +72,13 @@ field n = 9 ∷ decimal n
 abbrev pub kindText : ℕ → ℕ → List ℕ
 kindText kind n = cond (eqb kind 0) [] ((letterOf kind ∷ field n) ++ tailOf kind)
 
+-- the line that entry i of the row tells
+abbrev pub lineAt : List ℕ → ℕ → ℕ → ℕ → ℕ → List ℕ
+lineAt w row first last i = kindText (kindOf (getD w (row + i) 0) first last) i
+
 -- the lines that the n entries from `row` on tell
 abbrev pub rowText : List ℕ → ℕ → ℕ → ℕ → ℕ → List ℕ
-rowText w row n first last = each (λ i. kindText (kindOf (getD w (row + i) 0) first last) i) (below n)
+rowText w row n first last = each (lineAt w row first last) (below n)
 
 -- a row that stands in the room, of at most as many entries as there may be points at the end
 pub record RowAsks (w : List ℕ) (row n : ℕ) : Type 0 where
@@ -119,6 +123,7 @@ fieldsOf origins last ids = each (λ i. field (getD origins i 0)) (once last ids
 abbrev pub runText : List ℕ → List ℕ → Rows → ℕ → ℕ → List ℕ
 runText w origins rows from to = fieldsOf origins (rows .left) (part w (rows .sorted + from) (to - from))
 
+-- those are some of the corners, and each face has an origin
 pub record RunAsks (w origins : List ℕ) (rows : Rows) (from to : ℕ) : Type 0 where
   pub sorted : Sorted w rows
   pub origins-fit : rows .left ≤ length origins
@@ -130,6 +135,7 @@ abbrev pub splitText : List ℕ → List ℕ → Rows → ℕ → ℕ → ℕ �
 splitText w origins rows j from to =
     115 ∷ (field (getD w (rows .olds + j) 0) ++ (field (rows .points + j) ++ (runText w origins rows from to ++ (10 ∷ []))))
 
+-- the j-th of the splits, the old points in the room, and the corners at the new one
 pub record SplitAsks (w origins : List ℕ) (rows : Rows) (j from to : ℕ) : Type 0 where
   pub run : RunAsks w origins rows from to
   pub here : j < rows .splits
@@ -140,6 +146,7 @@ pub record SplitAsks (w origins : List ℕ) (rows : Rows) (j from to : ℕ) : Ty
 abbrev pub splitsText : List ℕ → List ℕ → Rows → List ℕ
 splitsText w origins rows = each line-text (splits-told (rows .points) (fatesOf w origins rows))
 
+-- the sorted corners, the origins, and the old points in the room
 pub record SplitsAsk (w origins : List ℕ) (rows : Rows) : Type 0 where
   pub sorted : Sorted w rows
   pub origins-fit : rows .left ≤ length origins

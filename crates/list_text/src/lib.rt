@@ -1,8 +1,7 @@
 // The text of a mending list, from rows that tell what becomes of each face and point: its length, found without writing, and its bytes.
 ghost use mathlib.Core.Path.{_≡_};
-ghost use mathlib.Core.List.{_∷_, _++_};
 ghost use Prim.Native.Nat.{_+_, _*_, _≤_, _<_};
-ghost use lib.ListN.{length, getD};
+ghost use lib.ListN.{length};
 ghost use Rattle.bytes.specs.Put.{Puts};
 ghost use Rattle.rules.specs.Line.{decimal};
 ghost use Rattle.list_text.specs.Written as by;

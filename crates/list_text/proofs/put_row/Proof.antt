@@ -1,18 +1,12 @@
 -- `list_text::put_row` meets its contract: the lines of the entries before i are put. Assumes nothing.
-use mathlib.Core.Path.{_≡_, sym, subst}
-use mathlib.Core.List.{List}
-use Prim.Native.Nat.{ℕ, _+_, _-_, _≤_, _<_}
+use mathlib.Core.Path.{sym, subst}
+use Prim.Native.Nat.{ℕ, _+_, _-_, _≤_}
 use native.Mathlib.Omega.{arith}
-use lib.ListN.{length, getD}
-use Rattle.bytes.specs.Put.{Puts}
-use Rattle.list_text.specs.Written.{kindOf, kindText}
+use lib.ListN.{length}
+use Rattle.list_text.specs.Written.{kindText, lineAt}
 use Rattle.list_text.proofs.Onward.{Rowed, row-begin, row-room, row-on, row-done}
 use Rattle.list_text.proofs.put_row.Statement.{statement}
 use Rattle.list_text.proofs.put_row.Tie as tie
-
--- the line of entry i
-abbrev lineAt : List ℕ → ℕ → ℕ → ℕ → ℕ → List ℕ
-lineAt w row first last i = kindText (kindOf (getD w (row + i) 0) first last) i
 
 abbrev Inv-loop : tie.InvT-loop
 Inv-loop text₀ at work row n first last next₀ i₀ text next i = Rowed (lineAt work row first last) n text₀ at text next i

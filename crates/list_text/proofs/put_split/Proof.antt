@@ -1,6 +1,6 @@
 -- `list_text::put_split` meets its contract: letter, two numbers, the faces and the newline. Assumes nothing.
 use native.Mathlib.Omega.{arith}
-use Rattle.list_text.proofs.Splits.{old-room, new-room, run-room, end-room, split-done}
+use Rattle.list_text.proofs.OneSplit.{old-room, new-room, run-room, end-room, split-done}
 use borrow.Author.Needs.{needs}
 use Rattle.list_text.proofs.put_split.Statement.{statement}
 use Rattle.list_text.proofs.put_split.Tie as tie

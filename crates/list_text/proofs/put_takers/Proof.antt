@@ -1,7 +1,7 @@
 -- `list_text::put_takers` meets its contract: the fields at the corners before q are put. Assumes nothing.
 use Prim.Native.Nat.{_-_}
 use native.Mathlib.Omega.{arith}
-use Rattle.list_text.proofs.Splits.{corner-at, Taken, take-begin, take-room, take-on, take-done}
+use Rattle.list_text.proofs.Takers.{corner-at, Taken, take-begin, take-room, take-on, take-done}
 use Rattle.list_text.proofs.put_takers.Statement.{statement}
 use Rattle.list_text.proofs.put_takers.Tie as tie
 

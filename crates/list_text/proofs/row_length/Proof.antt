@@ -1,17 +1,13 @@
 -- `list_text::row_length` meets its contract: the lengths of the lines of the entries before i are summed. Assumes nothing.
-use mathlib.Core.Path.{_≡_, ap, _∙_}
+use mathlib.Core.Path.{ap, _∙_}
 use mathlib.Core.List.{List}
-use Prim.Native.Nat.{ℕ, _+_, _-_, _*_, _≤_, _<_}
+use Prim.Native.Nat.{ℕ, _-_, _*_, _≤_}
 use native.Mathlib.Omega.{arith}
-use lib.ListN.{length, getD}
-use Rattle.list_text.specs.Written.{kindOf, kindText}
+use lib.ListN.{length}
+use Rattle.list_text.specs.Written.{kindText, lineAt}
 use Rattle.list_text.proofs.Onward.{Summed, sum-begin, sum-on, sum-done}
 use Rattle.list_text.proofs.row_length.Statement.{statement}
 use Rattle.list_text.proofs.row_length.Tie as tie
-
--- the line of entry i
-abbrev lineAt : List ℕ → ℕ → ℕ → ℕ → ℕ → List ℕ
-lineAt w row first last i = kindText (kindOf (getD w (row + i) 0) first last) i
 
 record Inv (w : List ℕ) (row n first last total i : ℕ) : Type 0 where
   summed : Summed (lineAt w row first last) n total i

@@ -1,7 +1,7 @@
 -- `list_text::takers_length` meets its contract: the lengths of the fields at the corners before q are summed. Assumes nothing.
 use Prim.Native.Nat.{_-_}
 use native.Mathlib.Omega.{arith}
-use Rattle.list_text.proofs.Splits.{corner-at, Measured, measure-begin, measure-on, measure-done}
+use Rattle.list_text.proofs.Takers.{corner-at, Measured, measure-begin, measure-on, measure-done}
 use Rattle.list_text.proofs.takers_length.Statement.{statement}
 use Rattle.list_text.proofs.takers_length.Tie as tie
 

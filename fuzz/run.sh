@@ -1,5 +1,5 @@
 #!/usr/bin/env bash
-# Builds a fuzz target with libFuzzer and the address sanitizer and runs it: bash fuzz/run.sh calls|text SECONDS [WORDS for libFuzzer...]
+# Builds a fuzz target with libFuzzer and the address sanitizer and runs it: bash fuzz/run.sh calls|text|lists SECONDS [WORDS for libFuzzer...]
 # What it finds worth keeping stands in target/fuzz/NAME.corpus; an input that fails, in target/fuzz. It wants clang with its run-time library (Debian:
 # clang, libclang-rt-14-dev). The sanitizer watches the C side; the library's steps beyond a room are seen by the pages around each room.
 set -eu
@@ -23,8 +23,13 @@ case $name in
         clang "${flags[@]}" -DBLOCKS_ANCHOR=$anchor -o "$folder/text" fuzz/{text,blocks}.c "$code" "$folder/libshell.a"
         words=(-max_len=8300 "-dict=$PWD/fuzz/text.words")
         ;;
+    lists)
+        code=$folder/libshell.a anchor=shell_apply
+        clang "${flags[@]}" -Ihost -DBLOCKS_ANCHOR=$anchor -o "$folder/lists" fuzz/{lists,mending,uses,lend,blocks}.c host/lists.c "$code" -lm
+        words=(-max_len=400 "-dict=$PWD/fuzz/lists.words")
+        ;;
     *)
-        echo "usage: bash fuzz/run.sh calls|text SECONDS [WORDS...]"
+        echo "usage: bash fuzz/run.sh calls|text|lists SECONDS [WORDS...]"
         exit 2
         ;;
 esac

@@ -2,10 +2,12 @@
  * all six options each mesh must be what is proved of it: the check says yes, the edge call and the loop call accept, each boundary edge stands in exactly one
  * loop, each directed edge is walked at most once, every point is used and has one fan, as many faces as repeat a corner are counted so, and the counts add up;
  * and after it and after repairs with other options, the origins rise strictly, one for each face, and each names an input face that has its corners in the
- * same places, bit by bit, at most the last two exchanged. Before the repair the check must say yes exactly if no face repeats a corner, each directed edge is
- * walked at most once and each point that is used has one fan, and where it says yes the edge call and the loop call must accept; the edge call must accept
- * whatever the loop call accepts or refuses for its boundary, and refuse the same where an edge is crowded. Before and after it the mesh is read from the PLY
- * file that it is written to with the same bits. The first mesh that differs is printed. */
+ * same places, bit by bit, at most the last two exchanged. The mending list that the documents say of each of these repairs (fuzz/mending.c) gives, applied to
+ * the mesh, what the repair gave, bit by bit. Before the repair the check must say yes exactly if no face repeats a corner, each directed edge is walked at
+ * most once and each point that is used has one fan, and where it says yes the edge call and the loop call must accept; the edge call must accept whatever the
+ * loop call accepts or refuses for its boundary, and refuse the same where an edge is crowded. Before and after it the mesh is read from the PLY file that it
+ * is written to with the same bits. The first mesh that differs is printed. */
+#include "mending.h"
 #include "shell.h"
 #include <stdio.h>
 #include <stdlib.h>
@@ -205,9 +207,10 @@ static void free_edges(Rooms *r) {
 
 /* What all meshes together had: those that are sound before the repair, those that are not for the fans at a point alone, and those whose edges are listed
  * though their loops are refused; boundary edges and loops after the repair, and degenerate faces of both kinds before it; bytes of PLY files; faces that are
- * traced by their origins, those of them that have another place in the output, and those that stand there with their corners exchanged. */
+ * traced by their origins, those of them that have another place in the output, and those that stand there with their corners exchanged; bytes of mending
+ * lists. */
 typedef struct {
-    uint64_t sound, tied, listed, boundary, loops, repeated, thin, bytes, traced, moved, turned;
+    uint64_t sound, tied, listed, boundary, loops, repeated, thin, bytes, traced, moved, turned, lists;
 } Sums;
 
 /* Whether a PLY file is counted and read as this mesh, in rooms that are just large enough. */
@@ -448,10 +451,36 @@ static void free_rooms(Rooms *r) {
     free(r->work);
 }
 
+/* Applies the mending list of a repair with these options, in rooms that are just large enough, and says how that is not what the repair gave, or NULL. */
+static const char *not_by_list(const Mesh *m, const Rooms *r, uint32_t options, Sums *sums) {
+    size_t P = m->P, F = m->F;
+    Text list = mending_list(m->points, P, m->faces, F, m->s, options);
+    double *points = room(SHELL_POINTS_ROOM(P, F), 8);
+    uint32_t *faces = room(SHELL_FACES_ROOM(F), 4), *work = room(SHELL_WORK_ROOM(P, F), 4);
+    ShellApplied a = shell_apply(m->points, 3 * P, m->faces, 3 * F, list.bytes, list.length, points, SHELL_POINTS_ROOM(P, F), faces, SHELL_FACES_ROOM(F), work,
+                                 SHELL_WORK_ROOM(P, F));
+    const char *found = NULL;
+    if (a.number != SHELL_ACCEPTED)
+        found = "the list of the repair does not apply";
+    else if (a.points != r->repaired.points || a.faces != r->repaired.faces || memcmp(points, r->points, SHELL_POINTS_ROOM(P, F) * 8) != 0 ||
+             memcmp(faces, r->faces, SHELL_FACES_ROOM(F) * 4) != 0)
+        found = "the list of the repair gives another mesh";
+    else if (list.length > SHELL_LIST_ROOM(P, F))
+        found = "the list of the repair is longer than the room for any list";
+    sums->lists += list.length;
+    free(list.bytes);
+    free(points);
+    free(faces);
+    free(work);
+    return found;
+}
+
 /* Repairs the mesh, and says what differs after it. */
 static const char *chain(const Mesh *m, Sums *sums) {
     Rooms r = repair(m, SHELL_ALL_OPTIONS);
     const char *found = fault(m, &r, sums);
+    if (found == NULL)
+        found = not_by_list(m, &r, SHELL_ALL_OPTIONS, sums);
     sums->loops += r.loops.loop_ends;
     sums->repeated += r.report[SHELL_REPEATED_REMOVED];
     sums->thin += r.report[SHELL_THIN_REMOVED];
@@ -476,6 +505,8 @@ static const char *otherwise(const Mesh *m, uint32_t some, Sums *sums) {
         const char *found = r.repaired.number == SHELL_ACCEPTED ? untraced(m, &r, options[k], sums) : "the repair refuses";
         if (found == NULL && k == 1 && !all_there(m, &r))
             found = "a face leaves though no pass drops one";
+        if (found == NULL)
+            found = not_by_list(m, &r, options[k], sums);
         free_rooms(&r);
         if (found != NULL) {
             printf("chain: with options %u\n", options[k]);
@@ -491,7 +522,7 @@ int main(int count, char **names) {
         return 2;
     }
     unsigned long meshes = strtoul(names[1], NULL, 10);
-    Sums sums = {0, 0, 0, 0, 0, 0, 0, 0, 0, 0, 0};
+    Sums sums = {0, 0, 0, 0, 0, 0, 0, 0, 0, 0, 0, 0};
     for (unsigned long k = 0; k < meshes; k++) {
         Mesh m = k < PLAIN ? plain(k) : damaged();
         const char *found = chain(&m, &sums);
@@ -509,9 +540,10 @@ int main(int count, char **names) {
     }
     printf("chain: %lu meshes, %lu of them sound before the repair, %lu not sound for the fans at a point alone, %lu with edges but no loops; it removes %lu "
            "faces that repeat a corner and %lu thin ones; after it %lu boundary edges in %lu loops; %lu bytes of PLY files there and back; with these and "
-           "other options %lu faces traced by their origins, %lu of them in another place of the list, %lu with corners exchanged\n",
+           "other options %lu faces traced by their origins, %lu of them in another place of the list, %lu with corners exchanged, and %lu bytes of mending "
+           "lists applied\n",
            meshes, (unsigned long)sums.sound, (unsigned long)sums.tied, (unsigned long)sums.listed, (unsigned long)sums.repeated, (unsigned long)sums.thin,
            (unsigned long)sums.boundary, (unsigned long)sums.loops, (unsigned long)sums.bytes, (unsigned long)sums.traced, (unsigned long)sums.moved,
-           (unsigned long)sums.turned);
+           (unsigned long)sums.turned, (unsigned long)sums.lists);
     return 0;
 }

@@ -1,13 +1,14 @@
 /* The panel builder's way to call the library: mend a shell, say what was done and which face of the scan its last face is, check it, list its edges and its
- * boundary, write it as a PLY file for the layout program and read it back, and sort its patches. Shells that are not mended are checked too, and their edges
- * listed: of one the loops are refused, and of one, two bodies that share a tip, only the check says that it is not sound. */
+ * boundary, write it as a PLY file for the layout program and read it back, mend one by a list that a technician went through, and sort its patches. Shells
+ * that are not mended are checked too, and their edges listed: of one the loops are refused, and of one, two bodies that share a tip, only the check says that
+ * it is not sound. */
 #include "shell.h"
 #include <stdio.h>
 #include <string.h>
 
 /* The calls, their rooms and the places of a report are those of the header's edition. */
-#if SHELL_VERSION != 7
-#error "written for edition 7 of shell.h"
+#if SHELL_VERSION != 8
+#error "written for edition 8 of shell.h"
 #endif
 
 /* Rooms for shells of up to 7 points and 8 faces. A repair may add 3 points a face, so the calls after it want a work room for that many. */
@@ -122,6 +123,22 @@ static int mend(const char *name, const double *points, size_t points_len, const
            there_and_back(mended, repaired.points, triples, repaired.faces);
 }
 
+/* A shell mended by a list: a line for each change, some of which may have been struck. Which line does not apply is told, from 0. */
+static int apply(const char *what, const char *list, const double *points, size_t points_len, const uint32_t *faces, size_t faces_len) {
+    ShellApplied applied = shell_apply(points, points_len, faces, faces_len, (const uint8_t *)list, strlen(list), ROOM(mended), ROOM(triples), ROOM(work));
+    if (applied.number == SHELL_BAD_LIST) {
+        printf("%s: line %u does not apply\n", what, applied.place);
+        return 0;
+    }
+    if (applied.number != SHELL_ACCEPTED)
+        return refused("apply", applied.number, applied.place);
+    printf("%s: %u points, %u faces\n  faces", what, (unsigned)applied.points / 3, (unsigned)applied.faces / 3);
+    for (size_t i = 0; i < applied.faces; i++)
+        printf("%s %u", i % 3 == 0 && i > 0 ? "," : "", triples[i]);
+    printf("\n");
+    return 0;
+}
+
 /* Two patches of two faces, a square of side 1 and one of side 3: which of them is the part, by area? */
 static int patches(void) {
     const double points[] = {0, 0, 0, 1, 0, 0, 1, 1, 0, 0, 1, 0, 5, 0, 0, 8, 0, 0, 8, 3, 0, 5, 3, 0};
@@ -146,5 +163,8 @@ int main(void) {
                    hourglass[] = {0, 2, 1, 0, 1, 3, 1, 2, 3, 2, 0, 3, 0, 4, 5, 0, 6, 4, 4, 6, 5, 5, 6, 0};
     return mend("bowtie", ROOM(cross), ROOM(bowtie)) || mend("three faces on an edge", ROOM(legs), ROOM(crowded)) ||
            mend("Moebius strip", ROOM(cube), ROOM(moebius)) || mend("crumbs", ROOM(row), ROOM(crumbs)) || measure("bowtie", ROOM(cross), ROOM(bowtie)) ||
-           measure("hourglass", ROOM(tips), ROOM(hourglass)) || mend("hourglass", ROOM(tips), ROOM(hourglass)) || patches();
+           measure("hourglass", ROOM(tips), ROOM(hourglass)) || mend("hourglass", ROOM(tips), ROOM(hourglass)) ||
+           apply("three faces on an edge, by a list", "d\t2\t3\tedge\no\t1\nu\t4\n", ROOM(legs), ROOM(crowded)) ||
+           apply("with one line struck", "d\t2\t3\tedge\nu\t4\n", ROOM(legs), ROOM(crowded)) ||
+           apply("with another struck", "o\t1\nu\t4\n", ROOM(legs), ROOM(crowded)) || patches();
 }

@@ -21,32 +21,34 @@ extern "C" {
 #endif
 
 /* The edition of this header: a higher number where a call, a room, a report or the meaning of an answer is another, or a call is new, so that a program can
- * tell whether it was written for it. In edition 7 shell_repair has a further room, for origins, between report and work, and tells how many stand there: a
- * short work room is SHELL_SHORT_ROOM at place 4, and was at place 3. An object file that was compiled against an earlier edition must not be linked where it
- * calls shell_repair: it hands over other rooms, and takes another answer. Every other call is as in edition 6. There the edge check says no to more meshes
- * than in edition 5: to those too in which the faces at a point form several groups. Edition 5 has the three calls for PLY files and refusals 13 and 14 beside
- * what edition 3 has; there is no edition 4. So an object file that was compiled against edition 3, 5 or 6 may be linked where it does not call shell_repair.
- * In edition 3 shell_edges lists the edges and shell_loops the boundary loops, each in rooms of its own; in edition 2 shell_edges has the rooms and the answers
- * of both. A report has eleven counts in each; where no edition is defined it has ten, and a program for those that lends ten is refused, SHELL_SHORT_ROOM at
- * place 2. An object file that was compiled against edition 2 or none must not be linked. */
-#define SHELL_VERSION 7
+ * tell whether it was written for it. Edition 8 has one call more, shell_apply, and refusal 15; every other call is as in edition 7. In edition 7 shell_repair
+ * has a further room, for origins, between report and work, and tells how many stand there: a short work room is SHELL_SHORT_ROOM at place 4, and was at place
+ * 3. An object file that was compiled against an edition before that must not be linked where it calls shell_repair: it hands over other rooms, and takes
+ * another answer. The others are as in edition 6. There the edge check says no to more meshes than in edition 5: to those too in which the faces at a point
+ * form several groups. Edition 5 has the three calls for PLY files and refusals 13 and 14 beside what edition 3 has; there is no edition 4. So an object file
+ * that was compiled against edition 7 may be linked, and one against edition 3, 5 or 6 where it does not call shell_repair. In edition 3 shell_edges lists the
+ * edges and shell_loops the boundary loops, each in rooms of its own; in edition 2 shell_edges has the rooms and the answers of both. A report has eleven
+ * counts in each; where no edition is defined it has ten, and a program for those that lends ten is refused, SHELL_SHORT_ROOM at place 2. An object file that
+ * was compiled against edition 2 or none must not be linked. */
+#define SHELL_VERSION 8
 
 /* The numbers a call may give back, and what `place` then is. */
 enum {
     SHELL_ACCEPTED = 0,
-    SHELL_BAD_LENGTH = 1,   /* points or faces no multiple of 3, or not eleven counts: 0 points, 1 faces, 2 counts */
-    SHELL_TOO_LARGE = 2,    /* points, faces or patches: 0, 1, 2 */
-    SHELL_BAD_SETTING = 3,  /* threshold or options: 0, 1 */
-    SHELL_BAD_POINT = 4,    /* a coordinate outside its domain: the first such point; of an STL file, the first such corner, counted through the file */
-    SHELL_BAD_CORNER = 5,   /* a corner that is no point, in a PLY file a negative one too: the first such face */
-    SHELL_SHORT_ROOM = 6,   /* a room too short: its place in the call's list of rooms, from 0 */
-    SHELL_CROWDED_EDGE = 7, /* edge call and loop call: an edge that occurs more than twice: the position of the first such among the sorted unique edges */
-    SHELL_BAD_BOUNDARY = 8, /* loop call alone: the boundary is not simple: the lowest vertex at fault */
-    SHELL_BAD_LABEL = 9,    /* a label that is neither SHELL_NO_PATCH nor a patch: the first such face */
-    SHELL_LABEL_COUNT = 10, /* as many labels as faces are wanted: 0 */
-    SHELL_BAD_FILE = 12,    /* an STL file whose length is not 84 plus 50 times its count: 0 */
-    SHELL_BAD_PLY = 13,     /* a PLY file whose header is not of the one form, or whose body is not 24 bytes a vertex and 13 a face: 0 */
-    SHELL_NOT_A_TRIPLE = 14 /* a face of a PLY file that does not count three corners: the first such face */
+    SHELL_BAD_LENGTH = 1,    /* points or faces no multiple of 3, or not eleven counts: 0 points, 1 faces, 2 counts */
+    SHELL_TOO_LARGE = 2,     /* points, faces or patches: 0, 1, 2 */
+    SHELL_BAD_SETTING = 3,   /* threshold or options: 0, 1 */
+    SHELL_BAD_POINT = 4,     /* a coordinate outside its domain: the first such point; of an STL file, the first such corner, counted through the file */
+    SHELL_BAD_CORNER = 5,    /* a corner that is no point, in a PLY file a negative one too: the first such face */
+    SHELL_SHORT_ROOM = 6,    /* a room too short: its place in the call's list of rooms, from 0 */
+    SHELL_CROWDED_EDGE = 7,  /* edge call and loop call: an edge that occurs more than twice: the position of the first such among the sorted unique edges */
+    SHELL_BAD_BOUNDARY = 8,  /* loop call alone: the boundary is not simple: the lowest vertex at fault */
+    SHELL_BAD_LABEL = 9,     /* a label that is neither SHELL_NO_PATCH nor a patch: the first such face */
+    SHELL_LABEL_COUNT = 10,  /* as many labels as faces are wanted: 0 */
+    SHELL_BAD_FILE = 12,     /* an STL file whose length is not 84 plus 50 times its count: 0 */
+    SHELL_BAD_PLY = 13,      /* a PLY file whose header is not of the one form, or whose body is not 24 bytes a vertex and 13 a face: 0 */
+    SHELL_NOT_A_TRIPLE = 14, /* a face of a PLY file that does not count three corners: the first such face */
+    SHELL_BAD_LIST = 15      /* a mending list that does not apply: its first bad line, from 0 */
 };
 
 /* The largest sizes, and the label of a face in no patch. */
@@ -85,6 +87,9 @@ enum {
 /* Bytes that are enough for the PLY file of P points and F faces. The file itself has 170, the digits of both counts, 24 a point and 13 a face: at most 12 less
  * than this. */
 #define SHELL_PLY_FILE_ROOM(P, F) (184 + 24 * (size_t)(P) + 13 * (size_t)(F))
+
+/* Bytes that are enough for the mending list of any repair of P points and F faces. */
+#define SHELL_LIST_ROOM(P, F) (10 * (size_t)(P) + 118 * (size_t)(F))
 
 /* The options of a repair, added up. The passes run in this order, except that orient_consistently runs before split_bowtie_vertices. */
 enum {
@@ -256,6 +261,32 @@ typedef struct {
 
 ShellPlyFile shell_write_ply(const double *points, size_t points_len, const uint32_t *faces, size_t faces_len, uint8_t *file, size_t file_len, uint32_t *work,
                              size_t work_len);
+
+/* A mending list says what was done to a shell, one line a change; `text` is its bytes. The fields of a line are parted by one tab (byte 9), and every line,
+ * the last one too, is ended by one newline (byte 10); numbers are plain decimal ones of 32 bits without leading zeros. The empty text is a list of no lines.
+ *
+ *     d FACE PASS REASON         the face is dropped; pass and reason are 1 repeated, 1 thin, 2 duplicate, 3 edge or 4 direction
+ *     o FACE                     corners 1 and 2 of the face are exchanged
+ *     s OLD NEW FACE..           a copy of point OLD becomes point NEW, and takes its place in these faces, which rise, each named once; perhaps none
+ *     u POINT                    the point is isolated, and leaves
+ *
+ * A face is named by its number in the input, also behind faces that were dropped; a point by the number that it has then: new points are P, P + 1 and so on,
+ * and points that leave do so together, behind the last line. Lines follow the passes: d of pass 1, of pass 2, of pass 3, then o, d of pass 4, s, u; among
+ * those of one kind the first number rises strictly, among s lines the first and then the second.
+ *
+ * Applies a mending list to points and faces, and gives the mended points and faces: of the list of a repair what the repair gives, bit by bit. `points` and
+ * `faces` are entries. A list from which lines were struck may be applied too. A line is bad where its form or its order is wrong, or it names a face that is
+ * absent or was dropped by a line before it, an old point that is not below P, a new point that is not the next, a face that does not have the old point then,
+ * or a `u` point that is absent or used; and an s line is bad behind 3F of them. Whether a reason is true is not asked. It refuses, in this order:
+ * SHELL_BAD_LENGTH, SHELL_TOO_LARGE, SHELL_BAD_POINT, SHELL_BAD_CORNER, SHELL_BAD_LIST at the first bad line, and only then SHELL_SHORT_ROOM: a bad list is
+ * told without any room. Rooms, in this order: SHELL_POINTS_ROOM(P, F), SHELL_FACES_ROOM(F), SHELL_WORK_ROOM(P, F). */
+typedef struct {
+    uint32_t number, place;
+    uint64_t points, faces;
+} ShellApplied;
+
+ShellApplied shell_apply(const double *points, size_t points_len, const uint32_t *faces, size_t faces_len, const uint8_t *text, size_t text_len,
+                         double *out_points, size_t out_points_len, uint32_t *out_faces, size_t out_faces_len, uint32_t *work, size_t work_len);
 
 #ifdef __cplusplus
 }

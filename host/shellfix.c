@@ -1,4 +1,5 @@
 /* Mends a shell from the mould shop or the layout program: shellfix [-s THRESHOLD] [-o OUT.ply] [-f FILE] IN
+ * Or mends it by a list: shellfix -a LIST [-w] [-o OUT.ply] IN
  * Or checks it as it is: shellfix -c IN
  *
  * Reads a binary STL file, or a PLY file of the form that shell.h tells, repairs it with all options, checks it, and prints what was mended and how many edges
@@ -10,10 +11,16 @@
  * refusal, or for a shell that the check does not pass, and then nothing is written; 2 if the words or the threshold are not understood, a file cannot be read
  * or written, or memory runs out.
  *
+ * With -a the shell is mended by the mending list in the file LIST, in the form that shell.h tells, and not by the repair: so lines that a technician struck
+ * are not applied. How many lines of each kind were applied is told, with -w each line as a sentence too. A list that does not apply is refused, with its
+ * first bad line and what is wrong with it. The shell that comes out may not be sound: then what is wrong is told as with -c, it is written all the same, and
+ * the exit status is 3.
+ *
  * With -c nothing is mended. Where the check says no, what is wrong is told in words: faces that repeat a corner, directed edges that are walked more than
  * once, points where several surfaces touch; of each kind how many there are, and where the first is. The exit status is then 3. */
 #define _XOPEN_SOURCE 700
 #include "faults.h"
+#include "lists.h"
 #include "shell.h"
 #include <ctype.h>
 #include <errno.h>
@@ -57,6 +64,8 @@ static const char *words(uint32_t number) {
         return "not a PLY file of the form that is read";
     case SHELL_NOT_A_TRIPLE:
         return "a face has not three corners; the first such face";
+    case SHELL_BAD_LIST:
+        return "the list does not apply; its first bad line, from 0";
     default:
         return "refused";
     }
@@ -117,12 +126,12 @@ static void stage(const Mesh *mesh, const char *what) {
         fprintf(stderr, "shellfix: %s %zu points, %zu faces\n", what, mesh->point_count, mesh->face_count);
 }
 
-/* Prints bytes between quotes, those that have no sign of their own as \xNN; of many the first. */
+/* Prints bytes between quotes, a tab as \t and others that have no sign of their own as \xNN; of many the first. */
 static void print_bytes(const uint8_t *bytes, size_t length) {
     const size_t most = 60;
     putchar('\'');
     for (size_t i = 0; i < length && i < most; i++)
-        printf(isprint(bytes[i]) && bytes[i] != '\\' ? "%c" : "\\x%02x", bytes[i]);
+        printf(bytes[i] == '\t' ? "\\t" : isprint(bytes[i]) && bytes[i] != '\\' ? "%c" : "\\x%02x", bytes[i]);
     printf(length > most ? "...'" : "'");
 }
 
@@ -497,12 +506,12 @@ static int judge(const Mesh *mesh) {
     return status;
 }
 
-/* What the words ask for: a file to read, a threshold as it is written and as a number, whether the shell is only checked, and whether only help is wanted. The
- * files to write are in `outputs`. */
+/* What the words ask for: a file to read, a threshold as it is written and as a number, a list to mend by, whether its lines are told as sentences, whether the
+ * shell is only checked, and whether only help is wanted. The files to write are in `outputs`. */
 typedef struct {
-    const char *name, *threshold;
+    const char *name, *threshold, *list;
     double s;
-    int check, help;
+    int words, check, help;
 } Asked;
 
 /* Mends a mesh, describes what came out, and writes what is asked for; the exit status. */
@@ -518,13 +527,117 @@ static int mend_mesh(const Mesh *mesh, const Asked *asked) {
     return good ? SOUND : REFUSED;
 }
 
-/* Reads the mesh of a file, and mends it or only checks it; the exit status. */
-static int take_file(const uint8_t *file, size_t length, const Asked *asked) {
+/* A list in memory. */
+typedef struct {
+    uint8_t *bytes;
+    size_t length;
+} Bytes;
+
+/* How many lines a list has; bytes behind its last newline are one too. */
+static size_t count_lines(const Bytes *text) {
+    size_t count = text->length > 0 && text->bytes[text->length - 1] != '\n';
+    for (size_t i = 0; i < text->length; i++)
+        count += text->bytes[i] == '\n';
+    return count;
+}
+
+/* Goes through the lines of a list up to the first bad one, and tells them as sentences if that is wanted; how many there are of each kind. */
+static void go_through(List *list, int sentences, size_t kinds[LINE_KINDS]) {
+    while (next_line(list)) {
+        kinds[list->kind]++;
+        if (sentences)
+            print_sentence(list);
+    }
+    if (list->wrong == NOTHING_WRONG && list->at < list->text_length) {
+        fprintf(stderr, "shellfix: no memory to go through the list\n");
+        exit(TROUBLE);
+    }
+}
+
+/* How many lines of each kind were applied. */
+static void print_kinds(const size_t kinds[LINE_KINDS]) {
+    static const char *const labels[LINE_KINDS] = {"faces dropped that repeat a corner", "thin faces dropped", "duplicate faces dropped",
+                                                   "faces dropped at crowded edges",     "faces turned over",  "faces dropped for their direction",
+                                                   "points split off",                   "isolated points dropped"};
+    const char *before = "applied: ";
+    for (int k = 0; k < LINE_KINDS; k++)
+        if (kinds[k] > 0) {
+            printf("%s%zu %s", before, kinds[k], labels[k]);
+            before = ", ";
+        }
+    printf(before[0] == ',' ? "\n" : "applied: nothing\n");
+}
+
+/* Says why a list does not apply: its first bad line, and what is wrong with it. */
+static void tell_bad_line(const List *list, uint32_t place) {
+    if (list->wrong == NOTHING_WRONG || list->number != place) {
+        printf("the library does not apply the list, and shellfix finds nothing wrong with that line: one of them has a fault\n");
+        return;
+    }
+    printf("line %u of the list, from 0, is ", place);
+    print_bytes(list->line, list->line_length);
+    printf(": ");
+    print_wrong(list);
+}
+
+/* The mesh that a list makes of a mesh; if the list does not apply, says why. */
+static int apply(const Mesh *mesh, const Bytes *text, int sentences, Mesh *applied) {
+    size_t p = mesh->point_count, f = mesh->face_count, kinds[LINE_KINDS] = {0};
+    double *points = room(SHELL_POINTS_ROOM(p, f), sizeof *points);
+    uint32_t *faces = room(SHELL_FACES_ROOM(f), sizeof *faces), *work = room(SHELL_WORK_ROOM(p, f), sizeof *work);
+    List list;
+    if (!open_list(&list, text->bytes, text->length, mesh->faces, f, p)) {
+        fprintf(stderr, "shellfix: no memory to go through the list\n");
+        exit(TROUBLE);
+    }
+    printf("list: %zu lines\n", count_lines(text));
+    go_through(&list, sentences, kinds);
+    ShellApplied found = shell_apply(mesh->points, 3 * p, mesh->faces, 3 * f, text->bytes, text->length, points, SHELL_POINTS_ROOM(p, f), faces,
+                                     SHELL_FACES_ROOM(f), work, SHELL_WORK_ROOM(p, f));
+    *applied = (Mesh){points, faces, found.points / 3, found.faces / 3, mesh->large};
+    int good = accepted("apply", found.number, found.place);
+    if (good)
+        print_kinds(kinds);
+    else if (found.number == SHELL_BAD_LIST)
+        tell_bad_line(&list, found.place);
+    close_list(&list);
+    free(work);
+    return good;
+}
+
+/* What is said of a mesh that was mended by a list: whether it is sound, and if not what is wrong, and the counts of edges and loops; the exit status. */
+static int describe_applied(const Mesh *mesh) {
+    size_t work_length = SHELL_WORK_ROOM(mesh->point_count, mesh->face_count);
+    uint32_t *work = room(work_length, sizeof *work);
+    printf("mended: %zu points, %zu faces\n", mesh->point_count, mesh->face_count);
+    int status = judge(mesh);
+    stage(mesh, "listing the edges and loops of");
+    if (status != REFUSED && !count_edges(mesh, work, work_length) && status == SOUND)
+        status = REFUSED;
+    free(work);
+    return status;
+}
+
+/* Mends a mesh by a list, describes what came out, and writes it if that is asked for; the exit status. */
+static int apply_list(const Mesh *mesh, const Bytes *text, const Asked *asked) {
+    Mended mended = {.report = {0}, .origins = NULL};
+    stage(mesh, "applying the list to");
+    int status = apply(mesh, text, asked->words, &mended.mesh) ? describe_applied(&mended.mesh) : REFUSED;
+    if (status != REFUSED && outputs[SHELL].name != NULL) {
+        stage(&mended.mesh, "writing");
+        status = write_outputs(&mended) ? status : REFUSED;
+    }
+    free(mended.mesh.points), free(mended.mesh.faces);
+    return status;
+}
+
+/* Reads the mesh of a file, and mends it, by a list if there is one, or only checks it; the exit status. */
+static int take_file(const uint8_t *file, size_t length, const Bytes *text, const Asked *asked) {
     Mesh mesh;
     int status = REFUSED;
     if (read_mesh(file, length, &mesh)) {
         printf("read: %zu points, %zu faces\n", mesh.point_count, mesh.face_count);
-        status = asked->check ? judge(&mesh) : mend_mesh(&mesh, asked);
+        status = asked->check ? judge(&mesh) : asked->list != NULL ? apply_list(&mesh, text, asked) : mend_mesh(&mesh, asked);
     }
     free(mesh.points), free(mesh.faces);
     return status;
@@ -547,10 +660,12 @@ static int read_threshold(const char *word, Asked *asked) {
 }
 
 /* The options, by a letter or by a name. */
-static const char letters[] = ":s:o:f:ch";
+static const char letters[] = ":s:o:f:a:wch";
 static const struct option options[] = {{"threshold", required_argument, NULL, 's'},
                                         {"output", required_argument, NULL, 'o'},
                                         {"origins", required_argument, NULL, 'f'},
+                                        {"apply", required_argument, NULL, 'a'},
+                                        {"words", no_argument, NULL, 'w'},
                                         {"check", no_argument, NULL, 'c'},
                                         {"help", no_argument, NULL, 'h'},
                                         {NULL, 0, NULL, 0}};
@@ -578,6 +693,16 @@ static int name_output(Output *out, const char *what) {
     return 1;
 }
 
+/* Takes the name of a list to mend by, if there is none yet. */
+static int name_list(Asked *asked) {
+    if (asked->list != NULL) {
+        fprintf(stderr, "shellfix: one list is applied, and not %s too\n", optarg);
+        return 0;
+    }
+    asked->list = optarg;
+    return 1;
+}
+
 /* Takes one option into what is asked for; if it cannot, says why. */
 static int take_option(int found, char **given, Asked *asked) {
     switch (found) {
@@ -587,6 +712,11 @@ static int take_option(int found, char **given, Asked *asked) {
         return name_output(outputs + SHELL, "one file");
     case 'f':
         return name_output(outputs + ORIGINS, "one list of origins");
+    case 'a':
+        return name_list(asked);
+    case 'w':
+        asked->words = 1;
+        return 1;
     case 'c':
         asked->check = 1;
         return 1;
@@ -640,6 +770,22 @@ static int free_name(const char *origins, const char *shell, const char *scan) {
     return 1;
 }
 
+/* Whether each option has something to do beside the others; if not, says which has not. */
+static int have_to_do(const Asked *asked) {
+    const char threshold = asked->threshold != NULL ? 's' : 0, shell = outputs[SHELL].name != NULL ? 'o' : 0, origins = outputs[ORIGINS].name != NULL ? 'f' : 0,
+               list = asked->list != NULL ? 'a' : 0, sentences = asked->words ? 'w' : 0;
+    const char checked = threshold ? threshold : shell ? shell : origins ? origins : list ? list : sentences, applied = threshold ? threshold : origins;
+    if (asked->check && checked)
+        fprintf(stderr, "shellfix: with -c nothing is mended, so -%c has nothing to do\n", checked);
+    else if (list && applied)
+        fprintf(stderr, "shellfix: with -a the list says what is mended, so -%c has nothing to do\n", applied);
+    else if (!list && sentences)
+        fprintf(stderr, "shellfix: without -a there is no list, so -w has nothing to do\n");
+    else
+        return 1;
+    return 0;
+}
+
 /* Whether the words ask for one file or for help, and what else they ask for; if not, says why. */
 static int read_words(int count, char **given, Asked *asked) {
     int found;
@@ -647,34 +793,41 @@ static int read_words(int count, char **given, Asked *asked) {
         if (!take_option(found, given, asked))
             return 0;
     const char *shell = outputs[SHELL].name, *origins = outputs[ORIGINS].name;
-    if (asked->check && !asked->help && (asked->threshold != NULL || shell != NULL || origins != NULL)) {
-        fprintf(stderr, "shellfix: with -c nothing is mended, so -%c has nothing to do\n", asked->threshold != NULL ? 's' : shell != NULL ? 'o' : 'f');
+    if (!asked->help && !have_to_do(asked))
         return 0;
-    }
     if (optind + 1 < count)
         fprintf(stderr, "shellfix: one file at a time, and not %s too\n", given[optind + 1]);
     asked->name = optind + 1 == count ? given[optind] : NULL;
     if (origins != NULL && !free_name(origins, shell, asked->name))
         return 0;
+    if (asked->list != NULL && shell != NULL && one_file(shell, asked->list)) {
+        fprintf(stderr, "shellfix: the mended shell cannot take the place of %s, which it is mended by\n", asked->list);
+        return 0;
+    }
     return asked->name != NULL || (asked->help && optind == count);
 }
 
 /* How it is called, and what --help says besides. */
 static const char usage[] =
     "usage: shellfix [-s THRESHOLD] [-o OUT.ply] [-f FILE] IN\n"
+    "       shellfix -a LIST [-w] [-o OUT.ply] IN\n"
     "       shellfix -c IN\n"
     "  IN: a binary STL file, or a PLY file of the form that -o writes\n"
     "  -s, --threshold THRESHOLD: from 0 to 1; a face is thin up to this sine of the angle at its first corner; " THRESHOLD " where none is given\n"
     "  -o, --output OUT.ply: the mended shell is written to this file, as binary PLY\n"
     "  -f, --origins FILE: a line for each face of the mended shell, in its order, is written to this file: which face of IN it is, from 0\n"
+    "  -a, --apply LIST: the shell is mended by the mending list in this file, and not by the repair\n"
+    "  -w, --words: each line of the list is told as a sentence before it is applied\n"
     "  -c, --check: the shell is checked as it is, and not mended\n"
     "  -h, --help: this text\n";
 static const char more[] =
     "Mends the shell, and prints what was mended, whether it is sound, and how many edges and boundary loops it has then.\n"
+    "With -a it prints how many lines of each kind were applied; lines that were struck from a list are not applied, so that the shell may not be sound:\n"
+    "then what is wrong is printed, and the shell is written all the same. Of a list that does not apply the first bad line is told, and why it is bad.\n"
     "With -c it prints whether the shell is sound, and if not what is wrong: faces that repeat a corner, directed edges that are walked more than\n"
     "once, points where several surfaces touch; of each how many there are, and the first. Faces and points are counted from 0.\n"
-    "Exit status: 0; 1 where the file or the shell is refused, and then nothing is written; 2 where the words are not understood,\n"
-    "or a file cannot be read or written; 3 where a shell that is only checked is not sound.\n";
+    "Exit status: 0; 1 where the file, the shell or the list is refused, and then nothing is written; 2 where the words are not understood,\n"
+    "or a file cannot be read or written; 3 where a shell that is only checked, or was mended by a list, is not sound.\n";
 
 /* The exit status, but for 2 where something that was printed did not arrive. */
 static int ended(int status) {
@@ -685,7 +838,8 @@ static int ended(int status) {
 }
 
 int main(int count, char **given) {
-    Asked asked = {NULL, NULL, 0, 0, 0};
+    Asked asked = {.name = NULL};
+    Bytes text = {NULL, 0};
     if (!read_words(count, given, &asked) || (asked.threshold == NULL && !read_threshold(THRESHOLD, &asked))) {
         fputs(usage, stderr);
         return TROUBLE;
@@ -695,10 +849,12 @@ int main(int count, char **given) {
         return ended(SOUND);
     }
     size_t length;
+    if (asked.list != NULL)
+        text.bytes = read_file(asked.list, &text.length);
     uint8_t *file = read_file(asked.name, &length);
     if (length >= LARGE_FILE)
         fprintf(stderr, "shellfix: reading %zu bytes\n", length);
-    int status = take_file(file, length, &asked);
-    free(file);
+    int status = take_file(file, length, &text, &asked);
+    free(file), free(text.bytes);
     return ended(status);
 }

@@ -9,8 +9,8 @@
 #include <sys/mman.h>
 #include <ucontext.h>
 
-enum { REPAIR, EDGES, LOOPS, CHECK, PATCHES, WRITE_PLY, READ_PLY, PLY_COUNTS, LINE, CALLS };
-static const char *const names[CALLS] = {"repair", "edges", "loops", "check", "patches", "write PLY", "read PLY", "PLY counts", "line"};
+enum { REPAIR, EDGES, LOOPS, CHECK, PATCHES, WRITE_PLY, READ_PLY, PLY_COUNTS, APPLY, LINE, CALLS };
+static const char *const names[CALLS] = {"repair", "edges", "loops", "check", "patches", "write PLY", "read PLY", "PLY counts", "apply", "line"};
 
 enum { DEEP = 8 << 20, PATCH_COUNT = 100 };
 static const uint64_t PAINT = 0xa5c3f00d5eed1e55;
@@ -28,8 +28,8 @@ static uint32_t below(uint32_t n) {
 static struct {
     uint32_t *faces, *labels, *work, *row[3], *origins, report[SHELL_REPORT_ROOM], options, number;
     double *points, *mended, *lengths;
-    size_t P, F, file_bytes;
-    uint8_t line[SHELL_LINE_ROOM], *file;
+    size_t P, F, file_bytes, list_bytes;
+    uint8_t line[SHELL_LINE_ROOM], *file, *list;
     int call;
 } job;
 
@@ -158,6 +158,10 @@ static void run(void) {
         job.number = shell_read_ply(job.file, job.file_bytes, job.mended, SHELL_PLY_POINTS_ROOM(P), job.row[0], SHELL_PLY_FACES_ROOM(F), job.work, work).number;
     if (job.call == PLY_COUNTS)
         job.number = shell_ply_counts(job.file, job.file_bytes).number;
+    if (job.call == APPLY)
+        job.number = shell_apply(job.points, 3 * P, job.faces, 3 * F, job.list, job.list_bytes, job.mended, SHELL_POINTS_ROOM(P, F), job.row[0],
+                                 SHELL_FACES_ROOM(F), job.work, work)
+                         .number;
     if (job.call == LINE)
         job.number = shell_line(job.report, SHELL_REPORT_ROOM, job.line, SHELL_LINE_ROOM).number;
 }
@@ -215,7 +219,38 @@ static void *room(size_t n, size_t size) {
     return out;
 }
 
-/* The calls on one shape: as it is, and with a bad corner in its last face, which the PLY file gets too. */
+/* Adds a line of a letter, a number and some fields more to the list. */
+static void add_line(char letter, size_t number, const char *fields) {
+    job.list_bytes += (size_t)sprintf((char *)job.list + job.list_bytes, "%c\t%zu%s\n", letter, number, fields);
+}
+
+/* A list with lines of every kind: all faces but the first two are dropped, the first is turned over and takes a copy of its first corner, and the points that
+ * no face has then leave. */
+static void make_list(void) {
+    size_t P = job.P, left = job.F < 2 ? job.F : 2;
+    uint32_t corners[6];
+    char fields[32];
+    job.list = room(SHELL_LIST_ROOM(P, job.F), 1);
+    job.list_bytes = 0;
+    for (size_t i = 2; i < job.F; i++)
+        add_line('d', i, "\t1\tthin");
+    for (size_t k = 0; k < 3 * left; k++)
+        corners[k] = k < 3 && job.faces[k] == job.faces[0] ? (uint32_t)P : job.faces[k];
+    if (left > 0) {
+        snprintf(fields, sizeof fields, "\t%zu\t0", P);
+        add_line('o', 0, "");
+        add_line('s', job.faces[0], fields);
+    }
+    for (uint32_t v = 0; v < P; v++) {
+        int used = 0;
+        for (size_t k = 0; k < 3 * left; k++)
+            used = used || corners[k] == v;
+        if (!used)
+            add_line('u', v, "");
+    }
+}
+
+/* The calls on one shape: as it is, with a bad corner in its last face, which the PLY file gets too, and with that file and the list cut off. */
 static void on_shape(const Shape *shape, size_t F) {
     job.F = F;
     for (size_t i = 0; i < F; i++)
@@ -229,6 +264,7 @@ static void on_shape(const Shape *shape, size_t F) {
     job.file_bytes = 0;
     for (size_t i = 0; i < 3 * P; i++)
         job.points[i] = i % 3 == 0 ? (double)(i / 3 % 1000) : i % 3 == 1 ? (double)(i / 3000) : (double)below(100) / 64;
+    make_list();
     static const uint32_t options[] = {0, 1, 2, 4, 8, 16, 32, SHELL_ALL_OPTIONS};
     for (size_t k = F > 10000 ? 7 : 0; k < 8; k++)
         measure(shape->name, REPAIR, options[k]);
@@ -246,11 +282,14 @@ static void on_shape(const Shape *shape, size_t F) {
         job.file_bytes--;
         measure(shape->name, READ_PLY, 0);
         measure(shape->name, PLY_COUNTS, 0);
+        job.list_bytes--;
+        measure(shape->name, APPLY, 0);
     }
     free(job.points);
     free(job.mended);
     free(job.work);
     free(job.file);
+    free(job.list);
 }
 
 /* The first of the shapes with F faces, and a line on what the calls took at most. */

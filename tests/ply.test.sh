@@ -10,7 +10,7 @@ bash "$here/host/build.sh" "$room" || exit 1
 cd "$room" || exit 1
 flags=(-std=c11 -Wall -Wextra -Wpedantic -Werror -O2 -g -I.)
 gcc "${flags[@]}" -o ply "$here/host/ply.c" libshell.a || exit 1
-gcc "${flags[@]}" -o shellfix "$here"/host/{shellfix,faults}.c libshell.a || exit 1
+gcc "${flags[@]}" -o shellfix "$here"/host/{shellfix,faults,lists}.c libshell.a || exit 1
 
 # Both directions.
 python3 "$here/tests/ply.py" make made || exit 1

@@ -235,6 +235,27 @@ static void change_bytes(Text *list, uint32_t how) {
         put_word(list, line_at(list, k + 1) - 1, "\r");
 }
 
+/* Changes a field of a list: it is doubled, or what stands there as a number of 32 bits becomes one of 33 or of 65 that ends in the same bits. */
+static void change_field(Text *list, uint32_t how) {
+    char some[64];
+    size_t at = below((uint32_t)list->length + 1), end;
+    while (at > 0 && list->bytes[at - 1] != '\t')
+        at--;
+    for (end = at; end < list->length && list->bytes[end] != '\t' && list->bytes[end] != '\n';)
+        end++;
+    if (at == 0 || end - at > 10)
+        return;
+    snprintf(some, sizeof some, "%.*s", (int)(end - at), (const char *)list->bytes + at);
+    unsigned long long number = strtoull(some, NULL, 10);
+    if (how == 0)
+        snprintf(some + (end - at), sizeof some - (end - at), "\t%.*s", (int)(end - at), (const char *)list->bytes + at);
+    else if (how == 1)
+        snprintf(some, sizeof some, "%llu", number + 4294967296);
+    else
+        snprintf(some, sizeof some, "184467440737%08llu", number + 9551616);
+    put(list, at, end - at, some, strlen(some));
+}
+
 /* A number that may well be right: below n, n itself, or one behind the last. */
 static uint32_t likely(uint32_t n, uint32_t last) { return below(3) == 0 ? last + 1 : below(20) == 0 ? n : n == 0 ? 0 : below(n); }
 
@@ -349,6 +370,8 @@ static void try_mesh(const Mesh *m) {
                 change_line(&list, below(3));
             else if (k % 4 != 3 && below(2) == 0)
                 change_bytes(&list, below(6));
+            else if (below(4) == 0)
+                change_field(&list, below(3));
             ask_anyhow(&other, &list);
         }
         free(list.bytes);

@@ -88,13 +88,13 @@ def large(name):
     three points are split off: the first goes to the face, and the others, and the old point, leave."""
     os.makedirs(name, exist_ok=True)
     at = lambda file: os.path.join(name, file)
-    count = 1 << 19
+    count = 1 << 18
     put(at("drops.ply"), 2 * count + 1, [(0, 2 * i + 1, 2 * i + 2) for i in range(count)])
     with open(at("drops.list"), "w") as out:
         out.writelines("d\t%d\t1\tthin\n" % i for i in range(1, count))
         out.writelines("u\t%d\n" % v for v in range(3, 2 * count + 1))
     put(at("drops.wanted"), 3, [(0, 1, 2)])
-    count = 1 << 17
+    count = 1 << 16
     put(at("splits.ply"), 1, [(0, 0, 0)] * count)
     with open(at("splits.list"), "w") as out:
         out.writelines("s\t0\t%d%s\n" % (n + 1, "\t%d" % (n // 3) if n % 3 == 0 else "") for n in range(3 * count))

@@ -104,23 +104,23 @@ for name in drops splits; do
     cmp applied.ply large/$name.wanted || exit 1
 done >found
 diff found - <<'WANTED' || exit 1
-read: 1048577 points, 524288 faces
-list: 1572861 lines
-applied: 524287 thin faces dropped, 1048574 isolated points dropped
+read: 524289 points, 262144 faces
+list: 786429 lines
+applied: 262143 thin faces dropped, 524286 isolated points dropped
 mended: 3 points, 1 faces
 sound: yes
 3 edges, 1 boundary loops
 written: 257 bytes to applied.ply
-read: 1 points, 131072 faces
-list: 655361 lines
-applied: 393216 points split off, 262145 isolated points dropped
-mended: 131072 points, 131072 faces
+read: 1 points, 65536 faces
+list: 327681 lines
+applied: 196608 points split off, 131073 isolated points dropped
+mended: 65536 points, 65536 faces
 sound: no
-131072 faces that repeat a corner; the first is face 0, with corners 0 0 0
-131072 directed edges that are walked more than once; the first leads from point 0 at 0 0 0 to point 0 at 0 0 0, and face 0 walks it more than once
-131072 points where several surfaces touch; the first is point 0 at 0 0 0, whose faces form 3 groups
+65536 faces that repeat a corner; the first is face 0, with corners 0 0 0
+65536 directed edges that are walked more than once; the first leads from point 0 at 0 0 0 to point 0 at 0 0 0, and face 0 walks it more than once
+65536 points where several surfaces touch; the first is point 0 at 0 0 0, whose faces form 3 groups
 edges refused, number 7, place 0: an edge occurs more than twice; its position among the sorted edges
-written: 4849846 bytes to applied.ply
+written: 2425012 bytes to applied.ply
 WANTED
 rm -r large
 
@@ -155,9 +155,9 @@ WANTED
 
 if command -v valgrind >/dev/null; then
     watched=(valgrind -q --error-exitcode=9 --leak-check=full --errors-for-leak-kinds=definite)
-    "${watched[@]}" ./mending 100 || exit 1
+    "${watched[@]}" ./mending 50 || exit 1
     "${watched[@]}" ./shellfix -w -a made/every.list -o out.ply made/every.ply >/dev/null || exit 1
-    for name in no-newline long many-splits; do
+    for name in no-newline many-splits; do
         "${watched[@]}" ./shellfix -a made/$name.list made/legs.ply >/dev/null
         [ $? -eq 1 ] || exit 1
     done

@@ -1,4 +1,5 @@
-/* Mending lists on small meshes: `mending MESHES`; or the list of a repair with all options, printed: `mending list THRESHOLD IN.ply`.
+/* Mending lists on small meshes: `mending MESHES`; lists whose refusals are known, from standard input in the form that tests/mending.py prints:
+ * `mending known`; or the list of a repair with all options, printed: `mending list THRESHOLD IN.ply`.
  *
  * Every mesh of at most two faces on three points, with all options, and random ones from a fixed seed: the list that the documents say (fuzz/mending.c) must
  * give by shell_apply what shell_repair gives, bit by bit, and tell each count of its report. Then such lists with lines struck, doubled or exchanged, with
@@ -435,6 +436,8 @@ static const struct {
     {5, 2, {0, 1, 2, 0, 3, 4}, 63, "s\t0\t5\t1\n"},
     {5, 5, {0, 0, 1, 0, 1, 2, 0, 1, 2, 0, 2, 1, 3, 4, 0}, 63, "d\t0\t1\trepeated\nd\t2\t2\tduplicate\nd\t3\t2\tduplicate\ns\t0\t5\t4\n"},
     {5, 2, {0, 2, 3, 4, 1, 0}, 33, "d\t0\t1\tthin\nu\t2\nu\t3\n"},
+    {5, 4, {0, 0, 1, 0, 1, 2, 2, 1, 0, 0, 2, 3}, 3, "d\t0\t1\trepeated\nd\t3\t1\tthin\nd\t2\t2\tduplicate\n"},
+    {1, 1, {0, 0, 0}, 0, ""},
 };
 
 /* The known lists come out, and give what the repair gives. */
@@ -451,6 +454,45 @@ static void try_known(void) {
             differs(&m, &list, "not the known list");
         free(list.bytes);
     }
+}
+
+/* The bytes that hexadecimal digits tell. */
+static Text read_digits(const char *digits) {
+    Text list = {NULL, 0, 0};
+    unsigned byte;
+    add_bytes(&list, "", 0);
+    for (; sscanf(digits, "%2x", &byte) == 1; digits += 2)
+        add_bytes(&list, &(uint8_t){(uint8_t)byte}, 1);
+    return list;
+}
+
+/* Lists whose refusals are known, each for a mesh whose points all lie in one place; the exit status. */
+static int try_judged(void) {
+    static const int exact[3], none[3] = {-100000, -100000, -100000};
+    const Lending how = {2, 0, 1, 0};
+    char digits[1000];
+    uint32_t number, place, count = 0;
+    Mesh m = {.s = 0};
+    for (; scanf("%zu %zu", &m.P, &m.F) == 2 && m.P <= MOST_POINTS && m.F <= MOST_FACES; count++) {
+        for (size_t i = 0; i < 3 * m.F; i++)
+            if (scanf("%u", m.faces + i) != 1)
+                return 2;
+        if (scanf(" x%999[0-9a-f]", digits) != 1)
+            digits[0] = 0;
+        if (scanf("%u %u", &number, &place) != 2)
+            return 2;
+        m.points_len = 3 * m.P;
+        m.faces_len = 3 * m.F;
+        Text list = read_digits(digits);
+        Mended wanted = ask(&m, &list, exact, &how), short_of_room = ask(&m, &list, none, &how);
+        if (wanted.number != number || wanted.place != place || short_of_room.number != (number == 0 ? 6 : number))
+            differs(&m, &list, "another refusal than is known");
+        go_through(&m, &list, &wanted);
+        mending_free(&wanted);
+        free(list.bytes);
+    }
+    printf("mending: %u lists whose refusals are known\n", count);
+    return !feof(stdin);
 }
 
 /* A room of so many entries, all zero. */
@@ -498,8 +540,10 @@ static int complete(void) {
 int main(int count, char **words) {
     if (count == 4 && strcmp(words[1], "list") == 0)
         return print_list(words[2], words[3]);
+    if (count == 2 && strcmp(words[1], "known") == 0)
+        return try_judged();
     if (count != 2) {
-        fprintf(stderr, "usage: mending MESHES\n       mending list THRESHOLD IN.ply\n");
+        fprintf(stderr, "usage: mending MESHES\n       mending known\n       mending list THRESHOLD IN.ply\n");
         return 2;
     }
     unsigned long meshes = strtoul(words[1], NULL, 10);

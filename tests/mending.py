@@ -2,9 +2,12 @@
 
 mending.py make FOLDER      writes shells FOLDER/*.ply, and lists FOLDER/*.list for the shell legs.ply: ones that apply, and bad ones of every kind
 mending.py large FOLDER     writes shells FOLDER/*.ply of many points and faces, long lists FOLDER/*.list, and FOLDER/*.wanted, the shells that these make
+mending.py judged FILE      prints the lists that the rules judge by computing, in the tables of FILE (MendingExamples.antt of the crate rules), a line each:
+                            points, faces and their corners, the bytes of the list in hexadecimal behind an x, and the number and place of its refusal
 mending.py strike LIST..    writes each list without every third of its lines `d`, `o` and `u`, to LIST.struck
 """
 import os
+import re
 import struct
 import sys
 
@@ -103,6 +106,23 @@ def large(name):
     put(at("splits.wanted"), count, [(n, n, n) for n in range(count)])
 
 
+ROW = re.compile(r'\b(fine|bad) (\d+) (one|two|\[\]) (\[\]|\(bytes "([^"]*)"( \+\+ \(13 ∷ 10 ∷ \[\]\))?\))(?: (\d+))?')
+
+
+def judged(name):
+    """The rows `fine` and `bad` of the tables. Every one must be of the form that is read here."""
+    text = open(name, encoding="utf-8").read()
+    faces = {"one": [0, 1, 2], "two": [0, 1, 2, 0, 2, 1], "[]": []}
+    rows = [line for line in text.splitlines() if line.lstrip().startswith(("∷ ", "fine ", "bad "))]
+    found = [ROW.match(row, at.start()) for row in rows for at in re.finditer(r"\b(fine|bad) \d", row)]
+    assert all(found) and len(found) > 60, "a row of another form, or few rows"
+    for verdict, points, which, _, listed, returns, place in (row.groups() for row in found):
+        data = (listed or "").encode().decode("unicode_escape").encode() + (b"\r\n" if returns else b"")
+        corners = faces[which]
+        number = (0, 0) if verdict == "fine" else (15, int(place))
+        print(points, len(corners) // 3, *corners, "x" + data.hex(), *number)
+
+
 def strike(name):
     """A list with some lines struck. Points that faces have then are not isolated, so that not every list applies."""
     lines = open(name).readlines()
@@ -113,6 +133,8 @@ def strike(name):
 if __name__ == "__main__":
     if sys.argv[1] in ("make", "large"):
         {"make": make, "large": large}[sys.argv[1]](sys.argv[2])
+    elif sys.argv[1] == "judged":
+        judged(sys.argv[2])
     elif sys.argv[1] == "strike":
         for each in sys.argv[2:]:
             strike(each)

@@ -1,7 +1,8 @@
 #!/usr/bin/env bash
 # Mending lists: on every small mesh and on random ones shell_apply makes of the list of a repair what the repair gives, and of any other text what the
-# documents say, in rooms of every kind (host/mending.c). shellfix mends shells from disk by lists; what it prints, word for word, and its exit status are those
-# expected of lists that apply, of lists with lines struck, and of bad lists of every kind; where a list cannot be read that is noticed.
+# documents say, in rooms of every kind (host/mending.c); it judges the lists of the rules' own tables as these compute. shellfix mends shells from disk by
+# lists; what it prints, word for word, and its exit status are those expected of lists that apply, of lists with lines struck, and of bad lists of every kind;
+# where a list cannot be read that is noticed.
 set -u
 here=$(cd "$(dirname "${BASH_SOURCE[0]}")/.." && pwd)
 room=$(mktemp -d) || exit 1
@@ -12,6 +13,7 @@ flags=(-std=c11 -Wall -Wextra -Wpedantic -Werror -O2 -g -ffp-contract=off -I.)
 gcc "${flags[@]}" "-I$here/fuzz" -o mending "$here"/host/{mending,lists}.c "$here"/fuzz/{mending,lend,uses}.c libshell.a -lm || exit 1
 gcc "${flags[@]}" -o shellfix "$here"/host/{shellfix,faults,lists}.c libshell.a || exit 1
 ./mending 5000 || exit 1
+python3 "$here/tests/mending.py" judged "$here/crates/rules/specs/MendingExamples.antt" >judged && ./mending known <judged || exit 1
 python3 "$here/tests/mending.py" make made || exit 1
 python3 "$here/tests/origins.py" make scans || exit 1
 cp "$here/tests/cases/stl/by-admesh.stl" made/ || exit 1

@@ -1,0 +1,9 @@
+pub mod Sums
+pub mod ByOrigin
+pub mod Standing
+pub mod Stepping
+pub mod Dropping
+pub mod Options
+pub mod Exchanging
+pub mod Four
+pub mod Front

@@ -1,0 +1,2 @@
+-- `Setting` has what a bit more changes.
+pub mod Setting

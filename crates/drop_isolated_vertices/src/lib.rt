@@ -29,7 +29,7 @@ pub fn mark(faces: &[u32], n: usize, count: usize, work: &mut [u32])
 }
 
 // Gives each corner of the n faces the number that stands for it in `work`, from `numbers` on; one that keeps its number is not stored.
-fn renumber(faces: &mut [u32], n: usize, work: &[u32], numbers: usize)
+pub fn renumber(faces: &mut [u32], n: usize, work: &[u32], numbers: usize)
     requires { ⌜ RenumberAsks (now faces) n (now work) numbers ⌝ }
     ensures { λ _. ⌜ RenumberGives (now (faces .entry)) n (now (work .entry)) numbers (now (faces .exit)) ⌝ }
 {

@@ -16,7 +16,7 @@ use Rattle.list_changes.proofs.Gone.{left-leave}
 
 module _ {P F : ℕ} {b : Bench} {ps : List Float} {n : ℕ} {xs w : List ℕ} (s : Stands P F b ps n xs w) (few-points : P ≤ most-points) (few-faces : F ≤ most-faces) where
   -- it may be finished
-  pub finish-asks : FinishAsks ps n xs F w
+  abbrev pub finish-asks : FinishAsks ps n xs F w
   finish-asks =
       let m = s .most in
       record {

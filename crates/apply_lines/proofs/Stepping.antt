@@ -1,11 +1,9 @@
 -- One line of those that are left, all of which apply: what it says of the bench, and how the bench stands in the rooms after it. Assumes nothing.
 use mathlib.Core.Path.{_≡_, sym, ap, _∙_, subst}
-use mathlib.Core.Bool.{Bool, true, false, _&&_, cond}
-use mathlib.Core.Option.{Option, none, some}
-use mathlib.Core.List.{List, [], _∷_}
+use mathlib.Core.Option.{some}
+use mathlib.Core.List.{List, _∷_}
 use Prim.Native.Nat.{ℕ, _+_, _*_, _≤_, _<_}
 use native.Mathlib.Omega.{arith}
-use lib.Dec.{T}
 use lib.Ieee.{Float, nan}
 use lib.ListN.{length, set, drop}
 use Rattle.rows.specs.Retain.{MoveAsks, MoveGives}
@@ -13,49 +11,14 @@ use Rattle.rows.proofs.Regions.{only-none, only-more, only-set}
 use Rattle.rules.specs.Lists.{through}
 use Rattle.rules.specs.Mesh.{exchanged}
 use Rattle.rules.specs.Mending as list
-use Rattle.rules.specs.Applying.{Bench, section, numbers, precedes, applies, change, with-list-line, lines-read}
-use Rattle.rules.proofs.Tests.{and-elim}
+use Rattle.rules.specs.Applying.{Bench, section, numbers, change, with-list-line, lines-read}
 use Rattle.list_lines.specs.declared.Line.{Line}
 use Rattle.list_lines.specs.declared.Line.the-variants as read
 use Rattle.list_lines.specs.Lines.{reason, faces-from, Says, SaysNothing, SaysSplit, Reads}
+use Rattle.list_runs.proofs.Stepping.{Stepped, step, no-step}
 use Rattle.list_changes.specs.Changes.{FaceChanged, TakenOver, Stands}
 use Rattle.list_changes.proofs.Standing.{Splits, drop-applies, exchange-applies, isolated-applies, split-applies, drop-stands, exchange-stands, split-stands, isolated-stands}
 use Rattle.apply_lines.specs.Runs.{TakeAsks, Run, Within, LineAsks, LineGives}
-
--- there is something
-abbrev Is : {A : Type 0} → Option A → Type 0
-Is none = ⊥
-Is (some a) = Unit {0}
-
-module _ (P F : ℕ) where
-  -- of no bench nothing is made
-  none-through : (ls : List (Option list.Line)) → through (with-list-line P F) none ls ≡ none
-  unfolding through with-list-line
-  none-through [] = λ i. none
-  none-through (l ∷ ls) = none-through ls
-
-  -- a line that applies, and what the others make of what it leaves
-  pub record Stepped (b : Bench) (l : list.Line) (ls : List (Option list.Line)) (z : Bench) : Type 0 where
-    pub applies : T (applies P F b l)
-    pub goes : through (with-list-line P F) (some (change b l (section l ∷ numbers l))) ls ≡ some z
-
-  -- where all lines apply the first does
-  pub step : (b : Bench) (l : list.Line) (ls : List (Option list.Line)) (z : Bench) → through (with-list-line P F) (some b) (some l ∷ ls) ≡ some z → Stepped b l ls z
-  unfolding through with-list-line
-  step b l ls z e = go (precedes (b .last) at) (applies P F b l) (λ t. t) e
-    where
-      at : List ℕ
-      at = section l ∷ numbers l
-
-      go : (s t : Bool) → (T t → T (applies P F b l)) → through (with-list-line P F) (cond (s && t) (some (change b l at)) none) ls ≡ some z → Stepped b l ls z
-      go true true h q = record { applies = h tt; goes = q }
-      go true false h q = absurd (subst Is (sym (sym (none-through ls) ∙ q)) tt)
-      go false t h q = absurd (subst Is (sym (sym (none-through ls) ∙ q)) tt)
-
-  -- and it is no bad line
-  pub no-step : (b : Bench) (ls : List (Option list.Line)) (z : Bench) → through (with-list-line P F) (some b) (none ∷ ls) ≡ some z → ⊥
-  unfolding through with-list-line
-  no-step b ls z e = subst Is (sym (sym (none-through ls) ∙ e)) tt
 
 module _ {text : List ℕ} {line : Line} {ps : List Float} {xs w : List ℕ} {F n : ℕ} (q : LineAsks text line ps xs w F n) where
   -- the bench before the line

@@ -1,0 +1,2 @@
+-- `Prepared` has what the rows of a mending list are made from and what they tell.
+pub mod Prepared

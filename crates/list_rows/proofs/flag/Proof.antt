@@ -1,4 +1,5 @@
 -- `list_rows::flag` meets its contract: the pass is on and unused points are flagged, or the flags are cleared. Assumes nothing.
+use native.Mathlib.Omega.{arith}
 use Rattle.list_rows.proofs.ByOption.{bit-on, bit-off, flags-on, flags-off}
 use borrow.Author.Needs.{needs}
 use Rattle.list_rows.proofs.flag.Statement.{statement}
@@ -14,7 +15,7 @@ returns : tie.Need-returns
 returns c =
     let at-call = c .before .before in
     let start = at-call .before .before .before .before .before in
-    flags-on (bit-on 5 (start .args .options) (at-call .before .before .if1 .taken)) (at-call .mark-unused .ensures)
+    flags-on (bit-on 5 (start .args .options) (omega arith)) (at-call .mark-unused .ensures)
 
 clear-requires : tie.Need-clear-requires
 clear-requires c κs = search needs
@@ -26,7 +27,7 @@ returns-2 : tie.Need-returns-2
 returns-2 c =
     let at-call = c .before .before in
     let start = at-call .before .before .before .before .before in
-    flags-off (bit-off 5 (start .args .options) (at-call .before .before .if1 .left)) (at-call .clear .ensures .0) (at-call .clear .ensures .1)
+    flags-off (bit-off 5 (start .args .options) (omega arith)) (at-call .clear .ensures .0) (at-call .clear .ensures .1)
 
 pub flag-spec : {M : Type 1} → statement M
 flag-spec =

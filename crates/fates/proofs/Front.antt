@@ -1,23 +1,13 @@
-<<<<<<< HEAD
 -- What stands at the front of the rooms after four passes, the corners and the origins that the rules have; and all lines of these passes. Assumes nothing.
 use mathlib.Core.Path.{_≡_, sym, ap, _∙_}
 use mathlib.Core.List.{List, _++_, append-assoc}
 use Prim.Native.Nat.{ℕ, _+_, _*_}
 use native.Mathlib.Omega.{arith}
 use lib.ListN.{length, getD, take}
-=======
--- What stands at the front of the rooms after four passes: the corners and the origins that the rules have. Assumes nothing.
-use mathlib.Core.Path.{_≡_, sym, ap, _∙_}
-use mathlib.Core.List.{List}
-use Prim.Native.Nat.{ℕ, _*_}
-use native.Mathlib.Omega.{arith}
-use lib.ListN.{take}
->>>>>>> f233b47 (The rows of a mending list prepared: the fates of passes 1 to 4, old points, sorted corners and flags, each by its option)
 use lib.Seq.{length-take-le}
 use lib.Ieee.{Float}
 use Rattle.leaving.specs.Pass.{standing, carried}
 use Rattle.leaving.proofs.Standing.{stands-alike, carried-origins}
-<<<<<<< HEAD
 use Rattle.mending_rows.specs.Told.{first-told, drops-told, exchanges-told}
 use Rattle.rules.specs.Mesh.{pointsOf, facesOf, flatFaces}
 use Rattle.rules.specs.State.{State, start}
@@ -27,14 +17,6 @@ use Rattle.rules.proofs.Carried.{flat-same}
 use Rattle.rules.proofs.Flat.{flat-faces}
 use Rattle.rules.proofs.Origins.{origins}
 use Rattle.fates.specs.Fating.{lines-if, FourGives, after1, after2, after3, after4}
-=======
-use Rattle.rules.specs.Mesh.{pointsOf, facesOf, flatFaces}
-use Rattle.rules.specs.State.{start}
-use Rattle.rules.proofs.Carried.{flat-same}
-use Rattle.rules.proofs.Flat.{flat-faces}
-use Rattle.rules.proofs.Origins.{origins}
-use Rattle.fates.specs.Fating.{FourGives, after4}
->>>>>>> f233b47 (The rows of a mending list prepared: the fates of passes 1 to 4, old points, sorted corners and flags, each by its option)
 
 module _ {options : ℕ} {s : Float} {ps : List Float} {fs xs os w : List ℕ} {fates : ℕ} {xs′ os′ w′ : List ℕ} {n : ℕ} (g : FourGives options s ps fs xs os w fates xs′ os′ w′ n) where
   -- the corners
@@ -46,7 +28,6 @@ module _ {options : ℕ} {s : Float} {ps : List Float} {fs xs os w : List ℕ} {
   -- the origins
   pub front-origins : take n os′ ≡ origins (after4 options s (start (pointsOf ps) (facesOf fs)) .faces)
   front-origins = sym (carried-origins xs′ os′ n (g .left .fit) (g .left .own)) ∙ ap origins (sym (g .has .faces))
-<<<<<<< HEAD
 
   -- the rules' start, and the fates
   abbrev m0 : State
@@ -62,5 +43,3 @@ module _ {options : ℕ} {s : Float} {ps : List Float} {fs xs os w : List ℕ} {
   front-lines =
       (λ j. g .first j ++ g .second j ++ g .third j ++ g .fourth j)
       ∙ sym (append-assoc (first-told fate (length os) ++ drops-told fate for-duplicate (length os) ++ drops-told fate for-edge (length os)) (exchanges-told fate (length os)) (drops-told fate for-direction (length os)))
-=======
->>>>>>> f233b47 (The rows of a mending list prepared: the fates of passes 1 to 4, old points, sorted corners and flags, each by its option)

@@ -20,18 +20,18 @@ use Rattle.list_lines.specs.Lines.{Says}
 use Rattle.list_lines.proofs.Letters.{lines-end}
 use Rattle.list_check.specs.Steps.{Run}
 
+-- after a bad line nothing stands
+pub none-stays : (P F : ℕ) (ls : List (Option list.Line)) → through (with-list-line P F) none ls ≡ none
+unfolding through with-list-line
+none-stays P F [] = refl
+none-stays P F (l ∷ ls) = none-stays P F ls
+
 module _ (ps : List Point) (fs : List Face) where
   abbrev P : ℕ
   P = length ps
 
   abbrev F : ℕ
   F = length fs
-
-  -- after a bad line nothing stands
-  none-stays : (ls : List (Option list.Line)) → through (with-list-line P F) none ls ≡ none
-  unfolding through with-list-line
-  none-stays [] = refl
-  none-stays (l ∷ ls) = none-stays ls
 
   -- what stands after more lines
   more-lines : (xs ys : List (Option list.Line)) → after-lines ps fs (xs ++ ys) ≡ through (with-list-line P F) (after-lines ps fs xs) ys
@@ -54,7 +54,7 @@ module _ (ps : List Point) (fs : List Face) where
     where
       go : (o : Option Bench) → after-lines ps fs xs ≡ o → is-none (after-lines ps fs xs) ≡ false
       go none q =
-          let n : none ≡ some b = sym (more-lines xs ys ∙ ap (λ (o : Option Bench). through (with-list-line P F) o ys) q ∙ none-stays ys) ∙ e in
+          let n : none ≡ some b = sym (more-lines xs ys ∙ ap (λ (o : Option Bench). through (with-list-line P F) o ys) q ∙ none-stays P F ys) ∙ e in
           let z : _≡_ {A = ℕ} 0 1 = cc in
           absurd (omega arith)
       go (some c) q = rw q (unfold is-none in refl)

@@ -194,8 +194,8 @@ room-rises F s f g k s′ f′ k′ a p l low (first e h) = rw (e, room-face F s
 room-rises F s f g k s′ f′ k′ a p l low (second e d h) = absurd (omega arith)
 
 -- a split
-pub room-splits : (F s f k f′ : ℕ) → s ≤ 6 → (s < 6 → k ≡ 0) → (0 < s → s < 6 → f < F) → room F s f k < room F 6 f′ (k + 1)
-room-splits F s f k f′ a early low = go (ltb s 6) refl
+pub room-splits : (F s f k f′ : ℕ) → s ≤ 6 → (0 < s → s < 6 → f < F) → room F s f k < room F 6 f′ (k + 1)
+room-splits F s f k f′ a low = go (ltb s 6) refl
   where
     six : room F 6 f′ (k + 1) ≡ 5 * F + (k + 1)
     six = unfold room in refl

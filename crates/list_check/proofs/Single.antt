@@ -243,5 +243,5 @@ module _ {P : ℕ} {xs m u : List ℕ} {s f g k : ℕ} where
                 low = λ q w. absurd (omega arith);
               };
             };
-        rise = λ b st. room-splits (length xs / 3) s f k old (st .section) (st .early) (st .low);
+        rise = λ b st. room-splits (length xs / 3) s f k old (st .section) (st .low);
       }

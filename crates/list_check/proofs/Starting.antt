@@ -57,7 +57,7 @@ any-origin xs p f = both-ways _ _ there back
         (subst (λ (g : Face). T (eqb f (g .origin) && p g)) (sym (by-number (facesOf xs) f)) (and-i (eqb f (face (facesOf xs) f .origin)) (p (face (facesOf xs) f)) (subst T (sym (eq-eqb f (face (facesOf xs) f .origin) (sym (numbered xs f l)))) tt) (q .1)))
 
 -- what holds of each face by its place
-all-faces : (Q : Face → Type 0) (xs : List ℕ) → ((i : ℕ) → i < length xs / 3 → Q (face (facesOf xs) i)) → All Q (facesOf xs)
+pub all-faces : (Q : Face → Type 0) (xs : List ℕ) → ((i : ℕ) → i < length xs / 3 → Q (face (facesOf xs) i)) → All Q (facesOf xs)
 all-faces Q xs h = all-from Q no-face (facesOf xs) (λ k l. subst Q (sym (by-number (facesOf xs) k)) (h k (omega (arith, length-faces xs))))
 
 module _ {P : ℕ} {xs m u : List ℕ} (q : Begins P xs m u) (ps : List Point) (n : length ps ≡ P) where

@@ -1,0 +1,36 @@
+// One word a face over the input faces, which never change. Bit 0 of a word: the face is gone. Bit 1: its corners 1 and 2 are exchanged. Bit 2: it is marked
+// and leaves when the pass ends. Bit 3: it is visited. Bits 4 to 6: flags of its corners. Bits 8 and up: a link, the number of a face and one more.
+ghost use mathlib.Core.Path.{_≡_};
+ghost use Prim.Native.Nat.{_<_};
+ghost use lib.ListN.{length};
+ghost use Rattle.face_words.specs.Words as word;
+ghost use Rattle.face_words.specs.Views.{seenAs, ViewAsks};
+
+// The corners of a face as it stands.
+pub struct Corners {
+    pub a: u32,
+    pub b: u32,
+    pub c: u32,
+}
+
+// Whether face f stands.
+pub fn stands(words: &[u32], f: usize) -> bool
+    requires { ⌜ f < length (now words) ⌝ }
+    ensures { λ r. ⌜ r ≡ word.stands (now (words .entry)) f ⌝ }
+{
+    words[f] % 2 == 0
+}
+
+// The corners of face f under its word.
+pub fn view(faces: &[u32], words: &[u32], f: usize) -> Corners
+    requires { ⌜ ViewAsks (now faces) (now words) f ⌝ }
+    ensures { λ r. ⌜ seenAs r f ≡ word.view (now (faces .entry)) (now (words .entry)) f ⌝ }
+{
+    let a = faces[3 * f];
+    let b = faces[3 * f + 1];
+    let c = faces[3 * f + 2];
+    if words[f] / 2 % 2 == 0 {
+        return Corners { a: a, b: b, c: c };
+    }
+    Corners { a: a, b: c, c: b }
+}

@@ -108,7 +108,7 @@ has-ends d t v h =
         and-i (has (t .from) (corners v)) (has (t .to) (corners v)) (k .1) (k .0)
 
 -- exchanged or not, a face has the same corners
-view-has : (xs w : List ℕ) (f x : ℕ) → has x (corners (view xs w f)) ≡ has x (corners (face (facesOf xs) f))
+pub view-has : (xs w : List ℕ) (f x : ℕ) → has x (corners (view xs w f)) ≡ has x (corners (face (facesOf xs) f))
 unfolding view
 view-has xs w f x = go (straight w f) (face (facesOf xs) f)
   where

@@ -1,5 +1,5 @@
-// The entries of an edge, or of a step, found by a search through all faces that stand: how many there are, which face ranks first among them, and who is
-// kept at a crowded edge. Only `next_candidate` decides which faces are looked at.
+// The entries of an edge, or of a step, found by a search through the faces that stand: how many there are, which face ranks first among them, and who is
+// kept at a crowded edge. Which faces are looked at is told by an index of the faces.
 use face_words::Corners;
 ghost use mathlib.Core.Path.{_≡_};
 ghost use mathlib.Core.Bool.{cond};
@@ -15,6 +15,7 @@ ghost use Rattle.rank.specs.Ranks.{above};
 ghost use Rattle.measure.specs.Measure as measured;
 ghost use Rattle.face_words.specs.Words.{takersAt, everyFace};
 ghost use Rattle.face_words.specs.Views.{seenAs, ViewAsks, Worded};
+ghost use Rattle.face_index.specs.Index.{Indexed};
 ghost use Rattle.entry_search.specs.Searching as search;
 ghost use Rattle.entry_search.specs.Choosing as choosing;
 
@@ -22,48 +23,6 @@ ghost use Rattle.entry_search.specs.Choosing as choosing;
 struct Choice {
     face: usize,
     quality: f64,
-}
-
-// Whether a is one of x, y and z.
-fn among(a: u32, x: u32, y: u32, z: u32) -> bool
-    ensures { λ r. ⌜ r ≡ has a (x ∷ y ∷ z ∷ []) ⌝ }
-{
-    if a == x {
-        return true;
-    }
-    if a == y {
-        return true;
-    }
-    a == z
-}
-
-// Whether both a and b are corners of face f.
-fn joins(faces: &[u32], f: usize, a: u32, b: u32) -> bool
-    requires { ⌜ search.JoinsAsks (now faces) f ⌝ }
-    ensures { λ r. ⌜ r ≡ search.joins (now (faces .entry)) a b f ⌝ }
-{
-    let x = faces[3 * f];
-    let y = faces[3 * f + 1];
-    let z = faces[3 * f + 2];
-    if among(a, x, y, z) {
-        return among(b, x, y, z);
-    }
-    false
-}
-
-// The next face from `from` on that may have both a and b among its corners, or the number of faces: no face before it has both.
-pub fn next_candidate(faces: &[u32], a: u32, b: u32, from: usize) -> usize
-    requires { ⌜ search.CandidateAsks (now faces) from ⌝ }
-    ensures { λ r. ⌜ search.CandidateGives (now (faces .entry)) a b from r ⌝ }
-{
-    let mut f = from;
-    while f < faces.len() / 3 {
-        if joins(faces, f, a, b) {
-            return f;
-        }
-        f += 1;
-    }
-    f
 }
 
 // Whether the step from x to y is the one from a to b.
@@ -115,15 +74,23 @@ fn entries_of(faces: &[u32], words: &[u32], f: usize, directed: bool, a: u32, b:
 }
 
 // How many entries the step from a to b has, or its edge.
-pub fn count_entries(faces: &[u32], words: &[u32], directed: bool, a: u32, b: u32) -> usize
+pub fn count_entries(
+    faces: &[u32],
+    index: &[u32],
+    words: &[u32],
+    directed: bool,
+    a: u32,
+    b: u32,
+) -> usize
     requires { ⌜ Worded (now faces) (now words) ⌝ }
+    requires { ⌜ Indexed (now faces) (now index) ⌝ }
     ensures { λ r. ⌜ r ≡ length (takersAt (search.along directed (steps.step a b)) (now (faces .entry)) (now (words .entry)) (length (now (words .entry)))) ⌝ }
 {
     let mut n = 0;
-    let mut f = next_candidate(faces, a, b, 0);
+    let mut f = face_index::next_indexed(faces, index, a, b, 0);
     while f < words.len() {
         n += entries_of(faces, words, f, directed, a, b);
-        f = next_candidate(faces, a, b, f + 1);
+        f = face_index::next_indexed(faces, index, a, b, f + 1);
     }
     n
 }
@@ -238,6 +205,7 @@ fn consider(
 pub fn best_entry(
     points: &[f64],
     faces: &[u32],
+    index: &[u32],
     words: &[u32],
     directed: bool,
     a: u32,
@@ -246,16 +214,17 @@ pub fn best_entry(
     but: usize,
 ) -> usize
     requires { ⌜ choosing.BestAsks (now points) (now faces) (now words) ⌝ }
+    requires { ⌜ Indexed (now faces) (now index) ⌝ }
     ensures { λ r. ⌜ choosing.BestGives (now (points .entry)) (now (faces .entry)) (now (words .entry)) directed (steps.step a b) walk but r ⌝ }
 {
     let mut best = Choice {
         face: words.len(),
         quality: 0.0,
     };
-    let mut f = next_candidate(faces, a, b, 0);
+    let mut f = face_index::next_indexed(faces, index, a, b, 0);
     while f < words.len() {
         best = consider(points, faces, words, f, directed, a, b, walk, but, best);
-        f = next_candidate(faces, a, b, f + 1);
+        f = face_index::next_indexed(faces, index, a, b, f + 1);
     }
     best.face
 }
@@ -269,27 +238,45 @@ fn otherwise(forward: bool) -> u32
 
 // Pass 3's second choice at the edge from a to b, whose first choice is `first`: the best of those whose walk differs, or, if none differs, of the other
 // entries.
-fn second(points: &[f64], faces: &[u32], words: &[u32], a: u32, b: u32, first: usize) -> usize
+fn second(
+    points: &[f64],
+    faces: &[u32],
+    index: &[u32],
+    words: &[u32],
+    a: u32,
+    b: u32,
+    first: usize,
+) -> usize
     requires { ⌜ choosing.SecondAsks (now points) (now faces) (now words) (steps.step a b) first ⌝ }
+    requires { ⌜ Indexed (now faces) (now index) ⌝ }
     ensures { λ r. ⌜ r ≡ choosing.secondAt (now (points .entry)) (now (faces .entry)) (now (words .entry)) (steps.step a b) first ⌝ }
 {
     let g = face_words::view(faces, words, first);
     let walk = otherwise(walks(g, lower(a, b), higher(a, b)));
-    let other = best_entry(points, faces, words, false, a, b, walk, words.len());
+    let other = best_entry(points, faces, index, words, false, a, b, walk, words.len());
     if other < words.len() {
         return other;
     }
-    best_entry(points, faces, words, false, a, b, 0, first)
+    best_entry(points, faces, index, words, false, a, b, 0, first)
 }
 
 // Whether face f is kept at the edge from a to b, which has at least two entries.
-pub fn kept(points: &[f64], faces: &[u32], words: &[u32], a: u32, b: u32, f: usize) -> bool
+pub fn kept(
+    points: &[f64],
+    faces: &[u32],
+    index: &[u32],
+    words: &[u32],
+    a: u32,
+    b: u32,
+    f: usize,
+) -> bool
     requires { ⌜ choosing.KeptAsks (now points) (now faces) (now words) (steps.step a b) ⌝ }
+    requires { ⌜ Indexed (now faces) (now index) ⌝ }
     ensures { λ r. ⌜ r ≡ choosing.keptAt (now (points .entry)) (now (faces .entry)) (now (words .entry)) (steps.step a b) f ⌝ }
 {
-    let first = best_entry(points, faces, words, false, a, b, 0, words.len());
+    let first = best_entry(points, faces, index, words, false, a, b, 0, words.len());
     if f == first {
         return true;
     }
-    f == second(points, faces, words, a, b, first)
+    f == second(points, faces, index, words, a, b, first)
 }

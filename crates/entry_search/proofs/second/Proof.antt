@@ -38,7 +38,7 @@ best-entry-requires c κs = search needs
 
 -- src/lib.rt:295:9
 returns : tie.Need-returns
-returns c = let at-best = c .before in let at-other = at-best .before in let at-walks = at-other .before in let at-view = at-walks .before .before .before in let start = at-view .before .before .before .before in some (start .pre) (walk-of (start .pre) (at-view .view .ensures) (at-walks .before .before .lower .ensures) (at-walks .before .higher .ensures) (at-walks .walks .ensures)) (at-other .otherwise .ensures) (at-best .best-entry .ensures) (c .if1 .taken)
+returns c = let at-best = c .before in let at-other = at-best .before in let at-walks = at-other .before in let at-view = at-walks .before .before .before in let start = at-view .before .before .before .before .before in some (start .pre .0) (walk-of (start .pre .0) (at-view .view .ensures) (at-walks .before .before .lower .ensures) (at-walks .before .higher .ensures) (at-walks .walks .ensures)) (at-other .otherwise .ensures) (at-best .best-entry .ensures) (c .if1 .taken)
 
 -- src/lib.rt:297:5
 best-entry-requires-2 : tie.Need-best-entry-requires-2
@@ -46,7 +46,7 @@ best-entry-requires-2 c κs = search needs
 
 -- src/lib.rt:287:1
 returns-2 : tie.Need-returns-2
-returns-2 c = let at-best = c .before .before in let at-other = at-best .before in let at-walks = at-other .before in let at-view = at-walks .before .before .before in let start = at-view .before .before .before .before in rest (start .pre) (walk-of (start .pre) (at-view .view .ensures) (at-walks .before .before .lower .ensures) (at-walks .before .higher .ensures) (at-walks .walks .ensures)) (at-other .otherwise .ensures) (at-best .best-entry .ensures) (c .before .if1 .left) (c .best-entry2 .ensures)
+returns-2 c = let at-best = c .before .before in let at-other = at-best .before in let at-walks = at-other .before in let at-view = at-walks .before .before .before in let start = at-view .before .before .before .before .before in rest (start .pre .0) (walk-of (start .pre .0) (at-view .view .ensures) (at-walks .before .before .lower .ensures) (at-walks .before .higher .ensures) (at-walks .walks .ensures)) (at-other .otherwise .ensures) (at-best .best-entry .ensures) (c .before .if1 .left) (c .best-entry2 .ensures)
 
 pub second-spec : {M : Type 1} → statement M
 second-spec =

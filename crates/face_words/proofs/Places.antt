@@ -1,6 +1,6 @@
 -- The faces that stand, and their places in the rules' list. Assumes nothing.
 use mathlib.Core.Path.{_≡_, refl, sym, ap, ap₂, _∙_, subst}
-use mathlib.Core.Bool.{Bool, true, false, not, _&&_, cond}
+use mathlib.Core.Bool.{Bool, true, false, not, _&&_, _||_, cond}
 use mathlib.Core.List.{List, [], _∷_, _++_, map, map-append, map-map, append-nil}
 use Prim.Native.Nat.{ℕ, zero, suc, _+_, _≤_, _<_}
 use native.Mathlib.Omega.{arith}
@@ -10,7 +10,7 @@ use lib.Dec.{T, eqb, ltb}
 use lib.Ieee.Bits.{is-true}
 use lib.ListN.{length, getD, length-map, length-append, List·getD-append}
 use lib.Seq.{getD-append-add}
-use Rattle.rules.specs.Lists.{below, filter, count, each, leave}
+use Rattle.rules.specs.Lists.{below, filter, count, any, each, leave}
 use Rattle.rules.specs.Mesh.{Face, face, facesOf, exchanged}
 use Rattle.rules.specs.Steps.{Step, steps, Entry, entries}
 use Rattle.rules.proofs.Lists.{under-cond, filter-append, filter-map, each-map, map-each, getD-map-in, stay-at, leave-places, length-below}
@@ -49,6 +49,32 @@ module _ {A B : Type 0} where
   unfolding each
   filter-each p h [] = unfold filter in refl
   filter-each p h (x ∷ xs) = filter-append p (h x) (each h xs) ∙ ap (λ l. filter p (h x) ++ l) (filter-each p h xs)
+
+  -- lists made of what a filter leaves
+  pub each-filter : (p : A → Bool) (h : A → List B) (xs : List A) → each h (filter p xs) ≡ each (λ x. cond (p x) (h x) []) xs
+  unfolding each filter
+  each-filter p h [] = refl
+  each-filter p h (x ∷ xs) = go (p x) (each-filter p h xs)
+    where
+      go : (b : Bool) → each h (filter p xs) ≡ each (λ y. cond (p y) (h y) []) xs → each h (cond b (x ∷ filter p xs) (filter p xs)) ≡ cond b (h x) [] ++ each (λ y. cond (p y) (h y) []) xs
+      go true e = ap (λ l. h x ++ l) e
+      go false e = e
+
+  -- a test of changed members
+  pub any-map : (p : B → Bool) (f : A → B) (xs : List A) → any p (map f xs) ≡ any (λ x. p (f x)) xs
+  unfolding any
+  any-map p f [] = refl
+  any-map p f (x ∷ xs) = ap (λ r. p (f x) || r) (any-map p f xs)
+
+-- a filter before a test
+pub any-filter : {A : Type 0} (p q : A → Bool) (xs : List A) → any q (filter p xs) ≡ any (λ x. p x && q x) xs
+unfolding any filter
+any-filter p q [] = refl
+any-filter p q (x ∷ xs) = go (p x) (any-filter p q xs)
+  where
+    go : (b : Bool) → any q (filter p xs) ≡ any (λ y. p y && q y) xs → any q (cond b (x ∷ filter p xs) (filter p xs)) ≡ (b && q x || any (λ y. p y && q y) xs)
+    go true e = ap (λ r. q x || r) e
+    go false e = e
 
 -- ---- the faces that stand
 
@@ -167,6 +193,18 @@ module _ (xs w : List ℕ) where
       (all-imp (λ f. (face (viewed xs w) (place w f) ≡ view xs w f) × T (not (m (place w f)))) (λ f. getD (viewed xs w) (place w f) (record { a = 0; b = 0; c = 0; origin = 0 }) ≡ view xs w f) (λ f h. unfold face in (h .0)) (filter (λ f. not (m (place w f))) (there w (length w)))
       (all-filter (λ f. face (viewed xs w) (place w f) ≡ view xs w f) (λ f. not (m (place w f))) (there w (length w)) viewed-faces))
       ∙ ap (map (view xs w)) (filter-both (λ f. not (m (place w f))) (stands w) (below (length w)))
+
+  -- a test of the places is one of the faces that stand
+  pub any-places : (p : ℕ → Bool) → any p (below (length (viewed xs w))) ≡ any (λ f. stands w f && p (place w f)) (below (length w))
+  any-places p = ap (any p) (below-places) ∙ any-map p (place w) (there w (length w)) ∙ any-filter (stands w) (λ f. p (place w f)) (below (length w))
+
+  -- so is a test of the list
+  pub any-viewed : (p : Face → Bool) → any p (viewed xs w) ≡ any (λ f. stands w f && p (view xs w f)) (below (length w))
+  any-viewed p = any-map p (view xs w) (there w (length w)) ∙ any-filter (stands w) (λ f. p (view xs w f)) (below (length w))
+
+  -- lists made place by place are made face by face
+  pub each-places : {A : Type 0} (h : ℕ → List A) → each h (below (length (viewed xs w))) ≡ each (λ f. cond (stands w f) (h (place w f)) []) (below (length w))
+  each-places h = ap (each h) below-places ∙ each-map h (place w) (there w (length w)) ∙ each-filter (stands w) (λ f. h (place w f)) (below (length w))
 
 -- ---- entries
 

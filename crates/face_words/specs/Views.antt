@@ -20,3 +20,8 @@ pub record Worded (xs w : List ℕ) : Type 0 where
 pub record ViewAsks (xs w : List ℕ) (f : ℕ) : Type 0 where
   pub worded : Worded xs w
   pub here : f < length w
+
+-- and k is one of its corners
+pub record CornerAsks (xs w : List ℕ) (f k : ℕ) : Type 0 where
+  pub view : ViewAsks xs w f
+  pub corner : k < 3

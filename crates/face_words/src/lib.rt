@@ -2,9 +2,10 @@
 // and leaves when the pass ends. Bit 3: it is visited. Bits 4 to 6: flags of its corners. Bits 8 and up: a link, the number of a face and one more.
 ghost use mathlib.Core.Path.{_≡_};
 ghost use Prim.Native.Nat.{_<_};
-ghost use lib.ListN.{length};
+ghost use lib.ListN.{length, getD};
+ghost use Rattle.rules.specs.Mesh.{corners};
 ghost use Rattle.face_words.specs.Words as word;
-ghost use Rattle.face_words.specs.Views.{seenAs, ViewAsks};
+ghost use Rattle.face_words.specs.Views.{seenAs, ViewAsks, CornerAsks};
 
 // The corners of a face as it stands.
 pub struct Corners {
@@ -33,4 +34,19 @@ pub fn view(faces: &[u32], words: &[u32], f: usize) -> Corners
         return Corners { a: a, b: b, c: c };
     }
     Corners { a: a, b: c, c: b }
+}
+
+// Corner k of face f under its word.
+pub fn corner(faces: &[u32], words: &[u32], f: usize, k: usize) -> u32
+    requires { ⌜ CornerAsks (now faces) (now words) f k ⌝ }
+    ensures { λ r. ⌜ r ≡ getD (corners (word.view (now (faces .entry)) (now (words .entry)) f)) k 0 ⌝ }
+{
+    let g = view(faces, words, f);
+    if k == 0 {
+        return g.a;
+    }
+    if k == 1 {
+        return g.b;
+    }
+    g.c
 }

@@ -195,7 +195,7 @@ module _ {m : List Face → ℕ → Bool} {xs w w₁ : List ℕ} {r : ℕ} (p : 
 
   module _ {w′ : List ℕ} (s : SweepGives w₁ w′) where
     -- a word of both
-    word-is : (f : ℕ) → f < length w → getD w′ f 0 ≡ getD w f 0 + cond (markAt m xs w f) 1 0
+    pub word-is : (f : ℕ) → f < length w → getD w′ f 0 ≡ getD w f 0 + cond (markAt m xs w f) 1 0
     word-is f h =
         s .words f (let l = g .long in omega arith)
         ∙ ap swept (g .words f h)
@@ -238,6 +238,19 @@ module _ {m : List Face → ℕ → Bool} {xs w w₁ : List ℕ} {r : ℕ} (p : 
         turned : (f : ℕ) → f < length w → straight w′ f ≡ straight w f
         turned f h = unfold straight in (ap (λ x. eqb x 0) (ap (λ x. x / 2 % 2) (word-is f h) ∙ half (markAt m xs w f) (getD w f 0) (marked-even f)))
 
+-- words of faces that are gone or not, and nothing else, stay such words
+pub low-left : {m : List Face → ℕ → Bool} {xs w w′ : List ℕ} {r : ℕ} → PassGives m xs w w′ r → ((f : ℕ) → f < length w → getD w f 0 < 2) → (f : ℕ) → f < length w′ → getD w′ f 0 < 2
+unfolding markAt stands
+low-left {m} {xs} {w} {w′} g low f h =
+    let l = g .long in
+    let b = low f (omega arith) in
+    rw (g .words f (omega arith)) (go (eqb (getD w f 0 % 2) 0) refl (m (viewed xs w) (place w f)) b)
+  where
+    go : (c : Bool) → eqb (getD w f 0 % 2) 0 ≡ c → (d : Bool) → getD w f 0 < 2 → getD w f 0 + cond (c && d) 1 0 < 2
+    go true e true b = let k = eqb-true (getD w f 0 % 2) 0 e in omega arith
+    go true e false b = omega arith
+    go false e d b = omega arith
+
 -- a pass is both
 pub passed : {m : List Face → ℕ → Bool} {xs w w₁ : List ℕ} {r : ℕ} → Plain w → MarkGives m xs w w₁ r → {w′ : List ℕ} → SweepGives w₁ w′ → PassGives m xs w w′ r
-passed p g s = record { long = s .long ∙ g .long; plain = plain-left p g s; list = list-left p g s; number = g .number }
+passed p g s = record { long = s .long ∙ g .long; plain = plain-left p g s; words = word-is p g s; list = list-left p g s; number = g .number }

@@ -20,7 +20,7 @@ use Rattle.rules.proofs.Rising.{All, all-imp}
 use Rattle.rules.proofs.Members.{all-members, all-in, mem-each, mem-each-of, mem-below, below-mem, mem-filter, mem-left, any-intro, any-mem, mem-has, has-mem, mem-three}
 use Rattle.rules.proofs.Once.{Inside, Corners-below, face-inside, mem-pairs, same-is}
 use Rattle.rules.proofs.Takers.{takers, users-takers, walkers-takers}
-use Rattle.face_words.proofs.Places.{takers-each}
+use Rattle.face_words.proofs.Places.{takers-each, any-filter}
 use Rattle.entry_search.proofs.Entries.{same-self}
 
 -- a changed member is a member of the changed list
@@ -32,16 +32,6 @@ mem-map f x (y ∷ xs) (List·Memᴰ·tail m) = List·Memᴰ·tail (mem-map f x 
 pub mem-same : {A : Type 0} (i x : ℕ) (ss : List A) → List·Memᴰ i (map (λ s. x) ss) → (i ≡ x) × (s : A) × List·Memᴰ s ss
 mem-same i x (s ∷ ss) (List·Memᴰ·head e) = (e, s, List·Memᴰ·head refl)
 mem-same i x (s ∷ ss) (List·Memᴰ·tail m) = let r = mem-same i x ss m in (r .0, r .1, List·Memᴰ·tail (r .2))
-
--- a filter before a test
-any-filter : {A : Type 0} (p q : A → Bool) (xs : List A) → any q (filter p xs) ≡ any (λ x. p x && q x) xs
-unfolding any filter
-any-filter p q [] = refl
-any-filter p q (x ∷ xs) = go (p x) (any-filter p q xs)
-  where
-    go : (b : Bool) → any q (filter p xs) ≡ any (λ y. p y && q y) xs → any q (cond b (x ∷ filter p xs) (filter p xs)) ≡ (b && q x || any (λ y. p y && q y) xs)
-    go true e = ap (λ r. q x || r) e
-    go false e = e
 
 -- tests that agree on the members
 any-agree : {A : Type 0} (p q : A → Bool) (xs : List A) → All (λ x. p x ≡ q x) xs → any p xs ≡ any q xs

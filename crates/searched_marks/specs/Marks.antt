@@ -83,6 +83,7 @@ pub record MarkGives (m : List Face → ℕ → Bool) (xs w w′ : List ℕ) (r 
 pub record PassGives (m : List Face → ℕ → Bool) (xs w w′ : List ℕ) (r : ℕ) : Type 0 where
   pub long : length w′ ≡ length w
   pub plain : Plain w′
+  pub words : (f : ℕ) → f < length w → getD w′ f 0 ≡ getD w f 0 + cond (markAt m xs w f) 1 0
   pub list : viewed xs w′ ≡ leave (m (viewed xs w)) (viewed xs w)
   pub number : r ≡ count (m (viewed xs w)) (below (length (viewed xs w)))
 

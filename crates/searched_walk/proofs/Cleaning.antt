@@ -13,7 +13,7 @@ use Rattle.rules.specs.Lists.{below, filter, count}
 use Rattle.rules.specs.Pass4.{oriented}
 use Rattle.rules.proofs.Counting.{count-next, count-stay, count-below-le}
 use Rattle.face_words.specs.Words.{stands, viewed, place}
-use Rattle.searched_marks.proofs.Seeing.{Sight, viewed-same}
+use Rattle.searched_marks.proofs.Seeing.{Sight, stands-same, viewed-same}
 use Rattle.searched_walk.specs.declared.Hand.{Hand}
 use Rattle.searched_walk.specs.declared.Turned.{Turned}
 use Rattle.searched_walk.specs.Walking.{walkOf, orientedOf, WalkAsks, AllAsks, AllGives, CleanGives, TurnedGives}
@@ -86,6 +86,7 @@ module _ {xs w w₁ : List ℕ} {h : Hand} (g : AllGives xs w w₁ h) {w′ : Li
       record {
         long = c .long ∙ g .kept .long;
         low = λ f l. let k = c .long in rw (c .words f (omega arith)) (omega arith);
+        stays = stands-same sight ∙ g .kept .stays;
         list = viewed-same sight xs ∙ faces;
         reoriented = exchanges;
         components = ap (λ o. o .marks) (g .walk);

@@ -172,6 +172,7 @@ pub record CleanGives (w w′ : List ℕ) : Type 0 where
 pub record TurnedGives (xs w w′ : List ℕ) (r : Turned) : Type 0 where
   pub long : length w′ ≡ length w
   pub low : (f : ℕ) → f < length w′ → getD w′ f 0 < 4
+  pub stays : stands w′ ≡ stands w
   pub list : viewed xs w′ ≡ oriented (viewed xs w) .walk .faces
   pub reoriented : r .reoriented ≡ oriented (viewed xs w) .walk .exchanges
   pub components : r .components ≡ oriented (viewed xs w) .marks

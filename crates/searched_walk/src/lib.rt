@@ -5,6 +5,7 @@ ghost use mathlib.Core.Bool.{not, _||_, cond};
 ghost use lib.ListN.{length, replicate};
 ghost use Rattle.rules.specs.Steps.{step};
 ghost use Rattle.face_words.specs.Words.{place};
+ghost use Rattle.face_index.specs.Index.{Indexed};
 ghost use Rattle.searched_walk.specs.Walking as walking;
 
 // What the walk has beside the words: the top face of the stack, how many are on it, how many faces were exchanged, whether the present component is marked,
@@ -126,33 +127,44 @@ fn meet_face(
 }
 
 // Face j crosses by the step from a to b: it meets the users of that edge, in order, itself skipped.
-fn across(faces: &[u32], words: &mut [u32], j: usize, a: u32, b: u32, hand: Hand) -> Hand
+fn across(
+    faces: &[u32],
+    index: &[u32],
+    words: &mut [u32],
+    j: usize,
+    a: u32,
+    b: u32,
+    hand: Hand,
+) -> Hand
     requires { ⌜ walking.MeetAsks (now faces) (now words) hand j ⌝ }
+    requires { ⌜ Indexed (now faces) (now index) ⌝ }
     ensures { λ r. ⌜ walking.AcrossGives (now (faces .entry)) (now (words .entry)) hand j (step a b) (now (words .exit)) r ⌝ }
 {
     let mut now = hand;
-    let mut g = entry_search::next_candidate(faces, a, b, 0);
+    let mut g = face_index::next_indexed(faces, index, a, b, 0);
     while g < words.len() {
         now = meet_face(faces, words, j, g, a, b, now);
-        g = entry_search::next_candidate(faces, a, b, g + 1);
+        g = face_index::next_indexed(faces, index, a, b, g + 1);
     }
     now
 }
 
 // Face j crosses its edges: its steps (0,1), (1,2), (2,0) as it stands.
-fn cross_face(faces: &[u32], words: &mut [u32], j: usize, hand: Hand) -> Hand
+fn cross_face(faces: &[u32], index: &[u32], words: &mut [u32], j: usize, hand: Hand) -> Hand
     requires { ⌜ walking.MeetAsks (now faces) (now words) hand j ⌝ }
+    requires { ⌜ Indexed (now faces) (now index) ⌝ }
     ensures { λ r. ⌜ walking.CrossGives (now (faces .entry)) (now (words .entry)) hand j (now (words .exit)) r ⌝ }
 {
     let v = face_words::view(faces, words, j);
-    let first = across(faces, words, j, v.a, v.b, hand);
-    let second = across(faces, words, j, v.b, v.c, first);
-    across(faces, words, j, v.c, v.a, second)
+    let first = across(faces, index, words, j, v.a, v.b, hand);
+    let second = across(faces, index, words, j, v.b, v.c, first);
+    across(faces, index, words, j, v.c, v.a, second)
 }
 
 // Takes a face off the stack, which crosses its edges.
-fn pop(faces: &[u32], words: &mut [u32], hand: Hand) -> Hand
+fn pop(faces: &[u32], index: &[u32], words: &mut [u32], hand: Hand) -> Hand
     requires { ⌜ walking.PopAsks (now faces) (now words) hand ⌝ }
+    requires { ⌜ Indexed (now faces) (now index) ⌝ }
     ensures { λ r. ⌜ walking.PopGives (now (faces .entry)) (now (words .entry)) hand (now (words .exit)) r ⌝ }
 {
     let j = hand.top as usize;
@@ -163,12 +175,13 @@ fn pop(faces: &[u32], words: &mut [u32], hand: Hand) -> Hand
         mark: hand.mark,
         marks: hand.marks,
     };
-    cross_face(faces, words, j, rest)
+    cross_face(faces, index, words, j, rest)
 }
 
 // Takes face after face off the stack until it is empty, n at most: each is pushed only once.
-fn empty_stack(faces: &[u32], words: &mut [u32], n: usize, hand: Hand) -> Hand
+fn empty_stack(faces: &[u32], index: &[u32], words: &mut [u32], n: usize, hand: Hand) -> Hand
     requires { ⌜ walking.Ready (now faces) (now words) hand ⌝ }
+    requires { ⌜ Indexed (now faces) (now index) ⌝ }
     ensures { λ r. ⌜ walking.EmptyGives (now (faces .entry)) (now (words .entry)) hand n (now (words .exit)) r ⌝ }
 {
     let mut now = hand;
@@ -177,15 +190,23 @@ fn empty_stack(faces: &[u32], words: &mut [u32], n: usize, hand: Hand) -> Hand
         if now.size == 0 {
             return now;
         }
-        now = pop(faces, words, now);
+        now = pop(faces, index, words, now);
         left -= 1;
     }
     now
 }
 
 // Walks the component of face f, which is unvisited; n faces stand.
-fn component(faces: &[u32], words: &mut [u32], n: usize, f: usize, hand: Hand) -> Hand
+fn component(
+    faces: &[u32],
+    index: &[u32],
+    words: &mut [u32],
+    n: usize,
+    f: usize,
+    hand: Hand,
+) -> Hand
     requires { ⌜ walking.StartAsks (now faces) (now words) hand n f ⌝ }
+    requires { ⌜ Indexed (now faces) (now index) ⌝ }
     ensures { λ r. ⌜ walking.ComponentGives (now (faces .entry)) (now (words .entry)) hand f (now (words .exit)) r ⌝ }
 {
     words[f] = words[f] + 8;
@@ -196,12 +217,13 @@ fn component(faces: &[u32], words: &mut [u32], n: usize, f: usize, hand: Hand) -
         mark: false,
         marks: hand.marks,
     };
-    empty_stack(faces, words, n, started)
+    empty_stack(faces, index, words, n, started)
 }
 
 // Walks the component of face f, if that stands and is unvisited, and counts it if it is marked.
-fn begin(faces: &[u32], words: &mut [u32], n: usize, f: usize, hand: Hand) -> Hand
+fn begin(faces: &[u32], index: &[u32], words: &mut [u32], n: usize, f: usize, hand: Hand) -> Hand
     requires { ⌜ walking.BeginAsks (now faces) (now words) hand n f ⌝ }
+    requires { ⌜ Indexed (now faces) (now index) ⌝ }
     ensures { λ r. ⌜ walking.BeginGives (now (faces .entry)) (now (words .entry)) hand f (now (words .exit)) r ⌝ }
 {
     if !face_words::stands(words, f) {
@@ -210,7 +232,7 @@ fn begin(faces: &[u32], words: &mut [u32], n: usize, f: usize, hand: Hand) -> Ha
     if seen(words, f) {
         return hand;
     }
-    let walked = component(faces, words, n, f, hand);
+    let walked = component(faces, index, words, n, f, hand);
     let marks = walked.marks + 1 - one_more(walked.mark);
     Hand {
         top: walked.top,
@@ -237,8 +259,9 @@ fn count_standing(words: &[u32]) -> usize
 }
 
 // Walks all components, starts by rising face.
-fn walk_all(faces: &[u32], words: &mut [u32], n: usize) -> Hand
+fn walk_all(faces: &[u32], index: &[u32], words: &mut [u32], n: usize) -> Hand
     requires { ⌜ walking.AllAsks (now faces) (now words) n ⌝ }
+    requires { ⌜ Indexed (now faces) (now index) ⌝ }
     ensures { λ r. ⌜ walking.AllGives (now (faces .entry)) (now (words .entry)) (now (words .exit)) r ⌝ }
 {
     let mut now = Hand {
@@ -250,7 +273,7 @@ fn walk_all(faces: &[u32], words: &mut [u32], n: usize) -> Hand
     };
     let mut f = 0;
     while f < words.len() {
-        now = begin(faces, words, n, f, now);
+        now = begin(faces, index, words, n, f, now);
         f += 1;
     }
     now
@@ -269,12 +292,13 @@ fn clean(words: &mut [u32])
 
 // Orients the faces that stand: each agrees with the one from which it was reached. Returns how many were exchanged, and how many components have faces that
 // disagree.
-pub fn walk(faces: &[u32], words: &mut [u32]) -> Turned
+pub fn walk(faces: &[u32], index: &[u32], words: &mut [u32]) -> Turned
     requires { ⌜ walking.WalkAsks (now faces) (now words) ⌝ }
+    requires { ⌜ Indexed (now faces) (now index) ⌝ }
     ensures { λ r. ⌜ walking.TurnedGives (now (faces .entry)) (now (words .entry)) (now (words .exit)) r ⌝ }
 {
     let n = count_standing(words);
-    let hand = walk_all(faces, words, n);
+    let hand = walk_all(faces, index, words, n);
     clean(words);
     Turned {
         reoriented: hand.exchanges,

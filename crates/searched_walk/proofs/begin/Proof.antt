@@ -22,7 +22,7 @@ same-length c = search needs
 
 -- src/lib.rt:208:9
 returns : tie.Need-returns
-returns c = let at-stands = c .before in let start = at-stands .before .before .before .before in begin-gone (start .pre) (at-stands .stands .ensures) (not-up (at-stands .stands .result) (c .if1 .taken))
+returns c = let at-stands = c .before in let start = at-stands .before .before .before .before .before in begin-gone (start .pre .0) (at-stands .stands .ensures) (not-up (at-stands .stands .result) (c .if1 .taken))
 
 -- src/lib.rt:210:8
 seen-requires : tie.Need-seen-requires
@@ -34,11 +34,11 @@ same-length-2 c = search needs
 
 -- src/lib.rt:211:9
 returns-2 : tie.Need-returns-2
-returns-2 c = let at-seen = c .before in let at-stands = at-seen .before .before .before in let start = at-stands .before .before .before .before in begin-seen (start .pre) (at-stands .stands .ensures) (not-down (at-stands .stands .result) (at-seen .before .before .if1 .left)) (at-seen .seen .ensures) (c .if2 .taken)
+returns-2 c = let at-seen = c .before in let at-stands = at-seen .before .before .before in let start = at-stands .before .before .before .before .before in begin-seen (start .pre .0) (at-stands .stands .ensures) (not-down (at-stands .stands .result) (at-seen .before .before .if1 .left)) (at-seen .seen .ensures) (c .if2 .taken)
 
 -- src/lib.rt:213:9
 component-requires : tie.Need-component-requires
-component-requires c κs = let at-seen = c .before .before in let at-stands = at-seen .before .before .before in let start = at-stands .before .before .before .before in start-ask (start .pre) (at-stands .stands .ensures) (not-down (at-stands .stands .result) (at-seen .before .before .if1 .left)) (at-seen .seen .ensures) (c .before .if2 .left)
+component-requires c κs = let at-seen = c .before .before in let at-stands = at-seen .before .before .before in let start = at-stands .before .before .before .before .before in (start-ask (start .pre .0) (at-stands .stands .ensures) (not-down (at-stands .stands .result) (at-seen .before .before .if1 .left)) (at-seen .seen .ensures) (c .before .if2 .left), start .pre .1)
 
 -- src/lib.rt:214:17
 add-marks : tie.Need-add-marks
@@ -50,7 +50,7 @@ one-more-requires c κs = search needs
 
 -- src/lib.rt:214:17
 sub-marks : tie.Need-sub-marks
-sub-marks c = let at-seen = c .before .before .before .before .before .before .before in let at-stands = at-seen .before .before .before in let start = at-stands .before .before .before .before in omega (arith, mark-bounds (start .pre) (at-stands .stands .ensures) (not-down (at-stands .stands .result) (at-seen .before .before .if1 .left)) (at-seen .seen .ensures) (c .before .before .before .before .before .before .if2 .left) (c .before .before .before .before .component .ensures) (c .one-more .ensures))
+sub-marks c = let at-seen = c .before .before .before .before .before .before .before in let at-stands = at-seen .before .before .before in let start = at-stands .before .before .before .before .before in omega (arith, mark-bounds (start .pre .0) (at-stands .stands .ensures) (not-down (at-stands .stands .result) (at-seen .before .before .if1 .left)) (at-seen .seen .ensures) (c .before .before .before .before .before .before .if2 .left) (c .before .before .before .before .component .ensures) (c .one-more .ensures))
 
 -- src/lib.rt:203:1
 same-length-3 : tie.Need-same-length-3
@@ -58,7 +58,7 @@ same-length-3 c = search needs
 
 -- src/lib.rt:203:1
 returns-3 : tie.Need-returns-3
-returns-3 c = let at-seen = c .before .before .before .before .before .before .before in let at-stands = at-seen .before .before .before in let start = at-stands .before .before .before .before in begin-walked (start .pre) (at-stands .stands .ensures) (not-down (at-stands .stands .result) (at-seen .before .before .if1 .left)) (at-seen .seen .ensures) (c .before .before .before .before .before .before .if2 .left) (c .before .before .before .before .component .ensures) (c .one-more .ensures)
+returns-3 c = let at-seen = c .before .before .before .before .before .before .before in let at-stands = at-seen .before .before .before in let start = at-stands .before .before .before .before .before in begin-walked (start .pre .0) (at-stands .stands .ensures) (not-down (at-stands .stands .result) (at-seen .before .before .if1 .left)) (at-seen .seen .ensures) (c .before .before .before .before .before .before .if2 .left) (c .before .before .before .before .component .ensures) (c .one-more .ensures)
 
 pub begin-spec : {M : Type 1} → statement M
 begin-spec =

@@ -18,7 +18,7 @@ slice-read-words c = search needs
 
 -- src/lib.rt:191:16
 add-words : tie.Need-add-words
-add-words c = omega (arith, start-low (c .before .before .before .pre))
+add-words c = omega (arith, start-low (c .before .before .before .before .pre .0))
 
 -- src/lib.rt:191:5
 mul-words-2 : tie.Need-mul-words-2
@@ -29,12 +29,12 @@ slice-write-words : tie.Need-slice-write-words
 slice-write-words c = search needs
 
 -- src/lib.rt:193:14
-cast-t9 : tie.Need-cast-t9
-cast-t9 c = search needs
+cast-t10 : tie.Need-cast-t10
+cast-t10 c = search needs
 
 -- src/lib.rt:199:5
 empty-stack-requires : tie.Need-empty-stack-requires
-empty-stack-requires c κs = start-ready (c .before .before .before .before .pre)
+empty-stack-requires c κs = (start-ready (c .before .before .before .before .before .pre .0), c .before .before .before .before .before .pre .1)
 
 -- src/lib.rt:187:1
 same-length : tie.Need-same-length
@@ -42,7 +42,7 @@ same-length c = search needs
 
 -- src/lib.rt:187:1
 returns : tie.Need-returns
-returns c = component-gives (c .before .before .before .before .before .before .before .pre) (c .before .before .empty-stack .ensures)
+returns c = component-gives (c .before .before .before .before .before .before .before .before .pre .0) (c .before .before .empty-stack .ensures)
 
 pub component-spec : {M : Type 1} → statement M
 component-spec =
@@ -53,7 +53,7 @@ component-spec =
     add-words
     mul-words-2
     slice-write-words
-    cast-t9
+    cast-t10
     empty-stack-requires
     same-length
     returns)

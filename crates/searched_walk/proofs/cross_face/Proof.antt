@@ -18,11 +18,11 @@ across-requires c κs = search needs
 
 -- src/lib.rt:149:9
 across-requires-2 : tie.Need-across-requires-2
-across-requires-2 c κs = still-ask (c .before .before .before .before .before .before .before .before .before .pre) (c .before .before .before .across .ensures)
+across-requires-2 c κs = (still-ask (c .before .before .before .before .before .before .before .before .before .before .pre .0) (c .before .before .before .across .ensures), c .before .before .before .before .before .before .before .before .before .before .pre .1)
 
 -- src/lib.rt:150:5
 across-requires-3 : tie.Need-across-requires-3
-across-requires-3 c κs = still-ask (still-ask (c .before .before .before .before .before .before .before .before .before .before .before .before .before .pre) (c .before .before .before .before .before .before .before .across .ensures)) (c .before .before .before .across2 .ensures)
+across-requires-3 c κs = (still-ask (still-ask (c .before .before .before .before .before .before .before .before .before .before .before .before .before .before .pre .0) (c .before .before .before .before .before .before .before .across .ensures)) (c .before .before .before .across2 .ensures), c .before .before .before .before .before .before .before .before .before .before .before .before .before .before .pre .1)
 
 -- src/lib.rt:143:1
 same-length : tie.Need-same-length

@@ -8,14 +8,14 @@ use Rattle.searched_walk.proofs.empty_stack.Lts as lts
 use Rattle.searched_walk.proofs.pop.Reads as pop-reads
 
 abbrev Inv-loop : tie.InvT-loop
-Inv-loop faces words₀ n now₀ left₀ words now left = Emptying faces words₀ now₀ n words now left
+Inv-loop faces index words₀ n now₀ left₀ words now left = Emptying faces words₀ now₀ n words now left
 
 abbrev μ-loop : tie.MeasureT-loop
-μ-loop faces words₀ n now₀ left₀ words now left = left
+μ-loop faces index words₀ n now₀ left₀ words now left = left
 
 -- src/lib.rt:176:5
 loop-holds : tie.Need-loop-holds Inv-loop μ-loop
-loop-holds c = empty-begin (c .before .before .args .n) (c .before .before .pre)
+loop-holds c = empty-begin (c .before .before .before .args .n) (c .before .before .before .pre .0)
 
 -- src/lib.rt:178:13
 same-length : tie.Need-same-length Inv-loop μ-loop
@@ -27,7 +27,7 @@ returns c = empty-stop (c .before .before .before .loop .inv) (c .if1 .taken)
 
 -- src/lib.rt:180:9
 pop-requires : tie.Need-pop-requires Inv-loop μ-loop
-pop-requires c κs = empty-ask (c .before .before .before .before .loop .inv) (c .before .if1 .left)
+pop-requires c κs = (empty-ask (c .before .before .before .before .loop .inv) (c .before .if1 .left), c .before .before .before .before .before .before .before .before .pre .1)
 
 -- src/lib.rt:181:9
 sub-left : tie.Need-sub-left Inv-loop μ-loop

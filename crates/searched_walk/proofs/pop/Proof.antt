@@ -12,20 +12,20 @@ cast-j : tie.Need-cast-j
 cast-j c = search needs
 
 -- src/lib.rt:160:14
-mul-t6 : tie.Need-mul-t6
-mul-t6 c = search needs
+mul-t7 : tie.Need-mul-t7
+mul-t7 c = search needs
 
 -- src/lib.rt:160:14
-slice-read-t8 : tie.Need-slice-read-t8
-slice-read-t8 c = top-in (c .before .before .before .before .pre) .0
+slice-read-t9 : tie.Need-slice-read-t9
+slice-read-t9 c = top-in (c .before .before .before .before .before .pre .0) .0
 
 -- src/lib.rt:161:15
-sub-t10 : tie.Need-sub-t10
-sub-t10 c = search needs
+sub-t11 : tie.Need-sub-t11
+sub-t11 c = search needs
 
 -- src/lib.rt:166:5
 cross-face-requires : tie.Need-cross-face-requires
-cross-face-requires c κs = pop-ask (c .before .before .before .before .before .before .pre)
+cross-face-requires c κs = (pop-ask (c .before .before .before .before .before .before .before .pre .0), c .before .before .before .before .before .before .before .pre .1)
 
 -- src/lib.rt:154:1
 same-length : tie.Need-same-length
@@ -33,9 +33,9 @@ same-length c = search needs
 
 -- src/lib.rt:154:1
 returns : tie.Need-returns
-returns c = pop-gives (c .before .before .before .before .before .before .before .before .before .pre) (c .before .before .cross-face .ensures)
+returns c = pop-gives (c .before .before .before .before .before .before .before .before .before .before .pre .0) (c .before .before .cross-face .ensures)
 
 pub pop-spec : {M : Type 1} → statement M
 pop-spec =
     tie.close
-    (tie.spec cast-j mul-t6 slice-read-t8 sub-t10 cross-face-requires same-length returns)
+    (tie.spec cast-j mul-t7 slice-read-t9 sub-t11 cross-face-requires same-length returns)

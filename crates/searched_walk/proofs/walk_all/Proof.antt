@@ -10,18 +10,18 @@ use Rattle.searched_walk.proofs.walk_all.Lts as lts
 use Rattle.searched_walk.proofs.begin.Reads as begin-reads
 
 abbrev Inv-loop : tie.InvT-loop
-Inv-loop faces words₀ n now₀ f₀ words now f = Begun faces words₀ words now f
+Inv-loop faces index words₀ n now₀ f₀ words now f = Begun faces words₀ words now f
 
 abbrev μ-loop : tie.MeasureT-loop
-μ-loop faces words₀ n now₀ f₀ words now f = length words₀ - f
+μ-loop faces index words₀ n now₀ f₀ words now f = length words₀ - f
 
 -- src/lib.rt:252:5
 loop-holds : tie.Need-loop-holds Inv-loop μ-loop
-loop-holds c = all-begin (c .before .before .pre)
+loop-holds c = all-begin (c .before .before .before .pre .0)
 
 -- src/lib.rt:253:9
 begin-requires : tie.Need-begin-requires Inv-loop μ-loop
-begin-requires c κs = all-ask (c .before .before .before .before .before .pre) (c .before .before .loop .inv) (c .before .loop-test .taken)
+begin-requires c κs = (all-ask (c .before .before .before .before .before .before .pre .0) (c .before .before .loop .inv) (c .before .loop-test .taken), c .before .before .before .before .before .before .pre .1)
 
 -- src/lib.rt:254:9
 add-f : tie.Need-add-f Inv-loop μ-loop
@@ -33,7 +33,7 @@ loop-less c = omega (arith, c .before .before .before .before .before .loop .inv
 
 -- src/lib.rt:252:5
 loop-again : tie.Need-loop-again Inv-loop μ-loop
-loop-again c = all-again (c .before .before .before .before .before .before .before .before .pre) (c .before .before .before .before .before .loop .inv) (c .before .before .before .before .loop-test .taken) (c .before .before .begin .ensures)
+loop-again c = all-again (c .before .before .before .before .before .before .before .before .before .pre .0) (c .before .before .before .before .before .loop .inv) (c .before .before .before .before .loop-test .taken) (c .before .before .begin .ensures)
 
 -- src/lib.rt:240:1
 same-length : tie.Need-same-length Inv-loop μ-loop
@@ -41,7 +41,7 @@ same-length c = c .before .loop .inv .kept .long
 
 -- src/lib.rt:240:1
 returns : tie.Need-returns Inv-loop μ-loop
-returns c = all-done (c .before .before .before .before .pre) (c .before .loop .inv) (c .loop-test .left)
+returns c = all-done (c .before .before .before .before .before .pre .0) (c .before .loop .inv) (c .loop-test .left)
 
 pub walk-all-spec : {M : Type 1} → statement M
 walk-all-spec =

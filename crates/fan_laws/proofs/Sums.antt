@@ -9,7 +9,7 @@ use borrow.Author.Tests.{eq-eqb, ne-eqb, lt-ltb, le-ltb}
 use lib.Dec.{eqb, ltb}
 use lib.ListN.{length, length-append}
 use Rattle.rules.specs.Lists.{below, filter, each}
-use Rattle.rules.proofs.Lists.{each-append}
+use Rattle.rules.proofs.Lists.{filter-append}
 use Rattle.rules.proofs.Rising.{All}
 use Rattle.splitting.proofs.AllAtOnce.{each-last}
 use Rattle.fan_laws.specs.Sums.{sumOf}
@@ -45,6 +45,18 @@ module _ {A B : Type 0} where
   unfolding sumOf each
   length-each-sum f [] = refl
   length-each-sum f (x ∷ xs) = length-append (f x) (each f xs) ∙ ap (λ (n : ℕ). length (f x) + n) (length-each-sum f xs)
+
+-- one number more
+pub sum-below : (h : ℕ → ℕ) (p : ℕ → Bool) (n : ℕ) → sumOf h (filter p (below (suc n))) ≡ sumOf h (filter p (below n)) + cond (p n) (h n) 0
+unfolding below
+sum-below h p n =
+    ap (sumOf h) (filter-append p (below n) (n ∷ []))
+    ∙ sum-append h (filter p (below n)) (filter p (n ∷ []))
+    ∙ ap (λ (t : ℕ). sumOf h (filter p (below n)) + t) (unfold filter in (one (p n)))
+  where
+    one : (b : Bool) → sumOf h (cond b (n ∷ []) []) ≡ cond b (h n) 0
+    one true = unfold sumOf in (omega arith)
+    one false = unfold sumOf in refl
 
 -- ---- members in another order: class after class
 

@@ -1,0 +1,2 @@
+-- `Reaching` has the search for one group of corners.
+pub mod Reaching

@@ -11,10 +11,11 @@ ghost use lib.ListN.{length};
 ghost use Rattle.rules.specs.Lists.{has};
 ghost use Rattle.rules.specs.Line.{decimal};
 ghost use Rattle.rules.specs.Refusal.{most-faces};
+ghost use Rattle.face_index.specs.Index.{Indexed};
 ghost use Rattle.searched_fans.specs.Reaching as by;
 
 // How many digits a number has in decimal.
-fn number_length(n: u32) -> usize
+pub fn number_length(n: u32) -> usize
     ensures { λ r. ⌜ r ≡ length (decimal n) ⌝ }
 {
     let mut m = n;
@@ -58,40 +59,43 @@ fn meets(faces: &[u32], words: &[u32], g: usize, v: u32, x: u32) -> bool
 }
 
 // The next face to look at from `from` on among those that may have both a and b.
-fn next_face(faces: &[u32], a: u32, b: u32, from: usize) -> usize
+fn next_face(faces: &[u32], index: &[u32], a: u32, b: u32, from: usize) -> usize
     requires { ⌜ by.NextAsks (now faces) from ⌝ }
+    requires { ⌜ Indexed (now faces) (now index) ⌝ }
     ensures { λ r. ⌜ by.NextGives (now (faces .entry)) a b from r ⌝ }
 {
-    from
+    face_index::next_indexed(faces, index, a, b, from)
 }
 
 // Lets each face wait that stands, was not met, and has both v and x, where x is another point than v.
-fn cross(faces: &[u32], words: &mut [u32], v: u32, x: u32)
+fn cross(faces: &[u32], index: &[u32], words: &mut [u32], v: u32, x: u32)
     requires { ⌜ by.CrossAsks (now faces) (now words) ⌝ }
+    requires { ⌜ Indexed (now faces) (now index) ⌝ }
     ensures { λ _. ⌜ by.CrossGives (now (faces .entry)) (now (words .entry)) v x (now (words .exit)) ⌝ }
 {
     if x == v {
         return;
     }
-    let mut g = next_face(faces, v, x, 0);
+    let mut g = next_face(faces, index, v, x, 0);
     while g < words.len() {
         if meets(faces, words, g, v, x) {
             words[g] = words[g] + 4;
         }
-        g = next_face(faces, v, x, g + 1);
+        g = next_face(faces, index, v, x, g + 1);
     }
 }
 
 // Goes through face i, which waits: each face waits that was not met and shares v and another point with it.
-fn go_through(faces: &[u32], words: &mut [u32], i: usize, v: u32)
+fn go_through(faces: &[u32], index: &[u32], words: &mut [u32], i: usize, v: u32)
     requires { ⌜ by.ThroughAsks (now faces) (now words) i ⌝ }
+    requires { ⌜ Indexed (now faces) (now index) ⌝ }
     ensures { λ _. ⌜ by.ThroughGives (now (faces .entry)) (now (words .entry)) i v (now (words .exit)) ⌝ }
 {
     let c = view(faces, words, i);
     words[i] = words[i] + 4;
-    cross(faces, words, v, c.a);
-    cross(faces, words, v, c.b);
-    cross(faces, words, v, c.c);
+    cross(faces, index, words, v, c.a);
+    cross(faces, index, words, v, c.b);
+    cross(faces, index, words, v, c.c);
 }
 
 // The first face that waits, or the number of faces.
@@ -145,14 +149,15 @@ fn settle(faces: &[u32], words: &mut [u32], v: u32) -> usize
 }
 
 // Flags the corners at v in the group of face f's, which has v and another point. Returns the bytes of the numbers of the group's faces, each after a tab.
-pub fn reach(faces: &[u32], words: &mut [u32], f: usize, v: u32) -> usize
+pub fn reach(faces: &[u32], index: &[u32], words: &mut [u32], f: usize, v: u32) -> usize
     requires { ⌜ by.ReachAsks (now faces) (now words) f v ⌝ }
+    requires { ⌜ Indexed (now faces) (now index) ⌝ }
     ensures { λ r. ⌜ ((q : by.ReachAsks (now (faces .entry)) (now (words .entry)) f v) → by.ReachGives q (now (words .exit)) r) ⌝ }
 {
     words[f] = words[f] + 4;
     let mut i = f;
     while i < words.len() {
-        go_through(faces, words, i, v);
+        go_through(faces, index, words, i, v);
         i = next_waiting(words);
     }
     settle(faces, words, v)

@@ -26,8 +26,8 @@ slice-read-words c = search needs
 add-words : tie.Need-add-words
 add-words c =
     let at-view = c .before in
-    let start = at-view .before .before .before .before in
-    omega (arith, read-small (start .pre))
+    let start = at-view .before .before .before .before .before in
+    omega (arith, read-small (start .pre .0))
 
 -- src/lib.rt:90:5
 mul-words-2 : tie.Need-mul-words-2
@@ -41,16 +41,16 @@ slice-write-words c = search needs
 cross-requires : tie.Need-cross-requires
 cross-requires c κs =
     let at-view = c .before .before in
-    let start = at-view .before .before .before .before in
-    asks-one (start .pre)
+    let start = at-view .before .before .before .before .before in
+    (asks-one (start .pre .0), start .pre .1)
 
 -- src/lib.rt:92:5
 cross-requires-2 : tie.Need-cross-requires-2
 cross-requires-2 c κs =
     let at-cross = c .before .before .before in
     let at-view = at-cross .before .before .before in
-    let start = at-view .before .before .before .before in
-    asks-two (start .pre) (at-cross .cross .ensures)
+    let start = at-view .before .before .before .before .before in
+    (asks-two (start .pre .0) (at-cross .cross .ensures), start .pre .1)
 
 -- src/lib.rt:93:5
 cross-requires-3 : tie.Need-cross-requires-3
@@ -58,8 +58,8 @@ cross-requires-3 c κs =
     let at-cross2 = c .before .before .before in
     let at-cross = at-cross2 .before .before .before .before in
     let at-view = at-cross .before .before .before in
-    let start = at-view .before .before .before .before in
-    asks-three (start .pre) (at-cross .cross .ensures) (at-cross2 .cross2 .ensures)
+    let start = at-view .before .before .before .before .before in
+    (asks-three (start .pre .0) (at-cross .cross .ensures) (at-cross2 .cross2 .ensures), start .pre .1)
 
 -- src/lib.rt:85:1
 same-length : tie.Need-same-length
@@ -68,8 +68,8 @@ same-length c =
     let at-cross2 = at-cross3 .before .before .before .before in
     let at-cross = at-cross2 .before .before .before .before in
     let at-view = at-cross .before .before .before in
-    let start = at-view .before .before .before .before in
-    as-long (start .pre) (at-cross .cross .ensures) (at-cross2 .cross2 .ensures) (at-cross3 .cross3 .ensures)
+    let start = at-view .before .before .before .before .before in
+    as-long (start .pre .0) (at-cross .cross .ensures) (at-cross2 .cross2 .ensures) (at-cross3 .cross3 .ensures)
 
 -- src/lib.rt:85:1
 returns : tie.Need-returns
@@ -78,8 +78,8 @@ returns c =
     let at-cross2 = at-cross3 .before .before .before .before in
     let at-cross = at-cross2 .before .before .before .before in
     let at-view = at-cross .before .before .before in
-    let start = at-view .before .before .before .before in
-    went (start .pre) (at-cross .cross .ensures) (at-cross2 .cross2 .ensures) (at-cross3 .cross3 .ensures) (ap (λ f. f .a) (at-view .view .ensures)) (ap (λ f. f .b) (at-view .view .ensures)) (ap (λ f. f .c) (at-view .view .ensures))
+    let start = at-view .before .before .before .before .before in
+    went (start .pre .0) (at-cross .cross .ensures) (at-cross2 .cross2 .ensures) (at-cross3 .cross3 .ensures) (ap (λ f. f .a) (at-view .view .ensures)) (ap (λ f. f .b) (at-view .view .ensures)) (ap (λ f. f .c) (at-view .view .ensures))
 
 pub go-through-spec : {M : Type 1} → statement M
 go-through-spec =

@@ -1,0 +1,2 @@
+-- What is asked of two faces.
+pub mod Ready

@@ -42,7 +42,7 @@ fn orders(faces: &[u32])
     look(b"d\t1\t2\tduplicate\nd\t0\t3\tedge\no\t2\no\t3\n", faces, 5);
     look(b"d\t0\t3\tedge\no\t1\n", faces, 5);
     look(b"o\t0\nd\t0\t4\tdirection\n", faces, 5);
-    look(b"d\t0\t4\tdirection\no\t0\n", faces, 5);
+    look(b"d\t0\t4\tdirection\no\t1\n", faces, 5);
 }
 
 // Splits.

@@ -7,7 +7,7 @@ use lib.ListN.{getD}
 use lib.Dec.{eqb}
 use lib.Ieee.{Float}
 use Rattle.rules.specs.Rooms.{Answer, accepted, refused, Outcome}
-use Rattle.rules.specs.Calls.{RepairRooms, EdgesRooms, LoopsRooms, PatchesRooms, StlRooms, ReadPlyRooms, WritePlyRooms}
+use Rattle.rules.specs.Calls.{RepairRooms, EdgesRooms, LoopsRooms, PatchesRooms, StlRooms, ReadPlyRooms, WritePlyRooms, ApplyRooms}
 use Rattle.repair.specs.declared.Repaired.{Repaired}
 use Rattle.repair.specs.declared.Repaired.the-variants as repaired
 use Rattle.repair.specs.Answers as repair
@@ -38,6 +38,9 @@ use Rattle.write_ply.specs.Written as written
 use Rattle.ply_counts.specs.declared.Counted.{Counted}
 use Rattle.ply_counts.specs.declared.Counted.the-variants as counted
 use Rattle.ply_counts.specs.Answers as counts
+use Rattle.apply_list.specs.declared.Applied.{Applied}
+use Rattle.apply_list.specs.declared.Applied.the-variants as applied
+use Rattle.apply_list.specs.Answers as apply
 
 -- ---- repair
 
@@ -242,3 +245,27 @@ counted-is (counted.Refused n p) = refl
 -- the call has one answer
 pub one-count : {o : Outcome (Unit {0})} {r r′ : Counted} → counts.outcomeOf r ≡ o → counts.outcomeOf r′ ≡ o → r ≡ r′
 one-count {o} {r} {r′} p q = sym (counted-is r) ∙ ap (λ t. counted-of (t .answer)) (p ∙ sym q) ∙ counted-is r′
+
+-- ---- a mending list applied
+
+-- what applying it gave back, from the rules' answer
+abbrev applied-of : Answer → Applied
+applied-of (accepted ns) = applied.Done (getD ns 0 0) (getD ns 1 0)
+applied-of (refused n p) = applied.Refused n p
+
+-- nothing of it is lost
+applied-is : (r : Applied) → applied-of (apply.answerOf r) ≡ r
+applied-is (applied.Done a b) = refl
+applied-is (applied.Refused n p) = refl
+
+-- applying a list has one answer, and leaves one list in each room
+pub one-apply :
+    {o : Outcome ApplyRooms} {r r′ : Applied} {points points′ : List Float} {faces faces′ work work′ : List ℕ} → apply.outcomeOf r points faces work ≡ o
+    → apply.outcomeOf r′ points′ faces′ work′ ≡ o → (r ≡ r′) × (points ≡ points′) × (faces ≡ faces′) × (work ≡ work′)
+one-apply {o} {r} {r′} p q =
+    let e = p ∙ sym q in (
+      sym (applied-is r) ∙ ap (λ t. applied-of (t .answer)) e ∙ applied-is r′,
+      ap (λ t. t .rooms .out-points) e,
+      ap (λ t. t .rooms .out-faces) e,
+      ap (λ t. t .rooms .work) e,
+    )

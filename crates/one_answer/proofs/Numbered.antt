@@ -8,9 +8,10 @@ use Rattle.rules.specs.Refusal.{Check, decided, unless, at-first, no1, no1-coun
 use Rattle.rules.specs.Rooms.{Answer, outcome}
 use Rattle.rules.specs.Edges.{no7, no8}
 use Rattle.rules.specs.Patches.{Filter}
-use Rattle.rules.specs.Calls.{RepairRooms, EdgesRooms, LoopsRooms, PatchesRooms, repair, repair-check, find-edges, edges-check, find-loops, loops-check, check, check-check, find-patches, patches-check, write-line, line-check, StlRooms, read-stl, stl-check, ReadPlyRooms, read-ply, read-ply-check, WritePlyRooms, write-ply, write-ply-check, ply-counts, ply-counts-check}
+use Rattle.rules.specs.Calls.{RepairRooms, EdgesRooms, LoopsRooms, PatchesRooms, repair, repair-check, find-edges, edges-check, find-loops, loops-check, check, check-check, find-patches, patches-check, write-line, line-check, StlRooms, read-stl, stl-check, ReadPlyRooms, read-ply, read-ply-check, WritePlyRooms, write-ply, write-ply-check, ply-counts, ply-counts-check, ApplyRooms, apply-list, apply-check}
 use Rattle.rules.specs.Stl.{no12}
 use Rattle.rules.specs.Ply.{no13, no14}
+use Rattle.rules.specs.Applying.{no15}
 use Rattle.rules.proofs.Rising.{All}
 use Rattle.rules.proofs.Decided.{If-found, found-by, found-first}
 use Rattle.rules.proofs.Called.{If-refused, outcome-number}
@@ -110,3 +111,10 @@ write-ply-numbered points faces r =
 pub ply-counts-numbered : (file : List ℕ) → Numbered (ply-counts file .answer)
 unfolding ply-counts ply-counts-check no13
 ply-counts-numbered file = answers (ply-counts-check file) _ _ _ (decides _ (by-number 13 0 _ (omega arith), (two 0 _ _, (two 1 _ _, tt))))
+
+-- a mending list applied
+pub apply-numbered : (points : List Float) (faces text : List ℕ) (r : ApplyRooms) → Numbered (apply-list points faces text r .answer)
+unfolding apply-list apply-check no4 no5 no6 no15 at-first
+apply-numbered points faces text r =
+    answers (apply-check points faces text r) _ _ _
+    (decides _ (one 0 _, (one 1 _, (two 0 _ _, (two 1 _ _, (by-number 4 _ _ (omega arith), (by-number 5 _ _ (omega arith), (by-number 15 _ _ (omega arith), (by-number 6 _ _ (omega arith), tt)))))))))

@@ -15,6 +15,7 @@ use Rattle.shell.specs.declared.ShellStl.{ShellStl}
 use Rattle.shell.specs.declared.ShellPly.{ShellPly}
 use Rattle.shell.specs.declared.ShellPlyFile.{ShellPlyFile}
 use Rattle.shell.specs.declared.ShellPlyCounts.{ShellPlyCounts}
+use Rattle.shell.specs.declared.ShellApplied.{ShellApplied}
 
 -- a number, a place and as many entries, told of one outcome, are the same, and so are the rooms
 pub one-given :
@@ -95,4 +96,11 @@ module _ {R : Type 0} {o : Outcome R} {rooms rooms′ : R} where
       {r r′ : ShellPlyCounts} → Given (r .number) (r .place) (r .points ∷ r .faces ∷ []) rooms o
       → Given (r′ .number) (r′ .place) (r′ .points ∷ r′ .faces ∷ []) rooms′ o → (r ≡ r′) × (rooms ≡ rooms′)
   one-shell-ply-counts g h =
+      let b = one-given refl g h in (ap (λ xs. record { number = getD xs 0 0; place = getD xs 1 0; points = getD xs 2 0; faces = getD xs 3 0 }) (b .0), b .1)
+
+  -- shell_apply
+  pub one-shell-apply :
+      {r r′ : ShellApplied} → Given (r .number) (r .place) (r .points ∷ r .faces ∷ []) rooms o
+      → Given (r′ .number) (r′ .place) (r′ .points ∷ r′ .faces ∷ []) rooms′ o → (r ≡ r′) × (rooms ≡ rooms′)
+  one-shell-apply g h =
       let b = one-given refl g h in (ap (λ xs. record { number = getD xs 0 0; place = getD xs 1 0; points = getD xs 2 0; faces = getD xs 3 0 }) (b .0), b .1)

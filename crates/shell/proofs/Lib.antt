@@ -4,3 +4,4 @@ pub mod Patching
 pub mod PatchPlaces
 pub mod StlPlaces
 pub mod PlyPlaces
+pub mod ApplyPlaces

@@ -1,4 +1,5 @@
 // The calls of document 01 and of the requests after it for C. Each gives back a number and a place (0 and 0 if it is accepted), and how many entries stand in each answer room.
+use apply_list::Applied;
 use boundary_loops::Looped;
 use edge_check::Checked;
 use edges::Found;
@@ -12,6 +13,7 @@ ghost use mathlib.Core.Path.{_≡_};
 ghost use mathlib.Core.List.{[], _∷_};
 ghost use Rattle.rules.specs.Calls as rule;
 ghost use Rattle.repair.specs.Answers as repaired;
+ghost use Rattle.apply_list.specs.Answers as applied;
 ghost use Rattle.edges.specs.Answers as edged;
 ghost use Rattle.boundary_loops.specs.Answers as looped;
 ghost use Rattle.read_stl.specs.Answers as stl;
@@ -468,6 +470,50 @@ pub extern "C" fn shell_ply_counts(file: &[u8]) -> ShellPlyCounts
         Counted::Refused(number, at) => {
             let place = at as u32;
             ShellPlyCounts {
+                number: number,
+                place: place,
+                points: 0,
+                faces: 0,
+            }
+        }
+    }
+}
+
+// What applying a mending list gives back: how many entries stand in the rooms of points and faces.
+#[repr(C)]
+pub struct ShellApplied {
+    pub number: u32,
+    pub place: u32,
+    pub points: u64,
+    pub faces: u64,
+}
+
+// Applies a mending list to points and faces: the mended points and faces.
+#[no_mangle]
+pub extern "C" fn shell_apply(
+    points: &[f64],
+    faces: &[u32],
+    text: &[u8],
+    out_points: &mut [f64],
+    out_faces: &mut [u32],
+    work: &mut [u32],
+) -> ShellApplied
+    ensures { λ r. ⌜
+        (let before = applied.roomsOf (now («out_points» .entry)) (now («out_faces» .entry)) (now (work .entry)) in
+        let after = applied.roomsOf (now («out_points» .exit)) (now («out_faces» .exit)) (now (work .exit)) in
+        Given (r .number) (r .place) (r .points ∷ r .faces ∷ []) after (rule.apply-list (now (points .entry)) (now (faces .entry)) (now (text .entry)) before))
+        ⌝ }
+{
+    match apply_list::apply_list(points, faces, text, out_points, out_faces, work) {
+        Applied::Done(a, b) => ShellApplied {
+            number: 0,
+            place: 0,
+            points: a as u64,
+            faces: b as u64,
+        },
+        Applied::Refused(number, at) => {
+            let place = at as u32;
+            ShellApplied {
                 number: number,
                 place: place,
                 points: 0,

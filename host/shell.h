@@ -8,8 +8,9 @@
  * the front of its room, the rest of the stated room is zero, the work room is all zero up to what is stated, and entries beyond are unchanged.
  * Refused: `number` and `place`, the rest 0, and no room is changed. Rooms may be longer than stated.
  *
- * What a call takes: no memory but its rooms and the stack, of which it takes less than SHELL_STACK_FEW_FACES bytes for up to SHELL_FEW_FACES faces and
- * less than SHELL_STACK for any mesh (measured, host/stack.c). It keeps nothing, so that calls may run at once in several threads on rooms of their own. */
+ * What a call takes: no memory but its rooms and the stack, of which it takes less than SHELL_STACK_FEW_FACES bytes for up to SHELL_FEW_FACES faces, in
+ * shell_apply only if there are no more than SHELL_FEW_POINTS points too, and less than SHELL_STACK for any mesh (measured, host/stack.c). It keeps nothing,
+ * so that calls may run at once in several threads on rooms of their own. */
 #ifndef JOGASMUN_SHELL_H
 #define JOGASMUN_SHELL_H
 
@@ -57,8 +58,10 @@ enum {
 #define SHELL_MOST_PATCHES 1048576u
 #define SHELL_NO_PATCH 4294967295u
 
-/* The stack that a call takes, in bytes: below the first number up to so many faces, below the second for any mesh. */
+/* The stack that a call takes, in bytes: below the first number up to so many faces, for shell_apply up to so many points too, below the second for any mesh.
+ * So few faces have no more than 12,288 corners: there are more points than that only where some are used by no face. */
 #define SHELL_FEW_FACES 4096u
+#define SHELL_FEW_POINTS 16384u
 #define SHELL_STACK_FEW_FACES 65536u
 #define SHELL_STACK 2097152u
 

@@ -90,6 +90,17 @@ static size_t grid(size_t i, size_t F) {
     return (side + 1) * (side + 1);
 }
 
+/* A strip among points that no face uses: as many as are few, and more. */
+static size_t strip_in_few(size_t i, size_t F) {
+    strip(i, F);
+    return F + 2 < SHELL_FEW_POINTS ? SHELL_FEW_POINTS : F + 2;
+}
+
+static size_t strip_in_many(size_t i, size_t F) {
+    strip(i, F);
+    return F + 100000;
+}
+
 /* The grid with its points and its faces numbered anyhow. */
 static size_t shuffled_grid(size_t i, size_t F) {
     size_t P = grid(i, F);
@@ -127,7 +138,9 @@ static const Shape shapes[] = {{"apart at one point", apart_at_a_point},
                                {"all on one edge", one_edge},
                                {"all corners equal", corners_equal},
                                {"all faces the same", all_the_same},
-                               {"corners anywhere", scattered}};
+                               {"corners anywhere", scattered},
+                               {"strip among few points", strip_in_few},
+                               {"strip among many points", strip_in_many}};
 
 static void run(void) {
     size_t P = job.P, F = job.F, work = SHELL_WORK_ROOM(P, F), C = PATCH_COUNT;
@@ -194,7 +207,8 @@ static int broken;
 
 /* One call, with a work room of zeros and a dirty one. */
 static void measure(const char *shape, int call, uint32_t options) {
-    size_t promised = job.F <= SHELL_FEW_FACES ? SHELL_STACK_FEW_FACES : SHELL_STACK, room = 4 * SHELL_WORK_ROOM(job.P, job.F);
+    int few = job.F <= SHELL_FEW_FACES && (call != APPLY || job.P <= SHELL_FEW_POINTS);
+    size_t promised = few ? SHELL_STACK_FEW_FACES : SHELL_STACK, room = 4 * SHELL_WORK_ROOM(job.P, job.F);
     job.call = call;
     job.options = options;
     for (int dirty = 0; dirty < 2; dirty++) {

@@ -368,6 +368,27 @@ fn check_list(
     }
 }
 
+// The same for few faces. Each size has a function of its own, since with one for both the compiler puts the rows of both sizes into one frame.
+fn check_list_few(
+    text: &[u8],
+    faces: &[u32],
+    points: usize,
+    marks: &mut [u8],
+    bits: &mut [u32],
+) -> Verdict
+    requires { ⌜ step.Begins points (now faces) (now marks) (now bits) ⌝ }
+    ensures { λ r. ⌜ step.BadList points (now (faces .entry)) (now (text .entry)) r ⌝ }
+{
+    match change_lines(text, faces, points, marks, bits) {
+        Changed::Bad(line) => Verdict::Refused(15, line),
+        Changed::Done => Verdict::Fine,
+        Changed::Unused(at, line, splits) => {
+            face_marks::put_used(faces, marks, faces.len() / 3, bits);
+            unused_lines(text, at, line, points + splits, bits)
+        }
+    }
+}
+
 // 15 for at most 4,096 faces and 16,384 points.
 fn check_few(text: &[u8], faces: &[u32], points: usize) -> Verdict
     requires { ⌜ step.Few points (now faces) ⌝ }
@@ -375,7 +396,7 @@ fn check_few(text: &[u8], faces: &[u32], points: usize) -> Verdict
 {
     let mut marks = [0u8; 4_096];
     let mut bits = [0u32; 1_024];
-    check_list(text, faces, points, &mut marks, &mut bits)
+    check_list_few(text, faces, points, &mut marks, &mut bits)
 }
 
 // 15 for more.
@@ -397,6 +418,7 @@ pub fn bad_list(text: &[u8], faces: &[u32], points: usize) -> Verdict
         if points <= 16_384 {
             return check_few(text, faces, points);
         }
+        return check_many(text, faces, points);
     }
     check_many(text, faces, points)
 }

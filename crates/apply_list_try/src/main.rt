@@ -65,8 +65,8 @@ fn in_rooms(text: &[u8], a: usize, b: usize, c: usize)
     );
 }
 
-// No line; a copy of a point; a face that leaves, an exchange and a point that leaves; points that leave together; nothing left. Then rooms as stated and one
-// too short, a bad line before short rooms, and one after a line that applies.
+// No line; a copy of a point; a face that leaves, an exchange and a point that leaves; points that leave together; as many copies as there may be; nothing
+// left. Then rooms as stated and one too short, a bad line before short rooms, and one after a line that applies.
 fn main() {
     let legs = [
         0.0,
@@ -93,6 +93,7 @@ fn main() {
         b"d\t0\t1\tthin\no\t1\nu\t1\n",
     );
     in_rooms(b"s\t0\t1\t0\ns\t0\t2\nu\t0\nu\t2\n", 12, 3, 144);
+    in_rooms(b"s\t0\t1\t0\ns\t0\t2\ns\t0\t3\n", 12, 3, 144);
     in_rooms(b"d\t0\t1\trepeated\nu\t0\n", 12, 3, 144);
     in_rooms(b"o\t0\n", 11, 3, 144);
     in_rooms(b"o\t0\n", 12, 2, 143);

@@ -1,9 +1,9 @@
 -- The parts as one room: filled again with the number that they held they are as they were, and filled with 0 the room is cleared. Assumes nothing.
 use mathlib.Core.Path.{_≡_, sym, ap, ap₂, _∙_}
-use mathlib.Core.List.{List, [], _++_, append-assoc}
+use mathlib.Core.List.{List, _++_, append-assoc}
 use Prim.Native.Nat.{ℕ, _+_, _-_, _≤_}
 use native.Mathlib.Omega.{arith}
-use lib.ListN.{length, take, drop, replicate, length-append, take-append-drop, replicate-append-replicate}
+use lib.ListN.{length, drop, replicate, length-append, take-append-drop, replicate-append-replicate}
 use lib.Seq.{take-all, drop-append-add}
 use Rattle.rows.specs.Region.{Filled}
 use Rattle.rows.proofs.Regions.{only-both}

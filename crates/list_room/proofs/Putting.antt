@@ -12,7 +12,7 @@ use Rattle.refuse.specs.Verdicts.{Limits}
 use Rattle.list_text.specs.Written.{listText}
 use Rattle.list_text.specs.declared.Rows.{Rows}
 use Rattle.list_rows.specs.Prepared.{PrepareAsks, PrepareGives}
-use Rattle.list_room.specs.Parts.{joined, Changed, FillGives}
+use Rattle.list_room.specs.Parts.{Changed, FillGives}
 use Rattle.list_room.specs.Put.{textOf, PutGives}
 use Rattle.list_room.proofs.Joined.{changed-both, wiped}
 

@@ -1,6 +1,6 @@
 -- Rows and parts that are all one number: looked at one after the other, and filled. Assumes nothing.
 use mathlib.Core.Path.{_≡_, sym, ap, _∙_, subst}
-use mathlib.Core.Bool.{Bool, true, false, not}
+use mathlib.Core.Bool.{Bool, true, false}
 use mathlib.Core.List.{List}
 use Prim.Native.Nat.{ℕ, _+_, _≤_, _<_}
 use native.Mathlib.Nat.{zero-add}
@@ -10,7 +10,7 @@ use lib.ListN.{length, getD}
 use borrow.Author.Count.{below-more}
 use Rattle.rows.specs.Region.{Only, Filled}
 use Rattle.rows.proofs.Regions.{holds-none}
-use Rattle.list_room.specs.Parts.{AllTold, Uniform, UniformTold, FillGives}
+use Rattle.list_room.specs.Parts.{AllTold, UniformTold, FillGives}
 
 -- a flag is not both
 pub clash : {X : Type 0} → false ≡ true → X

@@ -6,20 +6,18 @@ use Prim.Native.Nat.{ℕ, zero, suc, _+_, _*_, _/_, _%_, _^_, _<_}
 use native.Mathlib.Omega.{arith}
 use native.Mathlib.Nat.{add-zero}
 use lib.Dec.{eqb}
-use lib.ListN.{length, getD, take}
+use lib.ListN.{length}
 use borrow.Author.Tests.{eq-eqb, ne-eqb}
-use Rattle.rows.specs.Region.{Only, Only2, Filled}
+use Rattle.rows.specs.Region.{Only, Filled}
 use Rattle.rows.proofs.Regions.{only-none, only2-none}
-use Rattle.rules.specs.Lists.{below, each, filter, has}
-use Rattle.rules.specs.Mesh.{face, corners, flatFaces}
-use Rattle.rules.specs.State.{State}
+use Rattle.rules.specs.Lists.{below, each}
+use Rattle.rules.specs.Mesh.{corners, flatFaces}
 use Rattle.rules.specs.Repair.{bit, optional}
 use Rattle.rules.specs.Pass5.{pass5}
-use Rattle.rules.specs.Mending.{Line, split-point, isolated-point, lines5, lines6}
+use Rattle.rules.specs.Mending.{split-point, isolated-point, lines5, lines6}
 use Rattle.rules.proofs.Lists.{each-append}
-use Rattle.leaving.specs.Pass.{standing}
 use Rattle.mending_rows.specs.Told.{Fates, splits-told, unused-told}
-use Rattle.split_rows.specs.Rows.{SplitAsks, Stands, SplitGives, FlagsGives}
+use Rattle.split_rows.specs.Rows.{SplitAsks, SplitGives, FlagsGives}
 use Rattle.split_rows.proofs.Told.{rows-tell5, rows-tell6}
 use Rattle.list_rows.specs.Prepared.{SplitIf, FlagsIf}
 

@@ -1,10 +1,9 @@
 -- The rows of a mending list one behind the other, and that they tell the list. Assumes nothing.
-use mathlib.Core.Path.{_≡_, refl, sym, ap, ap₂, _∙_, subst}
+use mathlib.Core.Path.{_≡_, refl, sym, ap, ap₂, _∙_}
 use mathlib.Core.Bool.{cond}
 use mathlib.Core.List.{List, [], _++_, append-assoc, map}
-use Prim.Native.Nat.{ℕ, _+_, _*_, _/_, _%_, _≤_, _<_}
+use Prim.Native.Nat.{ℕ, _+_, _*_, _/_, _≤_, _<_}
 use native.Mathlib.Omega.{arith}
-use lib.Dec.{eqb}
 use lib.Ieee.{Float}
 use lib.ListN.{length, getD, take}
 use lib.Seq.{getD-take, length-take-le}
@@ -13,24 +12,23 @@ use Rattle.rows.specs.Retain.{upTo}
 use Rattle.rows.proofs.Regions.{kept, kept-at, kept2-at, only-both, only-more}
 use Rattle.sorting.specs.Groups.{sortedBy, keyIn}
 use Rattle.rules.specs.Lists.{below, filter, each, has}
-use Rattle.rules.specs.Mesh.{Face, face, corners, pointsOf, facesOf, flatFaces}
+use Rattle.rules.specs.Mesh.{face, corners, pointsOf, facesOf, flatFaces}
 use Rattle.rules.specs.State.{State, start}
 use Rattle.rules.specs.Repair.{bit, optional}
 use Rattle.rules.specs.Pass5.{pass5}
-use Rattle.rules.specs.Mending.{Line, lines1, lines2, lines3, lines4, lines5, lines6, line-text, list, list-text, for-duplicate, for-edge, for-direction}
+use Rattle.rules.specs.Mending.{Line, lines5, lines6, line-text, list, list-text, for-duplicate, for-edge, for-direction}
 use Rattle.rules.proofs.Flat.{flat-faces, length-points, length-faces-take}
 use Rattle.rules.proofs.Lists.{getD-map-in}
 use Rattle.rules.proofs.Carried.{flat-same}
-use Rattle.rules.proofs.Origins.{origins}
-use Rattle.leaving.specs.Pass.{standing, carried, FacesStand}
+use Rattle.leaving.specs.Pass.{standing, carried}
 use Rattle.leaving.proofs.Standing.{stands-alike, carried-origins}
 use Rattle.mending_rows.specs.Told.{Fates, first-told, drops-told, exchanges-told, splits-told, unused-told, told}
 use Rattle.split_laws.proofs.Taken.{listed-same}
 use Rattle.split_rows.specs.Rows.{SplitAsks, Stands, TakersAsks, TakersGives, FlagsAsks}
-use Rattle.list_text.specs.Written.{fatesOf, listText, ListAsks}
+use Rattle.list_text.specs.Written.{fatesOf, ListAsks}
 use Rattle.list_text.specs.declared.Rows.{Rows}
 use Rattle.list_rows.specs.Prepared.{SplitIf, FlagsIf, PrepareAsks, PrepareGives}
-use Rattle.fates.specs.Fating.{FourAsks, FourGives, Has, after1, after2, after3, after4}
+use Rattle.fates.specs.Fating.{FourGives, after4}
 use Rattle.list_rows.proofs.Same.{first-same, drops-same, exchanges-same}
 use Rattle.list_rows.proofs.Wider.{only-two}
 
@@ -86,21 +84,6 @@ module _ {ps : List Float} {fs xs os w : List ℕ} (p : PrepareAsks ps fs xs os 
         corners = omega (arith, p .corners-are);
         input = omega (arith, a .whole);
         room = omega (arith, p .rest-fits);
-      }
-
-  -- what passes 1 to 4 ask
-  pub four-asks : FourAsks ps fs xs os w fates
-  four-asks =
-      let z = sizes in
-      record {
-        whole = p .input .whole;
-        points = z .points;
-        few = z .faces;
-        input = z .input;
-        inside = p .input .faces-fine .below;
-        fit = omega (arith, z);
-        behind = omega arith;
-        room = omega (arith, z);
       }
 
   module _ {options : ℕ} {s : Float} {xs₁ os₁ w₁ : List ℕ} {n : ℕ} (g : FourGives options s ps fs xs os w fates xs₁ os₁ w₁ n) where

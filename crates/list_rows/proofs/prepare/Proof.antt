@@ -1,5 +1,5 @@
 -- `list_rows::prepare` meets its contract: one row behind the other, and what they tell. Assumes nothing.
-use Rattle.list_rows.proofs.Prepared.{four-asks, split-asks, takers-ask, flags-ask, prepared}
+use Rattle.list_rows.proofs.Prepared.{split-asks, takers-ask, flags-ask, prepared}
 use borrow.Author.Needs.{needs}
 use Rattle.list_rows.proofs.prepare.Statement.{statement}
 use Rattle.list_rows.proofs.prepare.Tie as tie

@@ -4,3 +4,5 @@ pub mod Places
 pub mod Reading
 -- `Ranking` has the rules' ranking by places and by faces.
 pub mod Ranking
+-- `Input` has the words before any pass, and the origins of the faces that stand.
+pub mod Input

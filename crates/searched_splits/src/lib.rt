@@ -8,6 +8,7 @@ use searched_fans::reach;
 ghost use mathlib.Core.Path.{_≡_};
 ghost use mathlib.Core.Bool.{_&&_};
 ghost use lib.Dec.{eqb};
+ghost use Rattle.face_index.specs.Index.{Indexed};
 ghost use Rattle.searched_splits.specs.Splits as by;
 
 // How many points are split off, and the bytes of the lines that tell them.
@@ -137,8 +138,9 @@ fn gives(word: u32, k: usize) -> bool
 }
 
 // Flags the group of corner k of face f, which is v. Returns the bytes of the numbers of the faces that take a point split off for it, each after a tab.
-fn close(faces: &[u32], words: &mut [u32], f: usize, k: usize, v: u32) -> usize
+fn close(faces: &[u32], index: &[u32], words: &mut [u32], f: usize, k: usize, v: u32) -> usize
     requires { ⌜ by.CloseAsks (now faces) (now words) f k v ⌝ }
+    requires { ⌜ Indexed (now faces) (now index) ⌝ }
     ensures { λ r. ⌜ by.CloseGives (now (faces .entry)) (now (words .entry)) f k (now (words .exit)) r ⌝ }
 {
     let c = view(faces, words, f);
@@ -150,12 +152,13 @@ fn close(faces: &[u32], words: &mut [u32], f: usize, k: usize, v: u32) -> usize
         }
         return 0;
     }
-    reach(faces, words, f, v)
+    reach(faces, index, words, f, v)
 }
 
 // Goes through corner k of face f, which stands.
 fn split_corner(
     faces: &[u32],
+    index: &[u32],
     words: &mut [u32],
     f: usize,
     k: usize,
@@ -164,6 +167,7 @@ fn split_corner(
     bytes: usize,
 ) -> Told
     requires { ⌜ by.CornerAsks (now faces) (now words) f k points splits bytes ⌝ }
+    requires { ⌜ Indexed (now faces) (now index) ⌝ }
     ensures { λ r. ⌜ ((q : by.CornerAsks (now (faces .entry)) (now (words .entry)) f k points splits bytes) → by.CornerGives q (now (words .exit)) (r .splits) (r .bytes)) ⌝ }
 {
     if flagged(words[f], k) {
@@ -175,7 +179,7 @@ fn split_corner(
     let c = view(faces, words, f);
     let v = pick(c.a, c.b, c.c, k);
     let extra = met_at(faces, words, f, k, v);
-    let taken = close(faces, words, f, k, v);
+    let taken = close(faces, index, words, f, k, v);
     if !extra {
         return Told {
             splits: splits,
@@ -194,6 +198,7 @@ fn split_corner(
 // Goes through the three corners of face f, which stands.
 fn split_face(
     faces: &[u32],
+    index: &[u32],
     words: &mut [u32],
     f: usize,
     points: usize,
@@ -201,17 +206,28 @@ fn split_face(
     bytes: usize,
 ) -> Told
     requires { ⌜ by.FaceAsks (now faces) (now words) f points splits bytes ⌝ }
+    requires { ⌜ Indexed (now faces) (now index) ⌝ }
     ensures { λ r. ⌜ ((q : by.FaceAsks (now (faces .entry)) (now (words .entry)) f points splits bytes) → by.FaceGives q (now (words .exit)) (r .splits) (r .bytes)) ⌝ }
 {
-    let first = split_corner(faces, words, f, 0, points, splits, bytes);
-    let second = split_corner(faces, words, f, 1, points, first.splits, first.bytes);
-    split_corner(faces, words, f, 2, points, second.splits, second.bytes)
+    let first = split_corner(faces, index, words, f, 0, points, splits, bytes);
+    let second = split_corner(faces, index, words, f, 1, points, first.splits, first.bytes);
+    split_corner(
+        faces,
+        index,
+        words,
+        f,
+        2,
+        points,
+        second.splits,
+        second.bytes,
+    )
 }
 
 // How many points pass 5 splits off, and how long the lines are that tell it. Flags every corner that stands, and marks those that lead a group which is not the
 // first one of its point.
-pub fn split_length(faces: &[u32], words: &mut [u32], points: usize) -> Told
+pub fn split_length(faces: &[u32], index: &[u32], words: &mut [u32], points: usize) -> Told
     requires { ⌜ by.SplitAsks (now faces) (now words) points ⌝ }
+    requires { ⌜ Indexed (now faces) (now index) ⌝ }
     ensures { λ r. ⌜ by.SplitGives (now (faces .entry)) (now (words .entry)) points (now (words .exit)) (r .splits) (r .bytes) ⌝ }
 {
     let mut splits = 0;
@@ -219,7 +235,7 @@ pub fn split_length(faces: &[u32], words: &mut [u32], points: usize) -> Told
     let mut f = 0;
     while f < words.len() {
         if stands(words, f) {
-            let told = split_face(faces, words, f, points, splits, bytes);
+            let told = split_face(faces, index, words, f, points, splits, bytes);
             splits = told.splits;
             bytes = told.bytes;
         }

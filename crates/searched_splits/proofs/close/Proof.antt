@@ -50,8 +50,8 @@ add-words c =
     let at-bit = c in
     let at-same = at-bit .before .before .before in
     let at-view = at-same .before in
-    let start = at-view .before .before .before .before in
-    omega (arith, start .pre .few (start .args .f) (start .pre .here), at-bit .bit .ensures, bit-most (start .args .k))
+    let start = at-view .before .before .before .before .before in
+    omega (arith, start .pre .0 .few (start .args .f) (start .pre .0 .here), at-bit .bit .ensures, bit-most (start .args .k))
 
 -- src/lib.rt:145:9
 mul-words : tie.Need-mul-words
@@ -81,7 +81,7 @@ add-result c =
     let at-bit = at-gives .before in
     let at-same = at-bit .before .before .before in
     let at-view = at-same .before in
-    let start = at-view .before .before .before .before in
+    let start = at-view .before .before .before .before .before in
     omega (arith, at-number-length .number-length .ensures, decimal-short (start .args .f))
 
 -- src/lib.rt:147:13
@@ -96,8 +96,8 @@ returns c =
     let at-bit = at-gives .before in
     let at-same = at-bit .before .before .before in
     let at-view = at-same .before in
-    let start = at-view .before .before .before .before in
-    given (start .pre) (subst T (sym (tested (at-same .same .ensures) (at-view .view .ensures) (at-bit .before .before .if1 .taken))) tt) (at-bit .bit .ensures) (sym (at-gives .gives .ensures) ∙ c .before .if2 .taken) (at-number-length .number-length .ensures)
+    let start = at-view .before .before .before .before .before in
+    given (start .pre .0) (subst T (sym (tested (at-same .same .ensures) (at-view .view .ensures) (at-bit .before .before .if1 .taken))) tt) (at-bit .bit .ensures) (sym (at-gives .gives .ensures) ∙ c .before .if2 .taken) (at-number-length .number-length .ensures)
 
 -- src/lib.rt:149:9
 same-length-2 : tie.Need-same-length-2
@@ -110,16 +110,16 @@ returns-2 c =
     let at-bit = at-gives .before in
     let at-same = at-bit .before .before .before in
     let at-view = at-same .before in
-    let start = at-view .before .before .before .before in
-    kept (start .pre) (subst T (sym (tested (at-same .same .ensures) (at-view .view .ensures) (at-bit .before .before .if1 .taken))) tt) (at-bit .bit .ensures) (sym (at-gives .gives .ensures) ∙ c .if2 .left)
+    let start = at-view .before .before .before .before .before in
+    kept (start .pre .0) (subst T (sym (tested (at-same .same .ensures) (at-view .view .ensures) (at-bit .before .before .if1 .taken))) tt) (at-bit .bit .ensures) (sym (at-gives .gives .ensures) ∙ c .if2 .left)
 
 -- src/lib.rt:151:5
 reach-requires : tie.Need-reach-requires
 reach-requires c κs =
     let at-same = c .before .before in
     let at-view = at-same .before in
-    let start = at-view .before .before .before .before in
-    reach-ask (start .pre) (tested (at-same .same .ensures) (at-view .view .ensures) (c .before .if1 .left))
+    let start = at-view .before .before .before .before .before in
+    (reach-ask (start .pre .0) (tested (at-same .same .ensures) (at-view .view .ensures) (c .before .if1 .left)), start .pre .1)
 
 -- src/lib.rt:138:1
 same-length-3 : tie.Need-same-length-3
@@ -131,9 +131,9 @@ returns-3 c =
     let at-reach = c .before .before in
     let at-same = at-reach .before .before .before in
     let at-view = at-same .before in
-    let start = at-view .before .before .before .before in
+    let start = at-view .before .before .before .before .before in
     let e = tested (at-same .same .ensures) (at-view .view .ensures) (at-reach .before .before .if1 .left) in
-    reached (start .pre) e (at-reach .reach .ensures (reach-ask (start .pre) e))
+    reached (start .pre .0) e (at-reach .reach .ensures (reach-ask (start .pre .0) e))
 
 pub close-spec : {M : Type 1} → statement M
 close-spec =

@@ -35,7 +35,7 @@ flagged-requires c κs = search needs
 returns : tie.Need-returns
 returns c =
     let at-flagged = c .before in
-    let start = at-flagged .before .before .before .before in
+    let start = at-flagged .before .before .before .before .before in
     λ q. passed q (at-flagged .flagged .ensures) (c .if1 .taken)
 
 -- src/lib.rt:170:9
@@ -57,9 +57,9 @@ close-requires c κs =
     let at-pick = at-met-at .before .before in
     let at-view = at-pick .before in
     let at-flagged = at-view .before .before .before in
-    let start = at-flagged .before .before .before .before in
+    let start = at-flagged .before .before .before .before .before in
     let pe = at-pick .pick .ensures ∙ ap (λ g. pickOf (g .a) (g .b) (g .c) (start .args .k)) (at-view .view .ensures) in
-    close-ask (start .pre) (at-flagged .flagged .ensures) (at-view .before .before .if1 .left) pe
+    (close-ask (start .pre .0) (at-flagged .flagged .ensures) (at-view .before .before .if1 .left) pe, start .pre .1)
 
 -- src/lib.rt:175:9
 same-length : tie.Need-same-length
@@ -73,7 +73,7 @@ returns-2 c =
     let at-pick = at-met-at .before .before in
     let at-view = at-pick .before in
     let at-flagged = at-view .before .before .before in
-    let start = at-flagged .before .before .before .before in
+    let start = at-flagged .before .before .before .before .before in
     let pe = at-pick .pick .ensures ∙ ap (λ g. pickOf (g .a) (g .b) (g .c) (start .args .k)) (at-view .view .ensures) in
     λ q. closed q (at-flagged .flagged .ensures) (at-view .before .before .if1 .left) pe (at-close .close .ensures) (at-met-at .met-at .ensures) (c .if2 .taken)
 
@@ -98,7 +98,7 @@ mul-words-2 c =
     let at-pick = at-met-at .before .before in
     let at-view = at-pick .before in
     let at-flagged = at-view .before .before .before in
-    let start = at-flagged .before .before .before .before in
+    let start = at-flagged .before .before .before .before .before in
     omega (arith, at-bit .bit .ensures, bit-most (start .args .k))
 
 -- src/lib.rt:177:16
@@ -110,9 +110,9 @@ add-words c =
     let at-pick = at-met-at .before .before in
     let at-view = at-pick .before in
     let at-flagged = at-view .before .before .before in
-    let start = at-flagged .before .before .before .before in
+    let start = at-flagged .before .before .before .before .before in
     let pe = at-pick .pick .ensures ∙ ap (λ g. pickOf (g .a) (g .b) (g .c) (start .args .k)) (at-view .view .ensures) in
-    omega (arith, at-bit .bit .ensures, bit-most (start .args .k), mark-small (start .pre) (at-flagged .flagged .ensures) (at-view .before .before .if1 .left) pe (at-close .close .ensures))
+    omega (arith, at-bit .bit .ensures, bit-most (start .args .k), mark-small (start .pre .0) (at-flagged .flagged .ensures) (at-view .before .before .if1 .left) pe (at-close .close .ensures))
 
 -- src/lib.rt:177:5
 mul-words-3 : tie.Need-mul-words-3
@@ -136,8 +136,8 @@ add-number-length c =
     let at-pick = at-met-at .before .before in
     let at-view = at-pick .before in
     let at-flagged = at-view .before .before .before in
-    let start = at-flagged .before .before .before .before in
-    omega (arith, bounds (start .pre))
+    let start = at-flagged .before .before .before .before .before in
+    omega (arith, bounds (start .pre .0))
 
 -- src/lib.rt:179:29
 cast-number-length : tie.Need-cast-number-length
@@ -149,16 +149,16 @@ cast-number-length c =
     let at-pick = at-met-at .before .before in
     let at-view = at-pick .before in
     let at-flagged = at-view .before .before .before in
-    let start = at-flagged .before .before .before .before in
-    omega (arith, bounds (start .pre))
+    let start = at-flagged .before .before .before .before .before in
+    omega (arith, bounds (start .pre .0))
 
 -- src/lib.rt:179:9
 number-length-requires-2 : tie.Need-number-length-requires-2
 number-length-requires-2 c κs = search needs
 
 -- src/lib.rt:180:20
-add-t29 : tie.Need-add-t29
-add-t29 c =
+add-t30 : tie.Need-add-t30
+add-t30 c =
     let at-number-length2 = c in
     let at-number-length = at-number-length2 .before in
     let at-bit = at-number-length .before in
@@ -167,12 +167,12 @@ add-t29 c =
     let at-pick = at-met-at .before .before in
     let at-view = at-pick .before in
     let at-flagged = at-view .before .before .before in
-    let start = at-flagged .before .before .before .before in
-    omega (arith, bounds (start .pre), at-number-length .number-length .ensures, at-number-length2 .number-length2 .ensures, at-close .close .ensures .most, decimal-short (at-pick .pick .result), decimal-short (start .args .points + start .args .splits))
+    let start = at-flagged .before .before .before .before .before in
+    omega (arith, bounds (start .pre .0), at-number-length .number-length .ensures, at-number-length2 .number-length2 .ensures, at-close .close .ensures .most, decimal-short (at-pick .pick .result), decimal-short (start .args .points + start .args .splits))
 
 -- src/lib.rt:180:39
-add-t15 : tie.Need-add-t15
-add-t15 c =
+add-t16 : tie.Need-add-t16
+add-t16 c =
     let at-number-length2 = c in
     let at-number-length = at-number-length2 .before in
     let at-bit = at-number-length .before in
@@ -181,22 +181,8 @@ add-t15 c =
     let at-pick = at-met-at .before .before in
     let at-view = at-pick .before in
     let at-flagged = at-view .before .before .before in
-    let start = at-flagged .before .before .before .before in
-    omega (arith, bounds (start .pre), at-number-length .number-length .ensures, at-number-length2 .number-length2 .ensures, at-close .close .ensures .most, decimal-short (at-pick .pick .result), decimal-short (start .args .points + start .args .splits))
-
--- src/lib.rt:180:39
-add-t31 : tie.Need-add-t31
-add-t31 c =
-    let at-number-length2 = c in
-    let at-number-length = at-number-length2 .before in
-    let at-bit = at-number-length .before in
-    let at-close = at-bit .before .before .before .before .before in
-    let at-met-at = at-close .before .before in
-    let at-pick = at-met-at .before .before in
-    let at-view = at-pick .before in
-    let at-flagged = at-view .before .before .before in
-    let start = at-flagged .before .before .before .before in
-    omega (arith, bounds (start .pre), at-number-length .number-length .ensures, at-number-length2 .number-length2 .ensures, at-close .close .ensures .most, decimal-short (at-pick .pick .result), decimal-short (start .args .points + start .args .splits))
+    let start = at-flagged .before .before .before .before .before in
+    omega (arith, bounds (start .pre .0), at-number-length .number-length .ensures, at-number-length2 .number-length2 .ensures, at-close .close .ensures .most, decimal-short (at-pick .pick .result), decimal-short (start .args .points + start .args .splits))
 
 -- src/lib.rt:180:39
 add-t32 : tie.Need-add-t32
@@ -209,8 +195,8 @@ add-t32 c =
     let at-pick = at-met-at .before .before in
     let at-view = at-pick .before in
     let at-flagged = at-view .before .before .before in
-    let start = at-flagged .before .before .before .before in
-    omega (arith, bounds (start .pre), at-number-length .number-length .ensures, at-number-length2 .number-length2 .ensures, at-close .close .ensures .most, decimal-short (at-pick .pick .result), decimal-short (start .args .points + start .args .splits))
+    let start = at-flagged .before .before .before .before .before in
+    omega (arith, bounds (start .pre .0), at-number-length .number-length .ensures, at-number-length2 .number-length2 .ensures, at-close .close .ensures .most, decimal-short (at-pick .pick .result), decimal-short (start .args .points + start .args .splits))
 
 -- src/lib.rt:180:39
 add-t33 : tie.Need-add-t33
@@ -223,8 +209,22 @@ add-t33 c =
     let at-pick = at-met-at .before .before in
     let at-view = at-pick .before in
     let at-flagged = at-view .before .before .before in
-    let start = at-flagged .before .before .before .before in
-    omega (arith, bounds (start .pre), at-number-length .number-length .ensures, at-number-length2 .number-length2 .ensures, at-close .close .ensures .most, decimal-short (at-pick .pick .result), decimal-short (start .args .points + start .args .splits))
+    let start = at-flagged .before .before .before .before .before in
+    omega (arith, bounds (start .pre .0), at-number-length .number-length .ensures, at-number-length2 .number-length2 .ensures, at-close .close .ensures .most, decimal-short (at-pick .pick .result), decimal-short (start .args .points + start .args .splits))
+
+-- src/lib.rt:180:39
+add-t34 : tie.Need-add-t34
+add-t34 c =
+    let at-number-length2 = c in
+    let at-number-length = at-number-length2 .before in
+    let at-bit = at-number-length .before in
+    let at-close = at-bit .before .before .before .before .before in
+    let at-met-at = at-close .before .before in
+    let at-pick = at-met-at .before .before in
+    let at-view = at-pick .before in
+    let at-flagged = at-view .before .before .before in
+    let start = at-flagged .before .before .before .before .before in
+    omega (arith, bounds (start .pre .0), at-number-length .number-length .ensures, at-number-length2 .number-length2 .ensures, at-close .close .ensures .most, decimal-short (at-pick .pick .result), decimal-short (start .args .points + start .args .splits))
 
 -- src/lib.rt:155:1
 same-length-2 : tie.Need-same-length-2
@@ -241,7 +241,7 @@ returns-3 c =
     let at-pick = at-met-at .before .before in
     let at-view = at-pick .before in
     let at-flagged = at-view .before .before .before in
-    let start = at-flagged .before .before .before .before in
+    let start = at-flagged .before .before .before .before .before in
     let pe = at-pick .pick .ensures ∙ ap (λ g. pickOf (g .a) (g .b) (g .c) (start .args .k)) (at-view .view .ensures) in
     λ q. opened q (at-flagged .flagged .ensures) (at-view .before .before .if1 .left) pe (at-close .close .ensures) (at-met-at .met-at .ensures) (at-bit .before .before .if2 .left) (at-bit .bit .ensures) (at-number-length .number-length .ensures) (at-number-length2 .number-length2 .ensures)
 
@@ -270,10 +270,10 @@ split-corner-spec =
     add-number-length
     cast-number-length
     number-length-requires-2
-    add-t29
-    add-t15
-    add-t31
+    add-t30
+    add-t16
     add-t32
     add-t33
+    add-t34
     same-length-2
     returns-3)

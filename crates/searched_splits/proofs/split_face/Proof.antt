@@ -10,29 +10,29 @@ use Rattle.searched_splits.proofs.split_corner.Reads as split-corner-re
 -- src/lib.rt:195:9
 split-corner-requires : tie.Need-split-corner-requires
 split-corner-requires c κs =
-    let start = c .before .before .before in
-    corner-zero (start .pre)
+    let start = c .before .before .before .before in
+    (corner-zero (start .pre .0), start .pre .1)
 
 -- src/lib.rt:196:9
 split-corner-requires-2 : tie.Need-split-corner-requires-2
 split-corner-requires-2 c κs =
     let at-split-corner = c .before .before .before in
-    let start = at-split-corner .before .before .before .before in
-    let z = corner-zero (start .pre) in
+    let start = at-split-corner .before .before .before .before .before in
+    let z = corner-zero (start .pre .0) in
     let one-is = at-split-corner .split-corner .ensures z in
-    corner-one (start .pre) one-is
+    (corner-one (start .pre .0) one-is, start .pre .1)
 
 -- src/lib.rt:197:5
 split-corner-requires-3 : tie.Need-split-corner-requires-3
 split-corner-requires-3 c κs =
     let at-split-corner2 = c .before .before .before in
     let at-split-corner = at-split-corner2 .before .before .before .before in
-    let start = at-split-corner .before .before .before .before in
-    let z = corner-zero (start .pre) in
+    let start = at-split-corner .before .before .before .before .before in
+    let z = corner-zero (start .pre .0) in
     let one-is = at-split-corner .split-corner .ensures z in
-    let o = corner-one (start .pre) one-is in
+    let o = corner-one (start .pre .0) one-is in
     let two-is = at-split-corner2 .split-corner2 .ensures o in
-    corner-two (start .pre) one-is two-is
+    (corner-two (start .pre .0) one-is two-is, start .pre .1)
 
 -- src/lib.rt:184:1
 same-length : tie.Need-same-length
@@ -44,7 +44,7 @@ returns c =
     let at-split-corner3 = c .before .before in
     let at-split-corner2 = at-split-corner3 .before .before .before .before in
     let at-split-corner = at-split-corner2 .before .before .before .before in
-    let start = at-split-corner .before .before .before .before in
+    let start = at-split-corner .before .before .before .before .before in
     λ q.
     let z = corner-zero q in
     let one-is = at-split-corner .split-corner .ensures z in

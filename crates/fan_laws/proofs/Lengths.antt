@@ -31,7 +31,7 @@ use Rattle.fan_laws.proofs.Order.{base-shift, ranks-line, opener-is, ol
 use Rattle.fan_laws.proofs.Takers.{takes-it, corner-low}
 
 -- one for each
-long : (xs : List ℕ) → length xs ≡ sumOf (λ id. 1) xs
+pub long : (xs : List ℕ) → length xs ≡ sumOf (λ id. 1) xs
 unfolding sumOf
 long [] = refl
 long (x ∷ xs) = omega (arith, long xs)
@@ -69,7 +69,7 @@ module _ (m : State) (inside : Inside (length (m .points)) (m .faces)) where
   splits-base = omega (arith, points-many m inside, base-shift fs P P)
 
   -- a face after the pass
-  face-then : (i : ℕ) → i < length fs → corners (face (pass5 m .faces) i) ≡ map (goalOf fs P i) (corners (face fs i))
+  pub face-then : (i : ℕ) → i < length fs → corners (face (pass5 m .faces) i) ≡ map (goalOf fs P i) (corners (face fs i))
   face-then i h =
       ap (λ gs. corners (face gs i)) (faces-are m inside)
       ∙ ap corners (face-map-below (λ k. renamed (goalOf fs P k) (face fs k)) (length fs) i h)
@@ -104,7 +104,7 @@ module _ (m : State) (inside : Inside (length (m .points)) (m .faces)) where
       ∙ ap (λ (n : ℕ). 2 + field (cornerAt fs id) + n + field (P + rank fs id)) (sum-map field (λ i. face fs i .origin) (filter (takes fs id) (below (length fs))))
 
   -- every opener, in face order: as sums
-  in-line : (g : ℕ → ℕ) → sumOf g (openers fs P) ≡ sumOf g (filter (opens fs) (below (3 * length fs)))
+  pub in-line : (g : ℕ → ℕ) → sumOf g (openers fs P) ≡ sumOf g (filter (opens fs) (below (3 * length fs)))
   unfolding openers opensAt
   in-line g = all-classes (cornerAt fs) (opens fs) g P (below (3 * length fs)) (on-below (λ y. cornerAt fs y < P) (3 * length fs) (corner-low fs P inside))
 

@@ -9,3 +9,8 @@ pub mod Takers
 pub mod Lengths
 -- `Weights` has what one line weighs, by the corner that opens its group.
 pub mod Weights
+-- `Isolated` has which points are unused after pass 5, and the length of the lines that tell them.
+pub mod Isolated
+-- `Ranks` has a rank as a count over all corners, and `Keeping` the old points that are used, by their first corners.
+pub mod Ranks
+pub mod Keeping

@@ -1,9 +1,9 @@
 -- The corners that lead a group which is not the first one of its point: pass 5 splits one point off for each. Definitions only.
 use Prim.Native.Nat.{ℕ, _+_, _*_, _/_}
-use mathlib.Core.Bool.{Bool, _&&_, cond}
+use mathlib.Core.Bool.{Bool, not, _&&_, _||_, cond}
 use mathlib.Core.List.{List, map}
 use lib.ListN.{length}
-use lib.Dec.{eqb}
+use lib.Dec.{eqb, ltb}
 use Rattle.rules.specs.Lists.{below, filter, count, any, each, has}
 use Rattle.rules.specs.Mesh.{Face, face}
 use Rattle.rules.specs.Groups.{group, leads}
@@ -49,3 +49,19 @@ takes fs id i = cond (single (face fs i)) (eqb id (giver fs i)) (inGroup fs id i
 -- the bytes of the line for corner id, but for the new point's number
 unfoldable pub weight : List Face → ℕ → ℕ
 weight fs id = 2 + field (cornerAt fs id) + sumOf (λ i. field (face fs i .origin)) (filter (takes fs id) (below (length fs)))
+
+-- no face takes the point that is split off for corner id: its face has three equal corners and takes another
+unfoldable pub lost : List Face → ℕ → Bool
+lost fs id = single (face fs (id / 3)) && not (eqb id (giver fs (id / 3)))
+
+-- the first corner at v is one of a face with different corners
+unfoldable pub kept : List Face → ℕ → Bool
+kept fs v = any (λ id. eqb (cornerAt fs id) v && (not (met fs v id) && not (single (face fs (id / 3))))) (below (3 * length fs))
+
+-- corner y comes before corner id in the order of points, and of corners at one point
+unfoldable pub before : List Face → ℕ → ℕ → Bool
+before fs y id = ltb (cornerAt fs y) (cornerAt fs id) || (eqb (cornerAt fs y) (cornerAt fs id) && ltb y id)
+
+-- corner id is the first at its point, and its face has different corners
+unfoldable pub keeps : List Face → ℕ → Bool
+keeps fs id = not (met fs (cornerAt fs id) id) && not (single (face fs (id / 3)))

@@ -44,7 +44,7 @@ fn flagged(word: u32, k: usize) -> bool
 }
 
 // Corner k of three.
-fn pick(a: u32, b: u32, c: u32, k: usize) -> u32
+pub fn pick(a: u32, b: u32, c: u32, k: usize) -> u32
     ensures { λ r. ⌜ r ≡ by.pickOf a b c k ⌝ }
 {
     if k == 0 {
@@ -106,7 +106,7 @@ fn met(faces: &[u32], words: &[u32], f: usize, v: u32) -> bool
 }
 
 // Whether v was met before corner k of face f.
-fn met_at(faces: &[u32], words: &[u32], f: usize, k: usize, v: u32) -> bool
+pub fn met_at(faces: &[u32], words: &[u32], f: usize, k: usize, v: u32) -> bool
     requires { ⌜ by.HasAsks (now faces) (now words) f ⌝ }
     ensures { λ r. ⌜ r ≡ by.metAt (now (faces .entry)) (now (words .entry)) v f k ⌝ }
 {
@@ -118,7 +118,7 @@ fn met_at(faces: &[u32], words: &[u32], f: usize, k: usize, v: u32) -> bool
 }
 
 // Whether three corners are equal.
-fn same(a: u32, b: u32, c: u32) -> bool
+pub fn same(a: u32, b: u32, c: u32) -> bool
     ensures { λ r. ⌜ r ≡ (eqb a b && eqb b c) ⌝ }
 {
     if a == b { b == c } else { false }

@@ -1,5 +1,5 @@
-// One word a face over the input faces, which never change. Bit 0 of a word: the face is gone. Bit 1: its corners 1 and 2 are exchanged. Bit 2: it is marked
-// and leaves when the pass ends. Bit 3: it is visited. Bits 4 to 6: flags of its corners. Bits 8 and up: a link, the number of a face and one more.
+// One word a face over the input faces, which never change. Bit 0 of a word: the face is gone. Bit 1: its corners 1 and 2 are exchanged. The other bits are of
+// the pass that searches, which says what they are.
 ghost use mathlib.Core.Path.{_≡_};
 ghost use Prim.Native.Nat.{_<_};
 ghost use lib.ListN.{length, getD};

@@ -1,0 +1,2 @@
+-- `Points` has the lines of points that pass 6 would tell.
+pub mod Points

@@ -1,0 +1,2 @@
+-- `Counting` has the count, face after face.
+pub mod Counting

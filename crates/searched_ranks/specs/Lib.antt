@@ -1,0 +1,2 @@
+-- `Ranks` has which corners count.
+pub mod Ranks

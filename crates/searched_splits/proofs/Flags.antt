@@ -90,6 +90,12 @@ module _ {x a b c d e f : ℕ} (h : Bits x a b c d e f) where
   pub lead-zero : wordOf x a b c d e f / 128 % 2 ≡ d
   lead-zero = omega (arith, h)
 
+  pub lead-one : wordOf x a b c d e f / 256 % 2 ≡ e
+  lead-one = omega (arith, h)
+
+  pub lead-two : wordOf x a b c d e f / 512 % 2 ≡ f
+  lead-two = omega (arith, h)
+
   pub no-state : wordOf x a b c d e f / 4 % 4 ≡ 0
   no-state = omega (arith, h)
 
@@ -209,6 +215,16 @@ module _ {xs w₀ : List ℕ} (plain : (g : ℕ) → g < length w₀ → getD w�
   lead-read f h t =
       let p = place w₀ f in
       rw (standing-word f h t) (ap (λ (n : ℕ). eqb n 0) (lead-zero (bits f h p)) ∙ one-not (openTo fs E (3 * p)))
+
+  -- which corners are marked
+  pub mark-bits :
+      (f : ℕ) → f < length w₀ → T (stands w₀ f)
+      → (getD w f 0 / 128 % 2 ≡ one (openTo fs E (3 * place w₀ f))) × (getD w f 0 / 256 % 2 ≡ one (openTo fs E (3 * place w₀ f + 1))) × (getD w f 0 / 512 % 2 ≡ one (openTo fs E (3 * place w₀ f + 2)))
+  unfolding wordTo threeOf
+  mark-bits f h t =
+      let p = place w₀ f in
+      let y = standing-word f h t in
+      (ap (λ (n : ℕ). n / 128 % 2) y ∙ lead-zero (bits f h p), ap (λ (n : ℕ). n / 256 % 2) y ∙ lead-one (bits f h p), ap (λ (n : ℕ). n / 512 % 2) y ∙ lead-two (bits f h p))
 
 -- ---- a corner of a face by its place
 

@@ -34,7 +34,7 @@ module _ {xs w₀ : List ℕ} (plain : (g : ℕ) → g < length w₀ → getD w�
   all = 3 * length fs
 
   -- a mark says that the corner opens a group
-  mark-is : (g j : ℕ) → g < length w₀ → T (stands w₀ g) → j < 3 → markedIn (getD w g 0) j ≡ opens fs (idOf w₀ g j)
+  pub mark-is : (g j : ℕ) → g < length w₀ → T (stands w₀ g) → j < 3 → markedIn (getD w g 0) j ≡ opens fs (idOf w₀ g j)
   unfolding markedIn
   mark-is g j h t l =
       let b = mark-bits plain s g h t in

@@ -7,7 +7,7 @@ ghost use mathlib.Core.Path.{_≡_};
 ghost use Rattle.searched_ranks.specs.Ranks as by;
 
 // Whether corner k is marked in a word.
-fn marked(word: u32, k: usize) -> bool
+pub fn marked(word: u32, k: usize) -> bool
     ensures { λ r. ⌜ r ≡ by.markedIn word k ⌝ }
 {
     if k == 0 {

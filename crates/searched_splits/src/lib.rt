@@ -125,7 +125,7 @@ pub fn same(a: u32, b: u32, c: u32) -> bool
 }
 
 // Whether a face with three equal corners, of this word, takes the point that is split off for its corner k.
-fn gives(word: u32, k: usize) -> bool
+pub fn gives(word: u32, k: usize) -> bool
     ensures { λ r. ⌜ r ≡ by.givesIn word k ⌝ }
 {
     if k == 0 {

@@ -1,0 +1,74 @@
+// The length of a mending list, found by a search in the faces alone, with one word a face and an index of the faces.
+ghost use mathlib.Core.Path.{_≡_};
+ghost use lib.ListN.{length};
+ghost use Rattle.rules.specs.Mesh.{pointsOf, facesOf};
+ghost use Rattle.rules.specs.Mending.{list-text};
+ghost use Rattle.refuse.specs.Accepted.{Accepted};
+ghost use Rattle.face_index.specs.Index.{Indexed};
+ghost use Rattle.searched_length.specs.Length as by;
+
+// How long the lines of passes 5 and 6 are.
+struct Ends {
+    fifth: usize,
+    sixth: usize,
+}
+
+// How long the lines of passes 5 and 6 are, each if it is on, after passes 1 to 4.
+fn ending(
+    split: bool,
+    unused: bool,
+    points: &[f64],
+    faces: &[u32],
+    index: &[u32],
+    words: &mut [u32],
+    count: usize,
+) -> Ends
+    requires { ⌜ by.EndAsks (now points) (now faces) (now words) count ⌝ }
+    requires { ⌜ Indexed (now faces) (now index) ⌝ }
+    ensures { λ r. ⌜ by.EndGives split unused (now (points .entry)) (now (faces .entry)) (now (words .entry)) (r .fifth) (r .sixth) ⌝ }
+{
+    if !split {
+        if !unused {
+            return Ends { fifth: 0, sixth: 0 };
+        }
+        let sixth = searched_unused::unused_length(faces, index, words, count);
+        return Ends { fifth: 0, sixth };
+    }
+    if !unused {
+        let told = searched_splits::split_length(faces, index, words, count);
+        return Ends {
+            fifth: told.bytes,
+            sixth: 0,
+        };
+    }
+    let every = searched_isolated::all_length(count);
+    let kept = searched_isolated::kept_length(faces, words);
+    let told = searched_splits::split_length(faces, index, words, count);
+    let lost = searched_lost::lost_length(faces, words, count);
+    Ends {
+        fifth: told.bytes,
+        sixth: every - kept + lost,
+    }
+}
+
+// How long the list is, pass by pass, with a word of 0 for each face.
+pub fn all_lines(
+    points: &[f64],
+    faces: &[u32],
+    s: f64,
+    options: u32,
+    index: &[u32],
+    words: &mut [u32],
+) -> usize
+    requires { ⌜ by.RowsAsk (now points) (now faces) (now index) (now words) ⌝ }
+    ensures { λ r. ⌜ r ≡ length (list-text s options (pointsOf (now (points .entry))) (facesOf (now (faces .entry)))) ⌝ }
+{
+    let first = searched_lines::first(options % 2 == 1, points, s, faces, words);
+    let second = searched_lines::second(options / 2 % 2 == 1, points, faces, index, words);
+    let third = searched_lines::third(options / 4 % 2 == 1, points, faces, index, words);
+    let fourth = searched_lines::fourth(options / 16 % 2 == 1, points, faces, index, words);
+    let split = options / 8 % 2 == 1;
+    let unused = options / 32 % 2 == 1;
+    let ends = ending(split, unused, points, faces, index, words, points.len() / 3);
+    first + second + third + fourth + ends.fifth + ends.sixth
+}

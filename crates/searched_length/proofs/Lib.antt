@@ -2,3 +2,5 @@
 pub mod LastTwo
 -- `Whole` has the list, pass by pass.
 pub mod Whole
+-- `Rows` has the front of a row that was cleared.
+pub mod Rows

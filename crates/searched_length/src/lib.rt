@@ -52,7 +52,7 @@ fn ending(
 }
 
 // How long the list is, pass by pass, with a word of 0 for each face.
-pub fn all_lines(
+fn all_lines(
     points: &[f64],
     faces: &[u32],
     s: f64,
@@ -71,4 +71,22 @@ pub fn all_lines(
     let unused = options / 32 % 2 == 1;
     let ends = ending(split, unused, points, faces, index, words, points.len() / 3);
     first + second + third + fourth + ends.fifth + ends.sixth
+}
+
+// How long the list is, in rows that are long enough.
+pub fn in_rows(
+    points: &[f64],
+    faces: &[u32],
+    s: f64,
+    options: u32,
+    words: &mut [u32],
+    index: &mut [u32],
+) -> usize
+    requires { ⌜ by.RoomAsk (now points) (now faces) (now words) (now index) ⌝ }
+    ensures { λ r. ⌜ r ≡ length (list-text s options (pointsOf (now (points .entry))) (facesOf (now (faces .entry)))) ⌝ }
+{
+    let n = faces.len() / 3;
+    rows::clear(words, 0, n);
+    face_index::make_index(faces, index);
+    all_lines(points, faces, s, options, index, &mut words[..n])
 }

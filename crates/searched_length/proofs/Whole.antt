@@ -32,6 +32,7 @@ use Rattle.entry_search.specs.Choosing.{BestAsks}
 use Rattle.searched_marks.proofs.Losing.{viewed-inside}
 use Rattle.searched_lines.specs.Lines.{bytesOf, PassAsks, Shown, ToldGives}
 use Rattle.searched_length.specs.Length.{EndAsks, EndGives, RowsAsk}
+use Rattle.searched_length.proofs.Rows.{zeros, zeros-worded, zeros-each}
 
 -- ---- what each pass asks
 
@@ -110,26 +111,35 @@ module _ {ps : List Float} {xs ix w : List ℕ} (p : RowsAsk ps xs ix w) (s : Fl
 
 -- ---- it is bounded
 
-pub text-short : {ps : List Float} {xs ix w : List ℕ} → RowsAsk ps xs ix w → (s : Float) (options : ℕ) → length (list-text s options (pointsOf ps) (facesOf xs)) ≤ 200000000
-text-short {ps} {xs} {ix} {w} p s options =
+pub text-short : {ps : List Float} {xs : List ℕ} → Accepted ps xs → (s : Float) (options : ℕ) → length (list-text s options (pointsOf ps) (facesOf xs)) ≤ 200000000
+text-short {ps} {xs} p s options =
     omega (
       arith,
       text-bounded s options (pointsOf ps) (facesOf xs)
-          (subst (Inside (length (pointsOf ps))) input (viewed-inside (first-ask p .asks)))
+          (subst (Inside (length (pointsOf ps))) input (viewed-inside asked))
           (from-rise 0 xs)
           (subst (λ fs. All (λ f. f .origin < length (facesOf xs)) fs) input names)
-          (omega (arith, length-points ps, p .input .faces-fine .points))
-          (omega (arith, length-faces xs, p .input .faces-fine .few)),
+          (omega (arith, length-points ps, p .faces-fine .points))
+          (omega (arith, length-faces xs, p .faces-fine .few)),
       length-points ps,
       length-faces xs,
-      p .input .faces-fine .points,
-      p .input .faces-fine .few,
+      p .faces-fine .points,
+      p .faces-fine .few,
     )
   where
+    w : List ℕ
+    w = zeros (length xs / 3)
+
+    worded : Worded xs w
+    worded = zeros-worded p
+
+    asked : BestAsks ps xs w
+    asked = record { worded = worded; inside = p .faces-fine .below }
+
     input : viewed xs w ≡ facesOf xs
-    input = viewed-input (p .worded) (p .zero)
+    input = viewed-input worded (zeros-each (length xs / 3))
 
     names : All (λ f. f .origin < length (facesOf xs)) (viewed xs w)
     names =
         all-map (λ f. f .origin < length (facesOf xs)) (view xs w) (there w (length w))
-        (all-imp _ (λ f. view xs w f .origin < length (facesOf xs)) (λ f h. omega (arith, view-origin (p .worded) f (h .0), h .0, length-faces xs, p .worded .long)) (there w (length w)) (there-all w (length w)))
+        (all-imp _ (λ f. view xs w f .origin < length (facesOf xs)) (λ f h. omega (arith, view-origin worded f (h .0), h .0, length-faces xs, worded .long)) (there w (length w)) (there-all w (length w)))

@@ -40,3 +40,8 @@ pub record RoomAsk (ps : List Float) (xs w ix : List ℕ) : Type 0 where
   pub input : Accepted ps xs
   pub words : length xs / 3 ≤ length w
   pub index : 1024 ≤ length ix
+
+-- input that was accepted, of few faces
+pub record FewAsk (ps : List Float) (xs : List ℕ) : Type 0 where
+  pub input : Accepted ps xs
+  pub few : length xs ≤ 12288

@@ -90,3 +90,44 @@ pub fn in_rows(
     face_index::make_index(faces, index);
     all_lines(points, faces, s, options, index, &mut words[..n])
 }
+
+// How long the list is, for up to 4,096 faces: 48 KB of rows on the stack.
+fn few(points: &[f64], faces: &[u32], s: f64, options: u32) -> usize
+    requires { ⌜ by.FewAsk (now points) (now faces) ⌝ }
+    ensures { λ r. ⌜ r ≡ length (list-text s options (pointsOf (now (points .entry))) (facesOf (now (faces .entry)))) ⌝ }
+{
+    let mut words = [0u32; 4096];
+    let mut index = [0u32; 8192];
+    let r = in_rows(points, faces, s, options, &mut words, &mut index);
+    // This is never so. A function that calls itself is not made a part of its caller, so that the rows are on the stack only where they are used.
+    if r > 200000000 {
+        return few(points, faces, s, options);
+    }
+    r
+}
+
+// How long the list is, for any number of faces: 5 MB of rows on the stack.
+fn many(points: &[f64], faces: &[u32], s: f64, options: u32) -> usize
+    requires { ⌜ Accepted (now points) (now faces) ⌝ }
+    ensures { λ r. ⌜ r ≡ length (list-text s options (pointsOf (now (points .entry))) (facesOf (now (faces .entry)))) ⌝ }
+{
+    let mut words = [0u32; 1048576];
+    let mut index = [0u32; 262144];
+    let r = in_rows(points, faces, s, options, &mut words, &mut index);
+    // This is never so, as in `few`.
+    if r > 200000000 {
+        return many(points, faces, s, options);
+    }
+    r
+}
+
+// How long the text of the mending list is, by a search in the faces alone.
+pub fn searched_length(points: &[f64], faces: &[u32], s: f64, options: u32) -> u64
+    requires { ⌜ Accepted (now points) (now faces) ⌝ }
+    ensures { λ r. ⌜ r ≡ length (list-text s options (pointsOf (now (points .entry))) (facesOf (now (faces .entry)))) ⌝ }
+{
+    if faces.len() <= 12288 {
+        return few(points, faces, s, options) as u64;
+    }
+    many(points, faces, s, options) as u64
+}

@@ -7,7 +7,7 @@ use lib.ListN.{getD}
 use lib.Dec.{eqb}
 use lib.Ieee.{Float}
 use Rattle.rules.specs.Rooms.{Answer, accepted, refused, Outcome}
-use Rattle.rules.specs.Calls.{RepairRooms, EdgesRooms, LoopsRooms, PatchesRooms, StlRooms, ReadPlyRooms, WritePlyRooms, ApplyRooms}
+use Rattle.rules.specs.Calls.{RepairRooms, EdgesRooms, LoopsRooms, PatchesRooms, StlRooms, ReadPlyRooms, WritePlyRooms, ApplyRooms, ListRooms}
 use Rattle.repair.specs.declared.Repaired.{Repaired}
 use Rattle.repair.specs.declared.Repaired.the-variants as repaired
 use Rattle.repair.specs.Answers as repair
@@ -41,6 +41,9 @@ use Rattle.ply_counts.specs.Answers as counts
 use Rattle.apply_list.specs.declared.Applied.{Applied}
 use Rattle.apply_list.specs.declared.Applied.the-variants as applied
 use Rattle.apply_list.specs.Answers as apply
+use Rattle.write_list.specs.declared.Listed.{Listed}
+use Rattle.write_list.specs.declared.Listed.the-variants as listed
+use Rattle.write_list.specs.Called as list
 
 -- ---- repair
 
@@ -269,3 +272,22 @@ one-apply {o} {r} {r′} p q =
       ap (λ t. t .rooms .out-faces) e,
       ap (λ t. t .rooms .work) e,
     )
+
+-- ---- a mending list written
+
+-- what writing it gave back, from the rules' answer
+abbrev listed-of : Answer → Listed
+listed-of (accepted ns) = listed.Done (getD ns 0 0)
+listed-of (refused n p) = listed.Refused n p
+
+-- nothing of it is lost
+listed-is : (r : Listed) → listed-of (list.answerOf r) ≡ r
+listed-is (listed.Done n) = refl
+listed-is (listed.Refused n p) = refl
+
+-- writing a list has one answer, and leaves one list in each room
+pub one-list :
+    {o : Outcome ListRooms} {r r′ : Listed} {text text′ work work′ : List ℕ} → list.outcomeOf r text work ≡ o → list.outcomeOf r′ text′ work′ ≡ o
+    → (r ≡ r′) × (text ≡ text′) × (work ≡ work′)
+one-list {o} {r} {r′} p q =
+    let e = p ∙ sym q in (sym (listed-is r) ∙ ap (λ t. listed-of (t .answer)) e ∙ listed-is r′, ap (λ t. t .rooms .text) e, ap (λ t. t .rooms .work) e)

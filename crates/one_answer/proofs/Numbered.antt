@@ -8,7 +8,7 @@ use Rattle.rules.specs.Refusal.{Check, decided, unless, at-first, no1, no1-coun
 use Rattle.rules.specs.Rooms.{Answer, outcome}
 use Rattle.rules.specs.Edges.{no7, no8}
 use Rattle.rules.specs.Patches.{Filter}
-use Rattle.rules.specs.Calls.{RepairRooms, EdgesRooms, LoopsRooms, PatchesRooms, repair, repair-check, find-edges, edges-check, find-loops, loops-check, check, check-check, find-patches, patches-check, write-line, line-check, StlRooms, read-stl, stl-check, ReadPlyRooms, read-ply, read-ply-check, WritePlyRooms, write-ply, write-ply-check, ply-counts, ply-counts-check, ApplyRooms, apply-list, apply-check}
+use Rattle.rules.specs.Calls.{RepairRooms, EdgesRooms, LoopsRooms, PatchesRooms, repair, repair-check, find-edges, edges-check, find-loops, loops-check, check, check-check, find-patches, patches-check, write-line, line-check, StlRooms, read-stl, stl-check, ReadPlyRooms, read-ply, read-ply-check, WritePlyRooms, write-ply, write-ply-check, ply-counts, ply-counts-check, ApplyRooms, apply-list, apply-check, ListRooms, write-list, list-check}
 use Rattle.rules.specs.Stl.{no12}
 use Rattle.rules.specs.Ply.{no13, no14}
 use Rattle.rules.specs.Applying.{no15}
@@ -118,3 +118,10 @@ unfolding apply-list apply-check no4 no5 no6 no15 at-first
 apply-numbered points faces text r =
     answers (apply-check points faces text r) _ _ _
     (decides _ (one 0 _, (one 1 _, (two 0 _ _, (two 1 _ _, (by-number 4 _ _ (omega arith), (by-number 5 _ _ (omega arith), (by-number 15 _ _ (omega arith), (by-number 6 _ _ (omega arith), tt)))))))))
+
+-- a mending list written
+pub list-numbered : (points : List Float) (faces : List ℕ) (s : Float) (options : ℕ) (r : ListRooms) → Numbered (write-list points faces s options r .answer)
+unfolding write-list list-check no3-threshold no3-options no4 no5 no6 at-first
+list-numbered points faces s options r =
+    answers (list-check points faces s options r) _ _ _
+    (decides _ (one 0 _, (one 1 _, (two 0 _ _, (two 1 _ _, (by-number 3 0 _ (omega arith), (by-number 3 1 _ (omega arith), (by-number 4 _ _ (omega arith), (by-number 5 _ _ (omega arith), (by-number 6 _ _ (omega arith), tt))))))))))

@@ -5,3 +5,4 @@ pub mod PatchPlaces
 pub mod StlPlaces
 pub mod PlyPlaces
 pub mod ApplyPlaces
+pub mod ListPlaces

@@ -8,6 +8,7 @@ use patches::Patched;
 use ply_counts::Counted;
 use read_stl::Read;
 use repair::Repaired;
+use write_list::Listed;
 use write_ply::Wrote;
 ghost use mathlib.Core.Path.{_≡_};
 ghost use mathlib.Core.List.{[], _∷_};
@@ -23,6 +24,7 @@ ghost use Rattle.patches.specs.Answers.{roomsOf};
 ghost use Rattle.patch_mask.specs.Mask.{masked};
 ghost use Rattle.shell.specs.Told.{Given};
 ghost use Rattle.shell.specs.Clip.{clip, clipped};
+ghost use Rattle.shell.specs.Listed.{ListTold};
 
 // What a repair gives back: how many entries stand in the rooms of points, faces, report and origins.
 #[repr(C)]
@@ -518,6 +520,48 @@ pub extern "C" fn shell_apply(
                 place: place,
                 points: 0,
                 faces: 0,
+            }
+        }
+    }
+}
+
+// What writing a mending list gives back: how many bytes the text has.
+#[repr(C)]
+pub struct ShellList {
+    pub number: u32,
+    pub place: u32,
+    pub bytes: u64,
+}
+
+// Writes the mending list of a repair into a lent room. The one work room comes in three parts: the first 3F entries, the next F, and the others. Of a short one
+// each part is what is left.
+#[no_mangle]
+pub extern "C" fn shell_list_in_parts(
+    points: &[f64],
+    faces: &[u32],
+    s: f64,
+    options: u32,
+    text: &mut [u8],
+    corners: &mut [u32],
+    origins: &mut [u32],
+    rest: &mut [u32],
+) -> ShellList
+    ensures { λ r. ⌜
+        ListTold (now (points .entry)) (now (faces .entry)) s options (now (text .entry)) (now (corners .entry)) (now (origins .entry)) (now (rest .entry)) (now (text .exit)) (now (corners .exit)) (now (origins .exit)) (now (rest .exit)) (r .number) (r .place) (r .bytes)
+        ⌝ }
+{
+    match write_list::write_list(points, faces, s, options, text, corners, origins, rest) {
+        Listed::Done(written) => ShellList {
+            number: 0,
+            place: 0,
+            bytes: written as u64,
+        },
+        Listed::Refused(number, at) => {
+            let place = at as u32;
+            ShellList {
+                number: number,
+                place: place,
+                bytes: 0,
             }
         }
     }

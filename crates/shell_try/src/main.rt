@@ -370,29 +370,6 @@ fn ply(points: &[f64], faces: &[u32]) {
     count_ply(&file);
 }
 
-// A mending list applied to a face that has one point three times.
-fn apply(list: &[u8]) {
-    let mut points = [7.0; 13];
-    let mut faces = [7u32; 4];
-    let mut work = [7u32; 145];
-    let r = shell::shell_apply(
-        &[0.0, 0.0, 0.0],
-        &[0, 0, 0],
-        list,
-        &mut points,
-        &mut faces,
-        &mut work,
-    );
-    io::write_all(1, b"apply ");
-    show::numbers(&[r.number, r.place], 2);
-    show::number(r.points);
-    show::number(r.faces);
-    show::end_line();
-    show::bits(&points);
-    show::row(&faces, faces.len());
-    show::runs(&work);
-}
-
 // Writes a limit: absent, zero, or another number.
 fn limit(by: Limit) {
     match by {
@@ -431,8 +408,6 @@ fn main() {
     patch_calls();
     ply(&[0.0, -0.0, 1.0], &[0, 0, 0]);
     ply(&[0.0, 0.0, 0.0], &[0, 1, 0]);
-    apply(b"s\t0\t1\t0\ns\t0\t2\nu\t0\nu\t2\n");
-    apply(b"o\t0\no\t0\n");
     mask(0);
     mask(2);
     mask(12);

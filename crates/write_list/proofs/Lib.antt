@@ -1,0 +1,2 @@
+-- `Ending` has the outcome.
+pub mod Ending

@@ -1,6 +1,6 @@
 /* A fuzz target: a few bytes become a small mesh and rooms, the rest is a mending list for it, as it is or put into the list of a repair of the mesh. Number,
  * place, counts and every entry of every room must be those of the documents (mending.c), and what is told of the list line by line must end at the same line
- * (host/lists.c). The list of a repair must apply as it is. */
+ * (host/lists.c). The list of a repair must apply as it is. Some inputs ask for the list of a repair of the mesh too, in rooms of any length. */
 #include "blocks.h"
 #include "lend.h"
 #include "lists.h"
@@ -96,6 +96,26 @@ static void ask(const Applying *a, const Lending *how, int line_by_line) {
     mending_free(&wanted);
 }
 
+/* Asks for the list of a repair of the mesh, with settings that may be refused, and compares. The text's room differs by some bytes from the list's length. */
+static void ask_list(const Applying *a, const Lending *how, Bytes *b) {
+    static const double thresholds[] = {0, 1e-12, 0.25, 1, -0.0, -1, 1.5};
+    uint8_t options = take(b), threshold = take(b), odd = take(b);
+    int8_t by = (int8_t)take(b);
+    size_t P = a->points_len / 3, F = a->faces_len / 3;
+    Listing l = {a->points, a->faces, a->points_len, a->faces_len, {0, 16 * P + 64 * F + 64}, thresholds[threshold % 7], options > 250 ? 64 : options % 64};
+    Listed wanted = mending_listed(&l);
+    l.room[0] = wanted.list.length;
+    if (odd % 4 < 2)
+        l.room[odd % 4] = by < 0 && l.room[odd % 4] < (size_t)-by ? 0 : l.room[odd % 4] + (size_t)by;
+    judge_rooms(&l, &wanted);
+    const uint64_t entries[1] = {wanted.list.length};
+    const char *what = listing_differs(&l, how, &wanted);
+    if (what != NULL)
+        wrong(a, what);
+    blocks_seen(1, wanted.number, wanted.place, entries, 1);
+    free(wanted.list.bytes);
+}
+
 int LLVMFuzzerTestOneInput(const uint8_t *data, size_t size) {
     Bytes b = {data, size == 0 ? data : data + size};
     Applying a = {NULL, NULL, NULL, 0, 0, 0, {0, 0, 0}};
@@ -103,6 +123,9 @@ int LLVMFuzzerTestOneInput(const uint8_t *data, size_t size) {
     int8_t by = (int8_t)take(&b);
     Lending lending = {how % DIRTS, how >> 3 & 1, how >> 4 & 1, odd};
     read_mesh(&a, &b);
+    keep(POINTS), keep(FACES);
+    if (how >> 7)
+        ask_list(&a, &lending, &b);
     Text list = read_list(&a, &b, how >> 5 & 1);
     uint8_t *text = lend(TEXT, list.length, 1, how >> 6 & 1);
     if (list.length > 0)

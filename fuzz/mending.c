@@ -537,23 +537,27 @@ void mending_rooms(const Applying *a, size_t stated[3]) {
     stated[2] = 16 * P + 64 * F + 64;
 }
 
-/* Refusals 1, 2, 4 and 5. */
-static void refuse_mesh(const Applying *a, Mended *m) {
-    size_t P = a->points_len / 3, F = a->faces_len / 3;
-    refuse(m, a->points_len % 3 != 0, 1, 0);
-    refuse(m, a->faces_len % 3 != 0, 1, 1);
-    refuse(m, P > 4194304, 2, 0);
-    refuse(m, F > 1048576, 2, 1);
+/* Refusals 1 and 2. */
+static void refuse_sizes(size_t points_len, size_t faces_len, Mended *m) {
+    refuse(m, points_len % 3 != 0, 1, 0);
+    refuse(m, faces_len % 3 != 0, 1, 1);
+    refuse(m, points_len / 3 > 4194304, 2, 0);
+    refuse(m, faces_len / 3 > 1048576, 2, 1);
+}
+
+/* Refusals 4 and 5. */
+static void refuse_entries(const double *points, size_t P, const uint32_t *faces, size_t F, Mended *m) {
     for (size_t i = 0; i < 3 * P && m->number == 0; i++)
-        refuse(m, !(fabs(a->points[i]) <= 0x1p100), 4, i / 3);
+        refuse(m, !(fabs(points[i]) <= 0x1p100), 4, i / 3);
     for (size_t i = 0; i < 3 * F && m->number == 0; i++)
-        refuse(m, a->faces[i] >= P, 5, i / 3);
+        refuse(m, faces[i] >= P, 5, i / 3);
 }
 
 Mended mending_applied(const Applying *a) {
     Mended m = {0, 0, 0, 0, NULL, NULL};
     size_t stated[3], P = a->points_len / 3, F = a->faces_len / 3;
-    refuse_mesh(a, &m);
+    refuse_sizes(a->points_len, a->faces_len, &m);
+    refuse_entries(a->points, P, a->faces, F, &m);
     if (m.number != 0)
         return m;
     Bench b = bench(a->points, P, a->faces, F);
@@ -600,5 +604,53 @@ const char *mending_differs(const Applying *a, const Lending *how, const Mended 
         return refused ? "the faces room is changed" : "the faces room does not hold what it must";
     if (!holds(2, NULL, 0, refused ? 0 : stated[2]))
         return refused ? "the work room is changed" : "the work room does not hold what it must";
+    return NULL;
+}
+
+/* ---- a list written */
+
+void judge_rooms(const Listing *l, Listed *wanted) {
+    int text = l->room[0] < wanted->list.length, work = l->room[1] < 16 * (l->points_len / 3) + 64 * (l->faces_len / 3) + 64;
+    if (wanted->number == 0 || wanted->number == 6) {
+        wanted->number = text || work ? 6 : 0;
+        wanted->place = !text && work;
+    }
+}
+
+Listed mending_listed(const Listing *l) {
+    Mended m = {0, 0, 0, 0, NULL, NULL};
+    size_t P = l->points_len / 3, F = l->faces_len / 3;
+    refuse_sizes(l->points_len, l->faces_len, &m);
+    refuse(&m, !(0 <= l->s && l->s <= 1), 3, 0);
+    refuse(&m, l->options > 63, 3, 1);
+    refuse_entries(l->points, P, l->faces, F, &m);
+    Listed wanted = {m.number, m.place, {NULL, 0, 0}};
+    if (m.number == 0)
+        wanted.list = mending_list(l->points, P, l->faces, F, l->s, l->options);
+    judge_rooms(l, &wanted);
+    return wanted;
+}
+
+const char *listing_differs(const Listing *l, const Lending *how, const Listed *wanted) {
+    static const size_t sizes[2] = {1, 4};
+    size_t P = l->points_len / 3, F = l->faces_len / 3;
+    void *room[2];
+    for (int k = 0; k < 2; k++) {
+        room[k] = lend(k, l->room[k], sizes[k], k == 0 ? how->front : !how->front);
+        soil(k, how->dirt, how->seed + (unsigned)k);
+        keep(k);
+        if (l->room[k] == 0 && how->null)
+            room[k] = NULL;
+    }
+    ShellList found = shell_list(l->points, l->points_len, l->faces, l->faces_len, l->s, l->options, room[0], l->room[0], room[1], l->room[1]);
+    int refused = wanted->number != 0;
+    if (found.number != wanted->number || found.place != wanted->place)
+        return "the list: another number or place";
+    if (found.bytes != (refused ? 0 : wanted->list.length))
+        return "the list: another length";
+    if (!holds(0, wanted->list.bytes, (size_t)found.bytes, (size_t)found.bytes))
+        return refused ? "the list: the text room is changed" : "the list: the text room does not hold what it must";
+    if (!holds(1, NULL, 0, refused ? 0 : 16 * P + 64 * F + 64))
+        return refused ? "the list: the work room is changed" : "the list: the work room does not hold what it must";
     return NULL;
 }

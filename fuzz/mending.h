@@ -49,4 +49,28 @@ typedef struct {
 /* The call of the library in rooms of these lengths, and what differs from what must come out, or NULL: number, place, counts, every entry of every room. */
 const char *mending_differs(const Applying *a, const Lending *how, const Mended *wanted);
 
+/* An input of the call that writes a list, and the lengths of its rooms, text and work. */
+typedef struct {
+    const double *points;
+    const uint32_t *faces;
+    size_t points_len, faces_len, room[2];
+    double s;
+    uint32_t options;
+} Listing;
+
+/* What must come out: number and place, or the list. Where only a room is too short the list stands here too; its bytes are to be freed in any case. */
+typedef struct {
+    uint32_t number;
+    size_t place;
+    Text list;
+} Listed;
+
+Listed mending_listed(const Listing *l);
+
+/* The same for other rooms. */
+void judge_rooms(const Listing *l, Listed *wanted);
+
+/* That call of the library, and what differs, or NULL. */
+const char *listing_differs(const Listing *l, const Lending *how, const Listed *wanted);
+
 #endif

@@ -2,12 +2,12 @@
  * all six options each mesh must be what is proved of it: the check says yes, the edge call and the loop call accept, each boundary edge stands in exactly one
  * loop, each directed edge is walked at most once, every point is used and has one fan, as many faces as repeat a corner are counted so, and the counts add up;
  * and after it and after repairs with other options, the origins rise strictly, one for each face, and each names an input face that has its corners in the
- * same places, bit by bit, at most the last two exchanged. The mending list that the documents say of each of these repairs (fuzz/mending.c) gives, applied to
- * the mesh, what the repair gave, bit by bit. Before the repair the check must say yes exactly if no face repeats a corner, each directed edge is walked at
- * most once and each point that is used has one fan, and where it says yes the edge call and the loop call must accept; the edge call must accept whatever the
- * loop call accepts or refuses for its boundary, and refuse the same where an edge is crowded. Before and after it the mesh is read from the PLY file that it
- * is written to with the same bits. The first mesh that differs is printed. */
-#include "mending.h"
+ * same places, bit by bit, at most the last two exchanged. The mending list of each of these repairs is written, in rooms of several kinds; it has as many
+ * lines of each kind as the report counts, and gives, applied to the mesh, what the repair gave, bit by bit. Before the repair the check must say yes exactly
+ * if no face repeats a corner, each directed edge is walked at most once and each point that is used has one fan, and where it says yes the edge call and the
+ * loop call must accept; the edge call must accept whatever the loop call accepts or refuses for its boundary, and refuse the same where an edge is crowded.
+ * Before and after it the mesh is read from the PLY file that it is written to with the same bits. The first mesh that differs is printed. */
+#include "lists.h"
 #include "shell.h"
 #include <stdio.h>
 #include <stdlib.h>
@@ -451,24 +451,77 @@ static void free_rooms(Rooms *r) {
     free(r->work);
 }
 
-/* Applies the mending list of a repair with these options, in rooms that are just large enough, and says how that is not what the repair gave, or NULL. */
+/* A list as it is written, and how long it is. */
+typedef struct {
+    uint8_t *text;
+    size_t length;
+} Written;
+
+/* Writes the mending list of a repair with these options: into the room that is enough for any list, with a work room of one number; into a room as long as the
+ * list, with the work room that this leaves; and with a work room of several numbers into one byte less, into none, and as long as the list. Says what differs,
+ * or NULL. */
+static const char *write_list(const Mesh *m, uint32_t options, Written *list) {
+    size_t P = m->P, F = m->F, most = SHELL_LIST_ROOM(P, F), w = SHELL_WORK_ROOM(P, F);
+    uint32_t *work = room(w, 4);
+    uint8_t *any = room(most, 1);
+    ShellList written = shell_list(m->points, 3 * P, m->faces, 3 * F, m->s, options, any, most, work, w);
+    size_t bytes = written.number == SHELL_ACCEPTED ? written.bytes : 0;
+    *list = (Written){room(bytes, 1), bytes};
+    ShellList again = shell_list(m->points, 3 * P, m->faces, 3 * F, m->s, options, list->text, bytes, work, w);
+    const char *found = written.number != SHELL_ACCEPTED || again.number != SHELL_ACCEPTED ? "the list of the repair is refused" : NULL;
+    if (found == NULL && (again.bytes != bytes || memcmp(any, list->text, bytes) != 0 || (bytes < most && any[bytes] != 0x5a)))
+        found = "another list of the repair is written into a room that is as long";
+    for (size_t i = 0; i < w; i++)
+        work[i] = (uint32_t)i;
+    ShellList shorter = shell_list(m->points, 3 * P, m->faces, 3 * F, m->s, options, any, bytes == 0 ? 0 : bytes - 1, work, w);
+    ShellList none = shell_list(m->points, 3 * P, m->faces, 3 * F, m->s, options, NULL, 0, work, w - 1);
+    ShellList dirty = shell_list(m->points, 3 * P, m->faces, 3 * F, m->s, options, any, bytes, work, w);
+    int too_short = bytes > 0 && (shorter.number != SHELL_SHORT_ROOM || shorter.place != 0);
+    if (found == NULL && (too_short || none.number != SHELL_SHORT_ROOM || none.place != (bytes == 0)))
+        found = "the list of the repair is written into less room than it has";
+    if (found == NULL && (dirty.number != SHELL_ACCEPTED || dirty.bytes != bytes || memcmp(any, list->text, bytes) != 0))
+        found = "another list of the repair is written with a dirty work room";
+    free(any);
+    free(work);
+    return found;
+}
+
+/* Whether a list has as many lines of each kind as a report counts. */
+static int counted(const Mesh *m, const Written *list, const uint32_t *report) {
+    static const int counts[LINE_KINDS] = {SHELL_REPEATED_REMOVED, SHELL_THIN_REMOVED, SHELL_DUPLICATE_FACES_REMOVED, SHELL_FACES_DROPPED_AT_NONMANIFOLD,
+                                           SHELL_FACES_REORIENTED, SHELL_FACES_DROPPED_FOR_ORIENTATION, SHELL_POINTS_ADDED_BY_SPLITTING,
+                                           SHELL_ISOLATED_VERTICES_REMOVED};
+    uint32_t lines[LINE_KINDS] = {0};
+    List l;
+    int same = open_list(&l, list->text, list->length, m->faces, m->F, m->P);
+    while (same && next_line(&l))
+        lines[l.kind]++;
+    same = same && l.wrong == NOTHING_WRONG;
+    for (int k = 0; k < LINE_KINDS; k++)
+        same = same && lines[k] == report[counts[k]];
+    close_list(&l);
+    return same;
+}
+
+/* Writes the mending list of a repair with these options and applies it, in rooms that are just large enough, and says how that is not what the repair gave, or
+ * NULL. */
 static const char *not_by_list(const Mesh *m, const Rooms *r, uint32_t options, Sums *sums) {
     size_t P = m->P, F = m->F;
-    Text list = mending_list(m->points, P, m->faces, F, m->s, options);
+    Written list;
+    const char *found = write_list(m, options, &list);
     double *points = room(SHELL_POINTS_ROOM(P, F), 8);
     uint32_t *faces = room(SHELL_FACES_ROOM(F), 4), *work = room(SHELL_WORK_ROOM(P, F), 4);
-    ShellApplied a = shell_apply(m->points, 3 * P, m->faces, 3 * F, list.bytes, list.length, points, SHELL_POINTS_ROOM(P, F), faces, SHELL_FACES_ROOM(F), work,
+    ShellApplied a = shell_apply(m->points, 3 * P, m->faces, 3 * F, list.text, list.length, points, SHELL_POINTS_ROOM(P, F), faces, SHELL_FACES_ROOM(F), work,
                                  SHELL_WORK_ROOM(P, F));
-    const char *found = NULL;
-    if (a.number != SHELL_ACCEPTED)
+    if (found == NULL && a.number != SHELL_ACCEPTED)
         found = "the list of the repair does not apply";
-    else if (a.points != r->repaired.points || a.faces != r->repaired.faces || memcmp(points, r->points, SHELL_POINTS_ROOM(P, F) * 8) != 0 ||
-             memcmp(faces, r->faces, SHELL_FACES_ROOM(F) * 4) != 0)
+    if (found == NULL && (a.points != r->repaired.points || a.faces != r->repaired.faces || memcmp(points, r->points, SHELL_POINTS_ROOM(P, F) * 8) != 0 ||
+                          memcmp(faces, r->faces, SHELL_FACES_ROOM(F) * 4) != 0))
         found = "the list of the repair gives another mesh";
-    else if (list.length > SHELL_LIST_ROOM(P, F))
-        found = "the list of the repair is longer than the room for any list";
+    if (found == NULL && !counted(m, &list, r->report))
+        found = "the list of the repair has not the lines that its report counts";
     sums->lists += list.length;
-    free(list.bytes);
+    free(list.text);
     free(points);
     free(faces);
     free(work);
@@ -541,7 +594,7 @@ int main(int count, char **names) {
     printf("chain: %lu meshes, %lu of them sound before the repair, %lu not sound for the fans at a point alone, %lu with edges but no loops; it removes %lu "
            "faces that repeat a corner and %lu thin ones; after it %lu boundary edges in %lu loops; %lu bytes of PLY files there and back; with these and "
            "other options %lu faces traced by their origins, %lu of them in another place of the list, %lu with corners exchanged, and %lu bytes of mending "
-           "lists applied\n",
+           "lists written and applied\n",
            meshes, (unsigned long)sums.sound, (unsigned long)sums.tied, (unsigned long)sums.listed, (unsigned long)sums.repeated, (unsigned long)sums.thin,
            (unsigned long)sums.boundary, (unsigned long)sums.loops, (unsigned long)sums.bytes, (unsigned long)sums.traced, (unsigned long)sums.moved,
            (unsigned long)sums.turned, (unsigned long)sums.lists);

@@ -16,7 +16,7 @@ enum { P = 7, F = 8, MOST = P + 3 * F };
 static double mended[SHELL_POINTS_ROOM(P, F)], lengths[SHELL_LENGTHS_ROOM(F)];
 static uint32_t triples[SHELL_FACES_ROOM(F)], report[SHELL_REPORT_ROOM], origins[SHELL_ORIGINS_ROOM(F)], work[SHELL_WORK_ROOM(MOST, F)];
 static uint32_t edges[SHELL_EDGES_ROOM(F)], face_edges[SHELL_FACE_EDGES_ROOM(F)], loop_vertices[SHELL_LOOP_VERTICES_ROOM(F)], loop_ends[SHELL_LOOP_ENDS_ROOM(F)];
-static uint8_t file[SHELL_PLY_FILE_ROOM(MOST, F)];
+static uint8_t file[SHELL_PLY_FILE_ROOM(MOST, F)], mending[SHELL_LIST_ROOM(P, F)];
 static double read_points[SHELL_PLY_POINTS_ROOM(MOST)];
 static uint32_t read_faces[SHELL_PLY_FACES_ROOM(F)];
 #define ROOM(room) room, sizeof room / sizeof *room
@@ -124,8 +124,8 @@ static int mend(const char *name, const double *points, size_t points_len, const
 }
 
 /* A shell mended by a list: a line for each change, some of which may have been struck. Which line does not apply is told, from 0. */
-static int apply(const char *what, const char *list, const double *points, size_t points_len, const uint32_t *faces, size_t faces_len) {
-    ShellApplied applied = shell_apply(points, points_len, faces, faces_len, (const uint8_t *)list, strlen(list), ROOM(mended), ROOM(triples), ROOM(work));
+static int apply(const char *what, const uint8_t *list, size_t list_len, const double *points, size_t points_len, const uint32_t *faces, size_t faces_len) {
+    ShellApplied applied = shell_apply(points, points_len, faces, faces_len, list, list_len, ROOM(mended), ROOM(triples), ROOM(work));
     if (applied.number == SHELL_BAD_LIST) {
         printf("%s: line %u does not apply\n", what, applied.place);
         return 0;
@@ -137,6 +137,22 @@ static int apply(const char *what, const char *list, const double *points, size_
         printf("%s %u", i % 3 == 0 && i > 0 ? "," : "", triples[i]);
     printf("\n");
     return 0;
+}
+
+/* What a repair does to a shell, written as a list and applied: the whole of it, without its second line, and without its first. */
+static int list_and_apply(const double *points, size_t points_len, const uint32_t *faces, size_t faces_len) {
+    static uint8_t struck[sizeof mending];
+    ShellList written = shell_list(points, points_len, faces, faces_len, 1e-12, SHELL_ALL_OPTIONS, ROOM(mending), ROOM(work));
+    if (written.number != SHELL_ACCEPTED)
+        return refused("list", written.number, written.place);
+    printf("three faces on an edge, what a repair does\n%.*s", (int)written.bytes, (const char *)mending);
+    size_t bytes = (size_t)written.bytes, first = (size_t)((uint8_t *)memchr(mending, '\n', bytes) + 1 - mending);
+    size_t second = (size_t)((uint8_t *)memchr(mending + first, '\n', bytes - first) + 1 - mending);
+    memcpy(struck, mending, first);
+    memcpy(struck + first, mending + second, bytes - second);
+    return apply("by that list", mending, bytes, points, points_len, faces, faces_len) ||
+           apply("with one line struck", struck, bytes - (second - first), points, points_len, faces, faces_len) ||
+           apply("with another struck", mending + first, bytes - first, points, points_len, faces, faces_len);
 }
 
 /* Two patches of two faces, a square of side 1 and one of side 3: which of them is the part, by area? */
@@ -164,7 +180,5 @@ int main(void) {
     return mend("bowtie", ROOM(cross), ROOM(bowtie)) || mend("three faces on an edge", ROOM(legs), ROOM(crowded)) ||
            mend("Moebius strip", ROOM(cube), ROOM(moebius)) || mend("crumbs", ROOM(row), ROOM(crumbs)) || measure("bowtie", ROOM(cross), ROOM(bowtie)) ||
            measure("hourglass", ROOM(tips), ROOM(hourglass)) || mend("hourglass", ROOM(tips), ROOM(hourglass)) ||
-           apply("three faces on an edge, by a list", "d\t2\t3\tedge\no\t1\nu\t4\n", ROOM(legs), ROOM(crowded)) ||
-           apply("with one line struck", "d\t2\t3\tedge\nu\t4\n", ROOM(legs), ROOM(crowded)) ||
-           apply("with another struck", "o\t1\nu\t4\n", ROOM(legs), ROOM(crowded)) || patches();
+           list_and_apply(ROOM(legs), ROOM(crowded)) || patches();
 }

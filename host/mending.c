@@ -1,12 +1,12 @@
 /* Mending lists on small meshes: `mending MESHES`; lists whose refusals are known, from standard input in the form that tests/mending.py prints:
  * `mending known`; or the list of a repair with all options, printed: `mending list THRESHOLD IN.ply`.
  *
- * Every mesh of at most two faces on three points, with all options, and random ones from a fixed seed: the list that the documents say (fuzz/mending.c) must
- * give by shell_apply what shell_repair gives, bit by bit, and tell each count of its report. Then such lists with lines struck, doubled or exchanged, with
- * bytes changed, put in or cut off; lists of any lines, and of any bytes; meshes that are refused too. Number, place, points and faces must be the documents',
- * in rooms of every length, clean and dirty ones, and what is refused leaves every room as it was. What is told of a list line by line (lists.c) must end at
- * the same line. The first input that differs is printed, and else what was tried: nothing may be missing. For few meshes only some of the small ones are
- * taken, and something may be missing. */
+ * Every mesh of at most two faces on three points, with all options, and random ones from a fixed seed: shell_list must write the list that the documents say
+ * (fuzz/mending.c), and that must give by shell_apply what shell_repair gives, bit by bit, and tell each count of its report. Then such lists with lines
+ * struck, doubled or exchanged, with bytes changed, put in or cut off; lists of any lines, and of any bytes; meshes that are refused too. Number, place, points
+ * and faces must be the documents', in rooms of every length, clean and dirty ones, and what is refused leaves every room as it was. What is told of a list
+ * line by line (lists.c) must end at the same line. The first input that differs is printed, and else what was tried: nothing may be missing. For few meshes
+ * only some of the small ones are taken, and something may be missing. */
 #include "mending.h"
 #include "lend.h"
 #include "lists.h"
@@ -36,8 +36,9 @@ static uint32_t below(uint32_t n) {
     return (uint32_t)((state >> 32) % n);
 }
 
-/* How often each number came back, each kind of line was applied, and each fault was found in a line. */
-static unsigned long numbers[16], kinds[LINE_KINDS], faults[USED_POINT + 1], struck, repairs;
+/* How often each number came back from shell_apply, and from shell_list, of a short room for each place; each kind of line was applied, and each fault was
+ * found in a line. */
+static unsigned long numbers[16], listed[16], shorts[2], kinds[LINE_KINDS], faults[USED_POINT + 1], struck, repairs;
 
 /* Prints what differs for a mesh and a list, and ends the program. */
 static _Noreturn void differs(const Mesh *m, const Text *list, const char *what) {
@@ -112,6 +113,55 @@ static void ask_anyhow(const Mesh *m, const Text *list) {
 
 /* ---- lists of repairs */
 
+/* Asks for a list in rooms that differ from the stated ones by so much, at least none; for the text's, from the list's length. */
+static void ask_list(const Mesh *m, const Listing *input, Listed *wanted, const int by[2], const Lending *how) {
+    Listing l = *input;
+    double *points = lend(3, l.points_len, 8, how->front);
+    uint32_t *faces = lend(4, l.faces_len, 4, how->front);
+    memcpy(points, l.points, 8 * l.points_len);
+    memcpy(faces, l.faces, 4 * l.faces_len);
+    l.points = l.points_len == 0 && how->null ? NULL : points;
+    l.faces = l.faces_len == 0 && how->null ? NULL : faces;
+    keep(3), keep(4);
+    l.room[0] = wanted->list.length;
+    l.room[1] = SHELL_WORK_ROOM(l.points_len / 3, l.faces_len / 3);
+    for (int k = 0; k < 2; k++)
+        l.room[k] = by[k] < 0 && l.room[k] < (size_t)-by[k] ? 0 : l.room[k] + (size_t)by[k];
+    judge_rooms(&l, wanted);
+    const char *what = listing_differs(&l, how, wanted);
+    if (what == NULL && !(holds(3, NULL, 0, 0) && holds(4, NULL, 0, 0)))
+        what = "the list: the input is changed";
+    if (what != NULL) {
+        printf("mending: options %u, threshold %a, rooms %zu %zu of %zu, work room of kind %d\n", l.options, l.s, l.room[0], l.room[1], wanted->list.length,
+               how->dirt);
+        differs(m, &wanted->list, what);
+    }
+    listed[wanted->number]++;
+    if (wanted->number == 6)
+        shorts[wanted->place]++;
+}
+
+/* Asks for the list of a repair in rooms of some lengths: the text's exact, one short, as long as for any list, and other; the work room's of every kind. */
+static void ask_list_anyhow(const Mesh *m, const Listing *input, Listed *wanted) {
+    static const int some[] = {0, 0, 0, 0, 0, 1, 7, -1, -5, -1000000};
+    const int any[] = {0, -1, 1000, -1000000, (int)(SHELL_LIST_ROOM(m->P, m->F) - wanted->list.length), some[below(10)]};
+    for (size_t k = 0; k < sizeof any / sizeof *any; k++) {
+        const Lending how = {(int)below(DIRTS), (int)below(2), (int)below(2), below(1000)};
+        const int by[2] = {any[k], some[below(10)]};
+        ask_list(m, input, wanted, by, &how);
+    }
+}
+
+/* Asks for the list of a mesh that may be refused, with settings that may be too. */
+static void ask_list_of_any(const Mesh *m) {
+    static const double thresholds[] = {-0.0, 0, 1, 0.5, 1e-12, -0x1p-1074, 0x1.0000000000001p0, NAN, INFINITY, -1};
+    static const uint32_t options[] = {64, 127, 1u << 31, UINT32_MAX};
+    Listing l = {m->points, m->faces, m->points_len, m->faces_len, {0, 0}, below(2) ? m->s : thresholds[below(10)], below(4) ? below(64) : options[below(4)]};
+    Listed wanted = mending_listed(&l);
+    ask_list_anyhow(m, &l, &wanted);
+    free(wanted.list.bytes);
+}
+
 /* Where the counts of a report tell of the lines of each kind. */
 static const int counts[LINE_KINDS] = {SHELL_REPEATED_REMOVED, SHELL_THIN_REMOVED, SHELL_DUPLICATE_FACES_REMOVED, SHELL_FACES_DROPPED_AT_NONMANIFOLD,
                                        SHELL_FACES_REORIENTED, SHELL_FACES_DROPPED_FOR_ORIENTATION, SHELL_POINTS_ADDED_BY_SPLITTING,
@@ -141,7 +191,10 @@ static Text repair_by_list(const Mesh *m, uint32_t options) {
     ShellRepaired r = shell_repair(m->points, 3 * m->P, m->faces, 3 * m->F, m->s, options, points, SHELL_POINTS_ROOM(MOST_POINTS, MOST_FACES), faces,
                                    SHELL_FACES_ROOM(MOST_FACES), report, SHELL_REPORT_ROOM, origins, SHELL_ORIGINS_ROOM(MOST_FACES), work,
                                    SHELL_WORK_ROOM(MOST_POINTS, MOST_FACES));
-    Text list = mending_list(m->points, m->P, m->faces, m->F, m->s, options);
+    const Listing l = {m->points, m->faces, 3 * m->P, 3 * m->F, {0, 0}, m->s, options};
+    Listed wanted = mending_listed(&l);
+    ask_list_anyhow(m, &l, &wanted);
+    Text list = wanted.list;
     Mended applied = ask(m, &list, exact, &how);
     if (r.number != 0 || applied.number != 0)
         differs(m, &list, "the repair or its list is refused");
@@ -374,6 +427,8 @@ static void try_mesh(const Mesh *m) {
             else if (below(4) == 0)
                 change_field(&list, below(3));
             ask_anyhow(&other, &list);
+            if (k == 0)
+                ask_list_of_any(&other);
         }
         free(list.bytes);
     }
@@ -412,7 +467,11 @@ static void try_large(void) {
         const Lending how = {k, 0, 0, 0};
         Mended wanted = mending_applied(all + k);
         const char *what = mending_differs(all + k, &how, &wanted);
+        const Listing l = {points, faces, all[k].points_len, all[k].faces_len, {(size_t)k, 0}, -1, 64};
+        const Listed no = mending_listed(&l);
         numbers[wanted.number]++;
+        listed[no.number]++;
+        what = what == NULL ? listing_differs(&l, &how, &no) : what;
         if (what != NULL) {
             printf("mending: too large %d: %s\n", k, what);
             exit(1);
@@ -526,10 +585,12 @@ static int print_list(const char *threshold, const char *name) {
 
 /* Whether everything was tried: each kind of line applied, each fault found, and each number told. */
 static int complete(void) {
-    static const int told[] = {0, 1, 2, 4, 5, 6, 15};
-    int good = struck > 0;
-    for (size_t k = 0; k < sizeof told / sizeof *told; k++)
-        good = good && numbers[told[k]] > 0;
+    static const int applying[] = {0, 1, 2, 4, 5, 6, 15};
+    int good = struck > 0 && shorts[0] > 0 && shorts[1] > 0;
+    for (size_t k = 0; k < sizeof applying / sizeof *applying; k++)
+        good = good && numbers[applying[k]] > 0;
+    for (size_t k = 0; k <= 6; k++)
+        good = good && listed[k] > 0;
     for (int k = 0; k < LINE_KINDS; k++)
         good = good && kinds[k] > 0;
     for (int k = 0; k <= USED_POINT; k++)
@@ -554,6 +615,8 @@ int main(int count, char **words) {
         Mesh m = any_mesh();
         try_mesh(&m);
     }
+    printf("mending: lists written %lu, refused 1 %lu, 2 %lu, 3 %lu, 4 %lu, 5 %lu, 6 for the text %lu and for the work room %lu times\n", listed[0], listed[1],
+           listed[2], listed[3], listed[4], listed[5], shorts[0], shorts[1]);
     printf("mending: %lu lists of repairs, and others; applied %lu, refused 1 %lu, 2 %lu, 4 %lu, 5 %lu, 6 %lu, 15 %lu times; lines applied by their kinds",
            repairs, numbers[0], numbers[1], numbers[2], numbers[4], numbers[5], numbers[6], numbers[15]);
     for (int k = 0; k < LINE_KINDS; k++)

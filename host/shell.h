@@ -9,8 +9,8 @@
  * Refused: `number` and `place`, the rest 0, and no room is changed. Rooms may be longer than stated.
  *
  * What a call takes: no memory but its rooms and the stack, of which it takes less than SHELL_STACK_FEW_FACES bytes for up to SHELL_FEW_FACES faces, in
- * shell_apply only if there are no more than SHELL_FEW_POINTS points too, and less than SHELL_STACK for any mesh (measured, host/stack.c). It keeps nothing,
- * so that calls may run at once in several threads on rooms of their own. */
+ * shell_apply only if there are no more than SHELL_FEW_POINTS points too, and less than SHELL_STACK for any mesh; shell_list less than SHELL_LIST_STACK
+ * (measured, host/stack.c). It keeps nothing, so that calls may run at once in several threads on rooms of their own. */
 #ifndef JOGASMUN_SHELL_H
 #define JOGASMUN_SHELL_H
 
@@ -22,15 +22,15 @@ extern "C" {
 #endif
 
 /* The edition of this header: a higher number where a call, a room, a report or the meaning of an answer is another, or a call is new, so that a program can
- * tell whether it was written for it. Edition 8 has one call more, shell_apply, and refusal 15; every other call is as in edition 7. In edition 7 shell_repair
- * has a further room, for origins, between report and work, and tells how many stand there: a short work room is SHELL_SHORT_ROOM at place 4, and was at place
- * 3. An object file that was compiled against an edition before that must not be linked where it calls shell_repair: it hands over other rooms, and takes
- * another answer. The others are as in edition 6. There the edge check says no to more meshes than in edition 5: to those too in which the faces at a point
- * form several groups. Edition 5 has the three calls for PLY files and refusals 13 and 14 beside what edition 3 has; there is no edition 4. So an object file
- * that was compiled against edition 7 may be linked, and one against edition 3, 5 or 6 where it does not call shell_repair. In edition 3 shell_edges lists the
- * edges and shell_loops the boundary loops, each in rooms of its own; in edition 2 shell_edges has the rooms and the answers of both. A report has eleven
- * counts in each; where no edition is defined it has ten, and a program for those that lends ten is refused, SHELL_SHORT_ROOM at place 2. An object file that
- * was compiled against edition 2 or none must not be linked. */
+ * tell whether it was written for it. Edition 8 has two calls more, shell_list and shell_apply, and refusal 15; every other call is as in edition 7. In edition
+ * 7 shell_repair has a further room, for origins, between report and work, and tells how many stand there: a short work room is SHELL_SHORT_ROOM at place 4,
+ * and was at place 3. An object file that was compiled against an edition before that must not be linked where it calls shell_repair: it hands over other
+ * rooms, and takes another answer. The others are as in edition 6. There the edge check says no to more meshes than in edition 5: to those too in which the
+ * faces at a point form several groups. Edition 5 has the three calls for PLY files and refusals 13 and 14 beside what edition 3 has; there is no edition 4. So
+ * an object file that was compiled against edition 7 may be linked, and one against edition 3, 5 or 6 where it does not call shell_repair. In edition 3
+ * shell_edges lists the edges and shell_loops the boundary loops, each in rooms of its own; in edition 2 shell_edges has the rooms and the answers of both. A
+ * report has eleven counts in each; where no edition is defined it has ten, and a program for those that lends ten is refused, SHELL_SHORT_ROOM at place 2. An
+ * object file that was compiled against edition 2 or none must not be linked. */
 #define SHELL_VERSION 8
 
 /* The numbers a call may give back, and what `place` then is. */
@@ -59,11 +59,14 @@ enum {
 #define SHELL_NO_PATCH 4294967295u
 
 /* The stack that a call takes, in bytes: below the first number up to so many faces, for shell_apply up to so many points too, below the second for any mesh.
- * So few faces have no more than 12,288 corners: there are more points than that only where some are used by no face. */
+ * So few faces have no more than 12,288 corners: there are more points than that only where some are used by no face. shell_list takes less than the third for
+ * any mesh: it keeps rows there where it finds the length of a text by a search (see there). A thread whose stack is shorter than that must not call it where
+ * there are more faces than are few. */
 #define SHELL_FEW_FACES 4096u
 #define SHELL_FEW_POINTS 16384u
 #define SHELL_STACK_FEW_FACES 65536u
 #define SHELL_STACK 2097152u
+#define SHELL_LIST_STACK 7340032u
 
 /* Rooms in entries, for P points, F faces and C patches. */
 #define SHELL_WORK_ROOM(P, F) (16 * (size_t)(P) + 64 * (size_t)(F) + 64)
@@ -275,9 +278,37 @@ ShellPlyFile shell_write_ply(const double *points, size_t points_len, const uint
  *
  * A face is named by its number in the input, also behind faces that were dropped; a point by the number that it has then: new points are P, P + 1 and so on,
  * and points that leave do so together, behind the last line. Lines follow the passes: d of pass 1, of pass 2, of pass 3, then o, d of pass 4, s, u; among
- * those of one kind the first number rises strictly, among s lines the first and then the second.
+ * those of one kind the first number rises strictly, among s lines the first and then the second. */
+
+/* Writes the mending list of the repair that shell_repair makes of the same points, faces, threshold and options; `bytes` is how long it is. shell_apply makes
+ * of it what that repair gives, bit by bit. It has as many lines of each kind as the report counts, none of a pass that is off, and none at all where nothing
+ * changes. It refuses, in this order: SHELL_BAD_LENGTH, SHELL_TOO_LARGE, SHELL_BAD_SETTING, SHELL_BAD_POINT, SHELL_BAD_CORNER, SHELL_SHORT_ROOM. Rooms, in
+ * this order: the text, as long as what is written, for which SHELL_LIST_ROOM(P, F) is always enough, and SHELL_WORK_ROOM(P, F). A text that does not fit is
+ * told even where the work room is too short as well. Bytes of the text's room behind what is written are unchanged.
  *
- * Applies a mending list to points and faces, and gives the mended points and faces: of the list of a repair what the repair gives, bit by bit. `points` and
+ * What it costs: whether the text fits is found out before anything is written. The time grows with the mesh and no faster where the text's room has
+ * SHELL_LIST_ROOM(P, F) bytes, so that it fits in any case; or where the work room is long enough and what is stated of it is all one number, as zeros are, and
+ * as every accepted call leaves it, so that it can be worked in and put back. So lend one of these. Otherwise, where the text's room is shorter and the work
+ * room is short or holds several numbers, the length is found by a search that has no lent memory: for 100,000 faces that takes seconds, for a million minutes
+ * and more; a call that is refused for its text may take as long. */
+typedef struct {
+    uint32_t number, place;
+    uint64_t bytes;
+} ShellList;
+
+/* The same with the work room in three parts, of which each is lent by itself: the first 3F entries, the next F, and the rest. shell_list parts it. */
+ShellList shell_list_in_parts(const double *points, size_t points_len, const uint32_t *faces, size_t faces_len, double s, uint32_t options, uint8_t *text,
+                              size_t text_len, uint32_t *corners, size_t corners_len, uint32_t *origins, size_t origins_len, uint32_t *rest, size_t rest_len);
+
+static inline ShellList shell_list(const double *points, size_t points_len, const uint32_t *faces, size_t faces_len, double s, uint32_t options, uint8_t *text,
+                                   size_t text_len, uint32_t *work, size_t work_len) {
+    size_t F = faces_len / 3, corners_len = 3 * F < work_len ? 3 * F : work_len, left = work_len - corners_len, origins_len = F < left ? F : left;
+    uint32_t *origins = work_len == 0 ? work : work + corners_len, *rest = work_len == 0 ? work : origins + origins_len;
+    return shell_list_in_parts(points, points_len, faces, faces_len, s, options, text, text_len, work, corners_len, origins, origins_len, rest,
+                               left - origins_len);
+}
+
+/* Applies a mending list to points and faces, and gives the mended points and faces: of the list of a repair what the repair gives, bit by bit. `points` and
  * `faces` are entries. A list from which lines were struck may be applied too. A line is bad where its form or its order is wrong, or it names a face that is
  * absent or was dropped by a line before it, an old point that is not below P, a new point that is not the next, a face that does not have the old point then,
  * or a `u` point that is absent or used; and an s line is bad behind 3F of them. Whether a reason is true is not asked. It refuses, in this order:

@@ -1,4 +1,4 @@
-/* Mends a shell from the mould shop or the layout program: shellfix [-s THRESHOLD] [-o OUT.ply] [-f FILE] IN
+/* Mends a shell from the mould shop or the layout program: shellfix [-s THRESHOLD] [-o OUT.ply] [-f FILE] [-l LIST [-w]] IN
  * Or mends it by a list: shellfix -a LIST [-w] [-o OUT.ply] IN
  * Or checks it as it is: shellfix -c IN
  *
@@ -11,10 +11,12 @@
  * refusal, or for a shell that the check does not pass, and then nothing is written; 2 if the words or the threshold are not understood, a file cannot be read
  * or written, or memory runs out.
  *
- * With -a the shell is mended by the mending list in the file LIST, in the form that shell.h tells, and not by the repair: so lines that a technician struck
- * are not applied. How many lines of each kind were applied is told, with -w each line as a sentence too. A list that does not apply is refused, with its
- * first bad line and what is wrong with it. The shell that comes out may not be sound: then what is wrong is told as with -c, it is written all the same, and
- * the exit status is 3.
+ * With -l the file LIST gets the mending list of the repair, in the form that shell.h tells: a line for each change, with -w each told as a sentence too.
+ *
+ * With -a the shell is mended by the mending list in the file LIST, in the same form, and not by the repair: so lines that a technician struck are not applied.
+ * How many lines of each kind were applied is told, with -w each line as a sentence too. A list that does not apply is refused, with its first bad line and
+ * what is wrong with it. The shell that comes out may not be sound: then what is wrong is told as with -c, it is written all the same, and the exit status is
+ * 3.
  *
  * With -c nothing is mended. Where the check says no, what is wrong is told in words: faces that repeat a corner, directed edges that are walked more than
  * once, points where several surfaces touch; of each kind how many there are, and where the first is. The exit status is then 3. */
@@ -326,20 +328,6 @@ static int count_edges(const Mesh *mesh, uint32_t *work, size_t work_length) {
     return 0;
 }
 
-/* What is said of a mended mesh: the report, the check's answer, and the counts of edges and loops. */
-static int describe(const Mended *mended, const char *threshold) {
-    const Mesh *mesh = &mended->mesh;
-    size_t work_length = SHELL_WORK_ROOM(mesh->point_count, mesh->face_count);
-    uint32_t *work = room(work_length, sizeof *work);
-    printf("mended: %zu points, %zu faces\n", mesh->point_count, mesh->face_count);
-    int good = print_report(mended->report, threshold);
-    good = good && check(mesh, work, work_length) == SOUND;
-    stage(mesh, "listing the edges and loops of");
-    good = good && count_edges(mesh, work, work_length);
-    free(work);
-    return good;
-}
-
 /* A file that is written: its name and its bytes; and while it is not finished, the name of the new file beside it, and the name that this one is to take. */
 typedef struct {
     const char *name;
@@ -348,9 +336,92 @@ typedef struct {
     char *part, *to;
 } Output;
 
-/* The mended shell, and its origins. */
-enum { SHELL, ORIGINS, OUTPUTS };
+/* The mended shell, its origins, and the mending list. */
+enum { SHELL, ORIGINS, LIST, OUTPUTS };
 static Output outputs[OUTPUTS];
+
+/* What the words ask for: a file to read, a threshold as it is written and as a number, a list to mend by, whether its lines are told as sentences, whether the
+ * shell is only checked, and whether only help is wanted. The files to write are in `outputs`. */
+typedef struct {
+    const char *name, *threshold, *list;
+    double s;
+    int words, check, help;
+} Asked;
+
+/* A list in memory. */
+typedef struct {
+    uint8_t *bytes;
+    size_t length;
+} Bytes;
+
+/* How many lines a list has; bytes behind its last newline are one too. */
+static size_t count_lines(const uint8_t *bytes, size_t length) {
+    size_t count = length > 0 && bytes[length - 1] != '\n';
+    for (size_t i = 0; i < length; i++)
+        count += bytes[i] == '\n';
+    return count;
+}
+
+/* Begins to go through a list that is for a mesh. */
+static void begin_list(List *list, const Mesh *mesh, const uint8_t *bytes, size_t length) {
+    if (!open_list(list, bytes, length, mesh->faces, mesh->face_count, mesh->point_count)) {
+        fprintf(stderr, "shellfix: no memory to go through the list\n");
+        exit(TROUBLE);
+    }
+}
+
+/* Goes through the lines of a list up to the first bad one, and tells them as sentences if that is wanted; how many there are of each kind. */
+static void go_through(List *list, int sentences, size_t kinds[LINE_KINDS]) {
+    while (next_line(list)) {
+        kinds[list->kind]++;
+        if (sentences)
+            print_sentence(list);
+    }
+    if (list->wrong == NOTHING_WRONG && list->at < list->text_length) {
+        fprintf(stderr, "shellfix: no memory to go through the list\n");
+        exit(TROUBLE);
+    }
+}
+
+/* The mending list of the repair of a mesh. */
+static int put_list(const Mesh *mesh, double s, Output *out) {
+    size_t p = mesh->point_count, f = mesh->face_count;
+    uint32_t *work = room(SHELL_WORK_ROOM(p, f), sizeof *work);
+    out->bytes = room(SHELL_LIST_ROOM(p, f), 1);
+    ShellList written = shell_list(mesh->points, 3 * p, mesh->faces, 3 * f, s, SHELL_ALL_OPTIONS, out->bytes, SHELL_LIST_ROOM(p, f), work,
+                                   SHELL_WORK_ROOM(p, f));
+    free(work);
+    out->length = written.bytes;
+    return accepted("list", written.number, written.place);
+}
+
+/* Tells each line of the mending list of a mesh as a sentence. */
+static int tell_list(const Mesh *mesh, const Output *out) {
+    size_t kinds[LINE_KINDS] = {0};
+    List list;
+    begin_list(&list, mesh, out->bytes, out->length);
+    go_through(&list, 1, kinds);
+    int good = list.wrong == NOTHING_WRONG;
+    if (!good)
+        printf("the library wrote a list that shellfix finds wrong: one of them has a fault\n");
+    close_list(&list);
+    return good;
+}
+
+/* What is said of a mended mesh: the report, what was done line by line if that is asked for, the check's answer, and the counts of edges and loops. */
+static int describe(const Mesh *scan, const Mended *mended, const Asked *asked) {
+    const Mesh *mesh = &mended->mesh;
+    size_t work_length = SHELL_WORK_ROOM(mesh->point_count, mesh->face_count);
+    uint32_t *work = room(work_length, sizeof *work);
+    printf("mended: %zu points, %zu faces\n", mesh->point_count, mesh->face_count);
+    int good = print_report(mended->report, asked->threshold);
+    good = good && (!asked->words || tell_list(scan, outputs + LIST));
+    good = good && check(mesh, work, work_length) == SOUND;
+    stage(mesh, "listing the edges and loops of");
+    good = good && count_edges(mesh, work, work_length);
+    free(work);
+    return good;
+}
 
 /* Says why a file cannot be written, and ends the program. New files that are not finished are taken away. */
 static _Noreturn void cannot_write(const char *name) {
@@ -386,27 +457,20 @@ static int put_bytes(FILE *file, const Output *out) {
 }
 
 /* Writes the bytes of a file, or ends the program. They go to a new file beside it, so that what it held is not lost before all of them are there. What is no
- * file, like a pipe, is written to as it is. */
+ * file, like a pipe or what /dev/stdout leads to, is written to as it is; a link that leads nowhere stays. */
 static void put_beside(Output *out) {
     struct stat held;
-    char *end = realpath(out->name, NULL);
-    int there = end != NULL && stat(end, &held) == 0;
-    if (end == NULL && (errno != ENOENT || *out->name == 0))
+    int link = lstat(out->name, &held) == 0, there = stat(out->name, &held) == 0, as_it_is = there && !S_ISREG(held.st_mode);
+    if (!there && (link || errno != ENOENT || *out->name == 0))
         cannot_write(out->name);
-    if (there && !S_ISREG(held.st_mode)) {
-        FILE *file = fopen(end, "wb");
-        if (file == NULL || !put_bytes(file, out))
-            cannot_write(out->name);
-        free(end);
-        return;
-    }
-    if (there && access(end, W_OK) != 0)
+    if (!as_it_is)
+        out->to = there ? realpath(out->name, NULL) : strdup(out->name);
+    if (!as_it_is && (out->to == NULL || (there && access(out->to, W_OK) != 0)))
         cannot_write(out->name);
-    out->to = there ? end : strdup(out->name);
-    FILE *file = out->to == NULL ? NULL : open_beside(out);
+    FILE *file = as_it_is ? fopen(out->name, "wb") : open_beside(out);
     if (file == NULL)
         cannot_write(out->name);
-    if (there)
+    if (there && !as_it_is)
         fchmod(fileno(file), held.st_mode & 07777);
     if (!put_bytes(file, out))
         cannot_write(out->name);
@@ -439,9 +503,10 @@ static void put_origins(const Mended *mended, Output *out) {
         out->length += (size_t)snprintf((char *)out->bytes + out->length, longest, "%u\n", mended->origins[k]);
 }
 
-/* Writes the files that have a name: none of them takes it before all are on the disk, so that the origins that stand there fit the shell that stands there. */
+/* Writes the files that have a name: none of them takes it before all are on the disk, so that the origins and the list that stand there fit the shell that
+ * stands there. The list is made already. */
 static int write_outputs(const Mended *mended) {
-    Output *shell = outputs + SHELL, *origins = outputs + ORIGINS;
+    Output *shell = outputs + SHELL, *origins = outputs + ORIGINS, *list = outputs + LIST;
     int good = shell->name == NULL || put_mesh(&mended->mesh, shell);
     if (good && origins->name != NULL)
         put_origins(mended, origins);
@@ -454,7 +519,8 @@ static int write_outputs(const Mended *mended) {
         printf("written: %zu bytes to %s\n", shell->length, shell->name);
     if (good && origins->name != NULL)
         printf("written: the origins of %zu faces to %s\n", mended->mesh.face_count, origins->name);
-    free(shell->bytes), free(origins->bytes);
+    if (good && list->name != NULL)
+        printf("written: the %zu lines of the mending list to %s\n", count_lines(list->bytes, list->length), list->name);
     return good;
 }
 
@@ -506,52 +572,22 @@ static int judge(const Mesh *mesh) {
     return status;
 }
 
-/* What the words ask for: a file to read, a threshold as it is written and as a number, a list to mend by, whether its lines are told as sentences, whether the
- * shell is only checked, and whether only help is wanted. The files to write are in `outputs`. */
-typedef struct {
-    const char *name, *threshold, *list;
-    double s;
-    int words, check, help;
-} Asked;
-
 /* Mends a mesh, describes what came out, and writes what is asked for; the exit status. */
 static int mend_mesh(const Mesh *mesh, const Asked *asked) {
     Mended mended = {.report = {0}};
     stage(mesh, "repairing");
-    int good = mend(mesh, asked->s, &mended) && describe(&mended, asked->threshold);
-    if (good && (outputs[SHELL].name != NULL || outputs[ORIGINS].name != NULL)) {
+    int good = mend(mesh, asked->s, &mended);
+    if (good && outputs[LIST].name != NULL) {
+        stage(mesh, "listing what is done to");
+        good = put_list(mesh, asked->s, outputs + LIST);
+    }
+    good = good && describe(mesh, &mended, asked);
+    if (good && (outputs[SHELL].name != NULL || outputs[ORIGINS].name != NULL || outputs[LIST].name != NULL)) {
         stage(&mended.mesh, "writing");
         good = write_outputs(&mended);
     }
     free(mended.mesh.points), free(mended.mesh.faces), free(mended.origins);
     return good ? SOUND : REFUSED;
-}
-
-/* A list in memory. */
-typedef struct {
-    uint8_t *bytes;
-    size_t length;
-} Bytes;
-
-/* How many lines a list has; bytes behind its last newline are one too. */
-static size_t count_lines(const Bytes *text) {
-    size_t count = text->length > 0 && text->bytes[text->length - 1] != '\n';
-    for (size_t i = 0; i < text->length; i++)
-        count += text->bytes[i] == '\n';
-    return count;
-}
-
-/* Goes through the lines of a list up to the first bad one, and tells them as sentences if that is wanted; how many there are of each kind. */
-static void go_through(List *list, int sentences, size_t kinds[LINE_KINDS]) {
-    while (next_line(list)) {
-        kinds[list->kind]++;
-        if (sentences)
-            print_sentence(list);
-    }
-    if (list->wrong == NOTHING_WRONG && list->at < list->text_length) {
-        fprintf(stderr, "shellfix: no memory to go through the list\n");
-        exit(TROUBLE);
-    }
 }
 
 /* How many lines of each kind were applied. */
@@ -586,11 +622,8 @@ static int apply(const Mesh *mesh, const Bytes *text, int sentences, Mesh *appli
     double *points = room(SHELL_POINTS_ROOM(p, f), sizeof *points);
     uint32_t *faces = room(SHELL_FACES_ROOM(f), sizeof *faces), *work = room(SHELL_WORK_ROOM(p, f), sizeof *work);
     List list;
-    if (!open_list(&list, text->bytes, text->length, mesh->faces, f, p)) {
-        fprintf(stderr, "shellfix: no memory to go through the list\n");
-        exit(TROUBLE);
-    }
-    printf("list: %zu lines\n", count_lines(text));
+    begin_list(&list, mesh, text->bytes, text->length);
+    printf("list: %zu lines\n", count_lines(text->bytes, text->length));
     go_through(&list, sentences, kinds);
     ShellApplied found = shell_apply(mesh->points, 3 * p, mesh->faces, 3 * f, text->bytes, text->length, points, SHELL_POINTS_ROOM(p, f), faces,
                                      SHELL_FACES_ROOM(f), work, SHELL_WORK_ROOM(p, f));
@@ -660,10 +693,11 @@ static int read_threshold(const char *word, Asked *asked) {
 }
 
 /* The options, by a letter or by a name. */
-static const char letters[] = ":s:o:f:a:wch";
+static const char letters[] = ":s:o:f:l:a:wch";
 static const struct option options[] = {{"threshold", required_argument, NULL, 's'},
                                         {"output", required_argument, NULL, 'o'},
                                         {"origins", required_argument, NULL, 'f'},
+                                        {"list", required_argument, NULL, 'l'},
                                         {"apply", required_argument, NULL, 'a'},
                                         {"words", no_argument, NULL, 'w'},
                                         {"check", no_argument, NULL, 'c'},
@@ -712,6 +746,8 @@ static int take_option(int found, char **given, Asked *asked) {
         return name_output(outputs + SHELL, "one file");
     case 'f':
         return name_output(outputs + ORIGINS, "one list of origins");
+    case 'l':
+        return name_output(outputs + LIST, "one mending list");
     case 'a':
         return name_list(asked);
     case 'w':
@@ -757,30 +793,48 @@ static int one_file(const char *a, const char *b) {
     return same;
 }
 
-/* Whether the list of origins may take its name: it is neither that of the mended shell nor that of the scan; if not, says why. */
-static int free_name(const char *origins, const char *shell, const char *scan) {
-    if (shell != NULL && one_file(shell, origins)) {
-        fprintf(stderr, "shellfix: %s cannot be both the mended shell and its origins\n", shell);
-        return 0;
-    }
-    if (scan != NULL && one_file(scan, origins)) {
-        fprintf(stderr, "shellfix: the origins cannot take the place of %s, which they are counted in\n", scan);
-        return 0;
-    }
-    return 1;
+/* Whether two files that are written have names of their own; if not, says so. */
+static int named_apart(const char *one, const char *other, const char *both) {
+    if (one == NULL || other == NULL || !one_file(one, other))
+        return 1;
+    fprintf(stderr, "shellfix: %s cannot be both %s\n", one, both);
+    return 0;
+}
+
+/* Whether a file that is written does not take the place of one that is read; if it does, says so, and why it must not. */
+static int spared(const char *read, const char *written, const char *what, const char *why) {
+    if (read == NULL || written == NULL || !one_file(read, written))
+        return 1;
+    fprintf(stderr, "shellfix: the %s cannot take the place of %s, which %s\n", what, read, why);
+    return 0;
+}
+
+/* Whether the files that are written may take their names. The mended shell, and nothing else, may take the place of the scan. */
+static int free_names(const Asked *asked) {
+    const char *shell = outputs[SHELL].name, *origins = outputs[ORIGINS].name, *list = outputs[LIST].name;
+    return named_apart(shell, origins, "the mended shell and its origins") && named_apart(shell, list, "the mended shell and its mending list") &&
+           named_apart(origins, list, "the origins and the mending list") && spared(asked->name, origins, "origins", "they are counted in") &&
+           spared(asked->name, list, "mending list", "its faces are counted in") && spared(asked->list, shell, "mended shell", "it is mended by");
+}
+
+/* The first of these options that is given, as a letter; 0 if none is. */
+static char first_given(const Asked *asked, const char *some) {
+    for (; *some != 0; some++)
+        if ((*some == 's' && asked->threshold != NULL) || (*some == 'o' && outputs[SHELL].name != NULL) || (*some == 'f' && outputs[ORIGINS].name != NULL) ||
+            (*some == 'l' && outputs[LIST].name != NULL) || (*some == 'a' && asked->list != NULL) || (*some == 'w' && asked->words))
+            return *some;
+    return 0;
 }
 
 /* Whether each option has something to do beside the others; if not, says which has not. */
 static int have_to_do(const Asked *asked) {
-    const char threshold = asked->threshold != NULL ? 's' : 0, shell = outputs[SHELL].name != NULL ? 'o' : 0, origins = outputs[ORIGINS].name != NULL ? 'f' : 0,
-               list = asked->list != NULL ? 'a' : 0, sentences = asked->words ? 'w' : 0;
-    const char checked = threshold ? threshold : shell ? shell : origins ? origins : list ? list : sentences, applied = threshold ? threshold : origins;
+    const char checked = first_given(asked, "soflaw"), applied = first_given(asked, "sfl");
     if (asked->check && checked)
         fprintf(stderr, "shellfix: with -c nothing is mended, so -%c has nothing to do\n", checked);
-    else if (list && applied)
+    else if (asked->list != NULL && applied)
         fprintf(stderr, "shellfix: with -a the list says what is mended, so -%c has nothing to do\n", applied);
-    else if (!list && sentences)
-        fprintf(stderr, "shellfix: without -a there is no list, so -w has nothing to do\n");
+    else if (asked->words && !first_given(asked, "la"))
+        fprintf(stderr, "shellfix: without -l or -a there is no list, so -w has nothing to do\n");
     else
         return 1;
     return 0;
@@ -792,32 +846,28 @@ static int read_words(int count, char **given, Asked *asked) {
     while ((found = getopt_long(count, given, letters, options, NULL)) != -1)
         if (!take_option(found, given, asked))
             return 0;
-    const char *shell = outputs[SHELL].name, *origins = outputs[ORIGINS].name;
     if (!asked->help && !have_to_do(asked))
         return 0;
     if (optind + 1 < count)
         fprintf(stderr, "shellfix: one file at a time, and not %s too\n", given[optind + 1]);
     asked->name = optind + 1 == count ? given[optind] : NULL;
-    if (origins != NULL && !free_name(origins, shell, asked->name))
+    if (!free_names(asked))
         return 0;
-    if (asked->list != NULL && shell != NULL && one_file(shell, asked->list)) {
-        fprintf(stderr, "shellfix: the mended shell cannot take the place of %s, which it is mended by\n", asked->list);
-        return 0;
-    }
     return asked->name != NULL || (asked->help && optind == count);
 }
 
 /* How it is called, and what --help says besides. */
 static const char usage[] =
-    "usage: shellfix [-s THRESHOLD] [-o OUT.ply] [-f FILE] IN\n"
+    "usage: shellfix [-s THRESHOLD] [-o OUT.ply] [-f FILE] [-l LIST [-w]] IN\n"
     "       shellfix -a LIST [-w] [-o OUT.ply] IN\n"
     "       shellfix -c IN\n"
     "  IN: a binary STL file, or a PLY file of the form that -o writes\n"
     "  -s, --threshold THRESHOLD: from 0 to 1; a face is thin up to this sine of the angle at its first corner; " THRESHOLD " where none is given\n"
     "  -o, --output OUT.ply: the mended shell is written to this file, as binary PLY\n"
     "  -f, --origins FILE: a line for each face of the mended shell, in its order, is written to this file: which face of IN it is, from 0\n"
+    "  -l, --list LIST: what is mended is written to this file as a mending list, a line for each change\n"
     "  -a, --apply LIST: the shell is mended by the mending list in this file, and not by the repair\n"
-    "  -w, --words: each line of the list is told as a sentence before it is applied\n"
+    "  -w, --words: each line of the list that is written or applied is told as a sentence\n"
     "  -c, --check: the shell is checked as it is, and not mended\n"
     "  -h, --help: this text\n";
 static const char more[] =
@@ -856,5 +906,7 @@ int main(int count, char **given) {
         fprintf(stderr, "shellfix: reading %zu bytes\n", length);
     int status = take_file(file, length, &text, &asked);
     free(file), free(text.bytes);
+    for (int k = 0; k < OUTPUTS; k++)
+        free(outputs[k].bytes);
     return ended(status);
 }

@@ -1,6 +1,7 @@
 /* How much stack the calls take: `stack [--shapes N] FACES...`. Each call runs on a painted stack, on shapes of so many faces (the first N of them), with
  * work rooms of zeros and dirty ones, accepted and refused; the deepest place where the paint is gone says what the call took. It must be below what
- * shell.h promises. */
+ * shell.h promises. The list is written into a room that is enough for any list, and asked for with no room, so that with a dirty work room its length is found
+ * by a search; of many faces only with the options for which that is quick. */
 #define _GNU_SOURCE
 #include "shell.h"
 #include <stdio.h>
@@ -9,10 +10,12 @@
 #include <sys/mman.h>
 #include <ucontext.h>
 
-enum { REPAIR, EDGES, LOOPS, CHECK, PATCHES, WRITE_PLY, READ_PLY, PLY_COUNTS, APPLY, LINE, CALLS };
-static const char *const names[CALLS] = {"repair", "edges", "loops", "check", "patches", "write PLY", "read PLY", "PLY counts", "apply", "line"};
+enum { REPAIR, LIST, LIST_LENGTH, EDGES, LOOPS, CHECK, PATCHES, WRITE_PLY, READ_PLY, PLY_COUNTS, APPLY, LINE, CALLS };
+static const char *const names[CALLS] = {"repair", "list",      "list without room", "edges",      "loops", "check",
+                                         "patches", "write PLY", "read PLY",          "PLY counts", "apply", "line"};
 
-enum { DEEP = 8 << 20, PATCH_COUNT = 100 };
+/* The stack that is painted, and up to how many faces a length is searched for with all options. */
+enum { DEEP = 16 << 20, PATCH_COUNT = 100, SEARCHED = 1000 };
 static const uint64_t PAINT = 0xa5c3f00d5eed1e55;
 
 static uint64_t state = 1;
@@ -29,7 +32,7 @@ static struct {
     uint32_t *faces, *labels, *work, *row[3], *origins, report[SHELL_REPORT_ROOM], options, number;
     double *points, *mended, *lengths;
     size_t P, F, file_bytes, list_bytes;
-    uint8_t line[SHELL_LINE_ROOM], *file, *list;
+    uint8_t line[SHELL_LINE_ROOM], *file, *list, *text;
     int call;
 } job;
 
@@ -148,6 +151,9 @@ static void run(void) {
         job.number = shell_repair(job.points, 3 * P, job.faces, 3 * F, 1e-12, job.options, job.mended, SHELL_POINTS_ROOM(P, F), job.row[0], SHELL_FACES_ROOM(F),
                                   job.report, SHELL_REPORT_ROOM, job.origins, SHELL_ORIGINS_ROOM(F), job.work, work)
                          .number;
+    if (job.call == LIST || job.call == LIST_LENGTH)
+        job.number = shell_list(job.points, 3 * P, job.faces, 3 * F, 1e-12, job.options, job.text, job.call == LIST ? SHELL_LIST_ROOM(P, F) : 0, job.work, work)
+                         .number;
     if (job.call == EDGES)
         job.number = shell_edges(job.points, 3 * P, job.faces, 3 * F, job.row[1], SHELL_EDGES_ROOM(F), job.lengths, SHELL_LENGTHS_ROOM(F), job.row[2],
                                  SHELL_FACE_EDGES_ROOM(F), job.work, work)
@@ -182,12 +188,13 @@ static void run(void) {
 /* Runs the job on a painted stack, and returns how many bytes of it are no longer paint, down to the deepest. */
 static size_t taken(void) {
     static uint64_t *stack;
+    static size_t painted;
     static ucontext_t here, there;
     if (stack == NULL)
         stack = mmap(NULL, DEEP, PROT_READ | PROT_WRITE, MAP_PRIVATE | MAP_ANONYMOUS | MAP_STACK, -1, 0);
     if (stack == MAP_FAILED || getcontext(&there) != 0)
         exit(2);
-    for (size_t i = 0; i < DEEP / 8; i++)
+    for (size_t i = painted; i < DEEP / 8; i++)
         stack[i] = PAINT;
     there.uc_stack.ss_sp = stack;
     there.uc_stack.ss_size = DEEP;
@@ -198,6 +205,7 @@ static size_t taken(void) {
     size_t deepest = 0;
     while (deepest < DEEP / 8 && stack[deepest] == PAINT)
         deepest++;
+    painted = deepest;
     return DEEP - 8 * deepest;
 }
 
@@ -207,12 +215,13 @@ static int broken;
 
 /* One call, with a work room of zeros and a dirty one. */
 static void measure(const char *shape, int call, uint32_t options) {
-    int few = job.F <= SHELL_FEW_FACES && (call != APPLY || job.P <= SHELL_FEW_POINTS);
-    size_t promised = few ? SHELL_STACK_FEW_FACES : SHELL_STACK, room = 4 * SHELL_WORK_ROOM(job.P, job.F);
+    int few = job.F <= SHELL_FEW_FACES && (call != APPLY || job.P <= SHELL_FEW_POINTS), list = call == LIST || call == LIST_LENGTH;
+    size_t promised = few ? SHELL_STACK_FEW_FACES : list ? SHELL_LIST_STACK : SHELL_STACK, room = 4 * SHELL_WORK_ROOM(job.P, job.F);
     job.call = call;
     job.options = options;
     for (int dirty = 0; dirty < 2; dirty++) {
         memset(job.work, dirty ? 0x5a : 0, room);
+        job.work[1] = (uint32_t)dirty;
         size_t took = taken();
         if (took > most[call])
             most[call] = took;
@@ -278,10 +287,14 @@ static void on_shape(const Shape *shape, size_t F) {
     job.file_bytes = 0;
     for (size_t i = 0; i < 3 * P; i++)
         job.points[i] = i % 3 == 0 ? (double)(i / 3 % 1000) : i % 3 == 1 ? (double)(i / 3000) : (double)below(100) / 64;
+    job.text = room(SHELL_LIST_ROOM(P, F), 1);
     make_list();
-    static const uint32_t options[] = {0, 1, 2, 4, 8, 16, 32, SHELL_ALL_OPTIONS};
-    for (size_t k = F > 10000 ? 7 : 0; k < 8; k++)
+    static const uint32_t options[] = {0, 1, 2, 4, 8, 16, 32, SHELL_ALL_OPTIONS}, quick = SHELL_DROP_DEGENERATE | SHELL_DROP_ISOLATED_VERTICES;
+    for (size_t k = F > 10000 ? 7 : 0; k < 8; k++) {
         measure(shape->name, REPAIR, options[k]);
+        measure(shape->name, LIST, options[k]);
+        measure(shape->name, LIST_LENGTH, F > SEARCHED ? options[k] & quick : options[k]);
+    }
     for (int call = EDGES; call < CALLS; call++)
         measure(shape->name, call, 0);
     memset(job.report, 0xff, sizeof job.report);
@@ -304,6 +317,7 @@ static void on_shape(const Shape *shape, size_t F) {
     free(job.work);
     free(job.file);
     free(job.list);
+    free(job.text);
 }
 
 /* The first of the shapes with F faces, and a line on what the calls took at most. */

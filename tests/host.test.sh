@@ -2,9 +2,9 @@
 # The library in a C program: the example prints what it must, the header is good for C++, recorded answers come out through the calls with every room as it
 # must be, degenerate faces are counted by kind and their sums printed up to the limits, the edges of bowties are listed though their loops are refused, in work
 # rooms of every kind, the edge check answers by its rule on every small mesh and what is found wrong is what the rule says, damaged meshes are after a repair
-# what is proved of them, with their faces traced by the origins, their mending lists applied, and go to a PLY file and back, what fuzzing found worth keeping
-# comes out as the documents say, and a call takes no memory but its rooms and no more stack than is promised; a sample under valgrind too, so that nothing
-# outside a room is touched.
+# what is proved of them, with their faces traced by the origins, their mending lists written and applied, and go to a PLY file and back, what fuzzing found
+# worth keeping comes out as the documents say, and a call takes no memory but its rooms and no more stack than is promised; a sample under valgrind too, so
+# that nothing outside a room is touched.
 set -u
 here=$(cd "$(dirname "${BASH_SOURCE[0]}")/.." && pwd)
 room=$(mktemp -d) || exit 1
@@ -16,9 +16,25 @@ for program in example kinds bowties stack; do
     gcc "${flags[@]}" -o "$program" "$here/host/$program.c" libshell.a -lm || exit 1
 done
 gcc "${flags[@]}" "-I$here/fuzz" -o replay "$here/host/replay.c" "$here"/fuzz/{passes,uses}.c libshell.a -lm || exit 1
-gcc "${flags[@]}" "-I$here/fuzz" -o chain "$here/host/chain.c" "$here"/fuzz/{mending,lend,uses}.c libshell.a -lm || exit 1
+gcc "${flags[@]}" -o chain "$here"/host/{chain,lists}.c libshell.a || exit 1
 gcc "${flags[@]}" -o checks "$here"/host/{checks,faults}.c libshell.a || exit 1
 g++ -std=c++17 -Wall -Werror -fsyntax-only -x c++ shell.h || exit 1
+# The call that the header itself parts the work room for, in a program of two files, and with no room at all.
+cat >list.cpp <<'END'
+#include "shell.h"
+ShellList listed(uint32_t *work, size_t work_len);
+#ifdef OTHER
+ShellList listed(uint32_t *work, size_t work_len) { return shell_list(nullptr, 0, nullptr, 0, 0, SHELL_ALL_OPTIONS, nullptr, 0, work, work_len); }
+#else
+int main() {
+    uint32_t work[SHELL_WORK_ROOM(0, 0)] = {1};
+    ShellList none = listed(nullptr, 0), there = listed(work, SHELL_WORK_ROOM(0, 0));
+    return !(none.number == SHELL_SHORT_ROOM && none.place == 1 && there.number == SHELL_ACCEPTED && there.bytes == 0 && work[0] == 0);
+}
+#endif
+END
+plus=(g++ -std=c++17 -Wall -Wextra -Wpedantic -Werror -I.)
+"${plus[@]}" -DOTHER -c -o other.o list.cpp && "${plus[@]}" -o list list.cpp other.o libshell.a && ./list || exit 1
 # A call takes no memory but its rooms and the stack, and keeps nothing: the library names no function of the system but these, and has no data of its own.
 if nm -u libshell.a | sed -n 's/^ *U //p' | grep -vxE 'memset|memcpy|memmove|memcmp|bcmp' || nm libshell.a | grep -E ' [bBcCdD] '; then
     echo "host: the library wants or keeps something"

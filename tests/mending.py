@@ -1,7 +1,8 @@
 """Shells and mending lists for tests/mending.test.sh.
 
 mending.py make FOLDER      writes shells FOLDER/*.ply, and lists FOLDER/*.list for the shell legs.ply: ones that apply, and bad ones of every kind
-mending.py large FOLDER     writes shells FOLDER/*.ply of many points and faces, long lists FOLDER/*.list, and FOLDER/*.wanted, the shells that these make
+mending.py large FOLDER     writes shells FOLDER/*.ply of many points and faces; for two of them long lists FOLDER/*.list and FOLDER/*.wanted, the shells that
+                            these make
 mending.py judged FILE      prints the lists that the rules judge by computing, in the tables of FILE (MendingExamples.antt of the crate rules), a line each:
                             points, faces and their corners, the bytes of the list in hexadecimal behind an x, and the number and place of its refusal
 mending.py strike LIST..    writes each list without every third of its lines `d`, `o` and `u`, to LIST.struck
@@ -22,6 +23,7 @@ SHELLS = {
         [(0, 0, 1), (0, 1, 2), (2, 0, 1), (0, 2, 3), (0, 1, 3), (0, 1, 4), (0, 5, 6)]
         + [(8, 9, 10), (9, 10, 11), (10, 11, 12), (11, 12, 8), (12, 8, 9)],
     ),
+    "repeating": (LEGS[:1], [(0, 0, 0)] * 1000),
     "no-faces": (LEGS, []),
     "empty": ([], []),
 }
@@ -104,6 +106,22 @@ def large(name):
         out.write("u\t0\n")
         out.writelines("u\t%d\n" % (n + 1) for n in range(3 * count) if n % 3)
     put(at("splits.wanted"), count, [(n, n, n) for n in range(count)])
+    scan(at("scan.ply"))
+
+
+def scan(name, side=256):
+    """A grid with faces that are turned over, stand there twice, repeat a corner, or have a third one on an edge; some squares are left out, so that bowties are
+    there, and a strip of one side stands apart."""
+    row, faces = side + 1, []
+    for v in (i // side * row + i % side for i in range(side * side)):
+        faces += [] if v % 7 == 3 else [(v, v + 1, v + row), (v + 1, v + row + 1, v + row)]
+    for k in range(50, len(faces), 50):
+        a, b, c = faces[k]
+        faces[k] = [(a, c, b), faces[k - 1], (a, b, a), faces[k]][k // 50 % 4]
+        faces += [] if k // 50 % 4 < 3 else [(a, b, (b * 7919) % (row * row))]
+    faces += [tuple(row * row + (i + k) % 5 for k in range(3)) for i in range(5)]
+    places = [(float(v % row), float(v // row), 0.25 * (v % 3)) for v in range(row * row)]
+    open(name, "wb").write(ply.ply(places + STRIP, faces))
 
 
 ROW = re.compile(r'\b(fine|bad) (\d+) (one|two|\[\]) (\[\]|\(bytes "([^"]*)"( \+\+ \(13 ∷ 10 ∷ \[\]\))?\))(?: (\d+))?')

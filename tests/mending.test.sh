@@ -1,8 +1,8 @@
 #!/usr/bin/env bash
-# Mending lists: on every small mesh and on random ones shell_apply makes of the list of a repair what the repair gives, and of any other text what the
-# documents say, in rooms of every kind (host/mending.c); it judges the lists of the rules' own tables as these compute. shellfix mends shells from disk by
-# lists; what it prints, word for word, and its exit status are those expected of lists that apply, of lists with lines struck, and of bad lists of every kind;
-# where a list cannot be read that is noticed.
+# Mending lists: on every small mesh and on random ones shell_list writes the list of a repair that the documents say, shell_apply makes of it what the repair
+# gives, and of any other text what the documents say, in rooms of every kind (host/mending.c); it judges the lists of the rules' own tables as these compute.
+# shellfix writes the lists of shells from disk, and mends them by lists; what it prints, word for word, and its exit status are those expected of lists that
+# apply, of lists with lines struck, and of bad lists of every kind; where a list cannot be read or written that is noticed.
 set -u
 here=$(cd "$(dirname "${BASH_SOURCE[0]}")/.." && pwd)
 room=$(mktemp -d) || exit 1
@@ -34,6 +34,14 @@ puzzled() {
 
 before=$(ls -la made)
 {
+    for name in every legs no-faces empty; do
+        told ./shellfix --list list --words made/$name.ply
+        cat list && rm list
+    done
+    told ./shellfix made/legs.ply -s 1 -wllist -o out.ply --origins=origins
+    cat list && rm list out.ply origins
+    told ./shellfix -l list made/by-admesh.stl && rm list
+    told ./shellfix -l never.list made/whole.list
     told ./shellfix --apply made/every.list --words made/every.ply
     for name in whole struck only-turned untrue split nothing; do
         echo "$name.list"
@@ -66,19 +74,31 @@ before=$(ls -la made)
     puzzled -c -a made/whole.list made/legs.ply
     puzzled -cw made/legs.ply
     puzzled -a made/whole.list -o made/../made/whole.list made/legs.ply
+    puzzled -l
+    puzzled made/legs.ply --list
+    puzzled -l list
+    puzzled -l never.list --list=never.txt made/legs.ply
+    puzzled -c -l never.list made/legs.ply
+    puzzled -cwl never.list made/legs.ply
+    puzzled -a made/whole.list -l never.list made/legs.ply
+    puzzled -l made/../made/legs.ply made/legs.ply
+    puzzled -l never.ply -o ./never.ply made/legs.ply
+    puzzled -o never.ply -l never.list -f made/../never.list made/legs.ply
     ./shellfix -a made/whole.list -h | head -n 1
 } >found
 diff found "$here/tests/cases/mending/shellfix.out" || exit 1
-[ "$before" = "$(ls -la made)" ] && [ ! -e never.ply ] && [ ! -e never.txt ] || exit 1
+[ "$before" = "$(ls -la made)" ] && [ ! -e never.ply ] && [ ! -e never.txt ] && [ ! -e never.list ] || exit 1
 
-# Shells that lose faces in each pass: the list of the repair writes the file that the repair writes. The empty list writes a scan as it is.
+# Shells that lose faces in each pass: shellfix writes the list that the documents say, and that list writes the file that the repair writes. The empty list
+# writes a scan as it is.
 ./shellfix -a made/nothing.list -o scans/by-admesh.ply made/by-admesh.stl >/dev/null
 [ $? -eq 3 ] || exit 1
 for scan in scans/*.ply; do
-    ./mending list 1e-12 "$scan" >"$scan.list" && ./shellfix -o mended.ply "$scan" >/dev/null || exit 1
+    ./mending list 1e-12 "$scan" >wanted.list && ./shellfix -o mended.ply -l "$scan.list" "$scan" >/dev/null || exit 1
+    cmp wanted.list "$scan.list" || { echo "mending: the list of $scan"; exit 1; }
     ./shellfix --apply "$scan.list" -o applied.ply "$scan" >/dev/null && cmp mended.ply applied.ply || { echo "mending: $scan"; exit 1; }
 done
-./shellfix -o mended.ply made/by-admesh.stl >/dev/null && ./shellfix -a scans/by-admesh.ply.list -o applied.ply made/by-admesh.stl >found || exit 1
+./shellfix -o mended.ply -l list made/by-admesh.stl >/dev/null && ./shellfix -a list -o applied.ply made/by-admesh.stl >found || exit 1
 cmp mended.ply applied.ply && grep -qx 'applied: 105 faces turned over' found || exit 1
 
 # With some lines struck a list applies where it then names no point that a face has; what it makes may be sound or not, and is written.
@@ -124,7 +144,50 @@ sound: no
 edges refused, number 7, place 0: an edge occurs more than twice; its position among the sorted edges
 written: 2425012 bytes to applied.ply
 WANTED
+./shellfix -o mended.ply -l listed large/scan.ply >/dev/null 2>&1 && ./shellfix -a listed -o applied.ply large/scan.ply >/dev/null 2>&1 || exit 1
+cmp mended.ply applied.ply && [ "$(cut -c 1 listed | uniq | tr -d '\n')" = dodsu ] || exit 1
 rm -r large
+
+# Where writing fails shellfix ends with status 2 and a reason; nothing in its folder is changed, and nothing is new.
+mkdir there && cd there && cp ../made/every.ply . || exit 1
+for name in old.ply old.list old.origins; do
+    echo "what was there" >$name
+done
+mkdir folder && ln -s none dangling || exit 1
+# What stands in the folder.
+seen() { ls -laR . | grep -v ' \.\.*$' && cat old.*; }
+# Runs $2.. and wants it to end with status 2 and the reason $1.
+fails() {
+    local reason=$1 before
+    shift
+    before=$(seen)
+    "$@" >../printed 2>../said
+    [ $? -eq 2 ] && grep -qF "$reason" ../said && ! grep -q '^written' ../printed && [ "$before" = "$(seen)" ] && return
+    echo "mending: $*: not noticed as '$reason':"
+    cat ../said
+    exit 1
+}
+for output in '' '-o old.ply' '-o new.ply -f old.origins'; do
+    # Without quotes: some words or none.
+    fails 'cannot write folder: Is a directory' ../shellfix $output -l folder every.ply
+    fails 'cannot write nowhere/list: No such file or directory' ../shellfix $output --list nowhere/list every.ply
+    fails 'cannot write dangling: No such file or directory' ../shellfix $output -w --list dangling every.ply
+done
+fails 'cannot write nowhere/out.ply: No such file or directory' ../shellfix -o nowhere/out.ply -l old.list every.ply
+fails 'cannot write folder: Is a directory' ../shellfix -f folder -l new.list every.ply
+# Runs $1.. on a disk that is full after some kilobytes: the list of a repair that drops every face is longer.
+full() { (trap '' XFSZ && ulimit -f 8 && exec "$@"); }
+fails 'cannot write old.list: File too large' full ../shellfix -l old.list -f old.origins ../made/repeating.ply
+fails 'cannot write new.list: File too large' full ../shellfix -l new.list ../made/repeating.ply
+
+# Written lists: one keeps its mode, and what a link leads to gets the lines, also where that is a pipe; the link stays.
+chmod 640 old.list && ln -s old.list link && ln -s /proc/self/fd/1 standard || exit 1
+../shellfix -o old.ply -l link every.ply >/dev/null || exit 1
+[ -L link ] && cmp old.list ../made/every.list && [ "$(stat -c %a old.list)" = 640 ] || exit 1
+../shellfix -l standard every.ply | sort >../printed
+[ -L standard ] && [ "$(grep -cxFf old.list ../printed)" = 13 ] || exit 1
+[ "$(ls)" = "$(printf '%s\n' dangling every.ply folder link old.list old.origins old.ply standard)" ] || exit 1
+cd ..
 
 # A library with a fault: it refuses a list at another line than the first bad one.
 cat >fault.c <<'LIBRARY'
@@ -159,6 +222,8 @@ if command -v valgrind >/dev/null; then
     watched=(valgrind -q --error-exitcode=9 --leak-check=full --errors-for-leak-kinds=definite)
     "${watched[@]}" ./mending 50 || exit 1
     "${watched[@]}" ./shellfix -w -a made/every.list -o out.ply made/every.ply >/dev/null || exit 1
+    "${watched[@]}" ./shellfix -w -l list -o out.ply made/every.ply >/dev/null || exit 1
+    "${watched[@]}" ./shellfix -l list made/empty.ply >/dev/null || exit 1
     for name in no-newline many-splits; do
         "${watched[@]}" ./shellfix -a made/$name.list made/legs.ply >/dev/null
         [ $? -eq 1 ] || exit 1

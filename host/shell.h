@@ -9,8 +9,8 @@
  * Refused: `number` and `place`, the rest 0, and no room is changed. Rooms may be longer than stated.
  *
  * What a call takes: no memory but its rooms and the stack, of which it takes less than SHELL_STACK_FEW_FACES bytes for up to SHELL_FEW_FACES faces, in
- * shell_apply only if there are no more than SHELL_FEW_POINTS points too, and less than SHELL_STACK for any mesh; shell_list less than SHELL_LIST_STACK
- * (measured, host/stack.c). It keeps nothing, so that calls may run at once in several threads on rooms of their own. */
+ * shell_apply only if there are no more than SHELL_FEW_POINTS points too, and less than SHELL_STACK for any mesh; shell_list, where it must search, less than
+ * SHELL_LIST_STACK (measured, host/stack.c). It keeps nothing, so that calls may run at once in several threads on rooms of their own. */
 #ifndef JOGASMUN_SHELL_H
 #define JOGASMUN_SHELL_H
 
@@ -59,14 +59,13 @@ enum {
 #define SHELL_NO_PATCH 4294967295u
 
 /* The stack that a call takes, in bytes: below the first number up to so many faces, for shell_apply up to so many points too, below the second for any mesh.
- * So few faces have no more than 12,288 corners: there are more points than that only where some are used by no face. shell_list takes less than the third for
- * any mesh: it keeps rows there where it finds the length of a text by a search (see there). A thread whose stack is shorter than that must not call it where
- * there are more faces than are few. */
+ * So few faces have no more than 12,288 corners: there are more points than that only where some are used by no face. shell_list may take more of many faces,
+ * less than the third, where it finds the length of a text by a search (see there); a thread with a shorter stack must lend rooms that spare it that. */
 #define SHELL_FEW_FACES 4096u
 #define SHELL_FEW_POINTS 16384u
 #define SHELL_STACK_FEW_FACES 65536u
 #define SHELL_STACK 2097152u
-#define SHELL_LIST_STACK 7340032u
+#define SHELL_LIST_STACK 6291456u
 
 /* Rooms in entries, for P points, F faces and C patches. */
 #define SHELL_WORK_ROOM(P, F) (16 * (size_t)(P) + 64 * (size_t)(F) + 64)
@@ -282,15 +281,15 @@ ShellPlyFile shell_write_ply(const double *points, size_t points_len, const uint
 
 /* Writes the mending list of the repair that shell_repair makes of the same points, faces, threshold and options; `bytes` is how long it is. shell_apply makes
  * of it what that repair gives, bit by bit. It has as many lines of each kind as the report counts, none of a pass that is off, and none at all where nothing
- * changes. It refuses, in this order: SHELL_BAD_LENGTH, SHELL_TOO_LARGE, SHELL_BAD_SETTING, SHELL_BAD_POINT, SHELL_BAD_CORNER, SHELL_SHORT_ROOM. Rooms, in
- * this order: the text, as long as what is written, for which SHELL_LIST_ROOM(P, F) is always enough, and SHELL_WORK_ROOM(P, F). A text that does not fit is
- * told even where the work room is too short as well. Bytes of the text's room behind what is written are unchanged.
+ * changes. It refuses, in this order: SHELL_BAD_LENGTH, SHELL_TOO_LARGE, SHELL_BAD_SETTING, SHELL_BAD_POINT, SHELL_BAD_CORNER, SHELL_SHORT_ROOM. Rooms, in this
+ * order: the text, as long as what is written, for which SHELL_LIST_ROOM(P, F) is always enough, and SHELL_WORK_ROOM(P, F). A text that does not fit is told
+ * even where the work room is too short as well. Bytes of the text's room behind what is written are unchanged.
  *
  * What it costs: whether the text fits is found out before anything is written. The time grows with the mesh and no faster where the text's room has
  * SHELL_LIST_ROOM(P, F) bytes, so that it fits in any case; or where the work room is long enough and what is stated of it is all one number, as zeros are, and
  * as every accepted call leaves it, so that it can be worked in and put back. So lend one of these. Otherwise, where the text's room is shorter and the work
- * room is short or holds several numbers, the length is found by a search that has no lent memory: for 100,000 faces that takes seconds, for a million minutes
- * and more; a call that is refused for its text may take as long. */
+ * room is short or holds several numbers, the length is found by a search that has no lent memory: for a scan of 10,000 faces that takes about half a second,
+ * of 100,000 half a minute, of a million an hour, and longer where many faces share an edge; a call that is refused for its text takes as long. */
 typedef struct {
     uint32_t number, place;
     uint64_t bytes;

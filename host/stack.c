@@ -1,7 +1,7 @@
 /* How much stack the calls take: `stack [--shapes N] FACES...`. Each call runs on a painted stack, on shapes of so many faces (the first N of them), with
  * work rooms of zeros and dirty ones, accepted and refused; the deepest place where the paint is gone says what the call took. It must be below what
  * shell.h promises. The list is written into a room that is enough for any list, and asked for with no room, so that with a dirty work room its length is found
- * by a search; of many faces only with the options for which that is quick. */
+ * by a search; of many faces only with the option for which that is quick. */
 #define _GNU_SOURCE
 #include "shell.h"
 #include <stdio.h>
@@ -289,11 +289,11 @@ static void on_shape(const Shape *shape, size_t F) {
         job.points[i] = i % 3 == 0 ? (double)(i / 3 % 1000) : i % 3 == 1 ? (double)(i / 3000) : (double)below(100) / 64;
     job.text = room(SHELL_LIST_ROOM(P, F), 1);
     make_list();
-    static const uint32_t options[] = {0, 1, 2, 4, 8, 16, 32, SHELL_ALL_OPTIONS}, quick = SHELL_DROP_DEGENERATE | SHELL_DROP_ISOLATED_VERTICES;
+    static const uint32_t options[] = {0, 1, 2, 4, 8, 16, 32, SHELL_ALL_OPTIONS};
     for (size_t k = F > 10000 ? 7 : 0; k < 8; k++) {
         measure(shape->name, REPAIR, options[k]);
         measure(shape->name, LIST, options[k]);
-        measure(shape->name, LIST_LENGTH, F > SEARCHED ? options[k] & quick : options[k]);
+        measure(shape->name, LIST_LENGTH, F > SEARCHED ? SHELL_DROP_DEGENERATE : options[k]);
     }
     for (int call = EDGES; call < CALLS; call++)
         measure(shape->name, call, 0);

@@ -289,7 +289,7 @@ ShellPlyFile shell_write_ply(const double *points, size_t points_len, const uint
  * SHELL_LIST_ROOM(P, F) bytes, so that it fits in any case; or where the work room is long enough and what is stated of it is all one number, as zeros are, and
  * as every accepted call leaves it, so that it can be worked in and put back. So lend one of these. Otherwise, where the text's room is shorter and the work
  * room is short or holds several numbers, the length is found by a search that has no lent memory: for a scan of 10,000 faces that takes about half a second,
- * of 100,000 half a minute, of a million an hour, and longer where many faces share an edge; a call that is refused for its text takes as long. */
+ * of 100,000 half a minute, growing with the square of the faces, and longer where many share an edge; a call refused for its text takes as long. */
 typedef struct {
     uint32_t number, place;
     uint64_t bytes;

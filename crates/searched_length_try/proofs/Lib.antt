@@ -1,0 +1,2 @@
+-- `Ready` has what was found of the input.
+pub mod Ready

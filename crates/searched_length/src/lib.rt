@@ -42,7 +42,7 @@ fn ending(
         };
     }
     let every = searched_isolated::all_length(count);
-    let kept = searched_isolated::kept_length(faces, words);
+    let kept = searched_isolated::kept_length(faces, index, words);
     let told = searched_splits::split_length(faces, index, words, count);
     let lost = searched_lost::lost_length(faces, words, count);
     Ends {

@@ -4,15 +4,17 @@ use mathlib.Core.Bool.{Bool, true, false, _&&_, _||_, cond}
 use mathlib.Core.List.{List, [], _∷_, _++_}
 use Prim.Native.Nat.{ℕ, suc, _+_, _≤_, _<_}
 use native.Mathlib.Omega.{arith}
-use native.Mathlib.Numerals.{add-one}
+use native.Mathlib.Decide.{decLt, ℕ-discrete}
 use borrow.Author.Tests.{eq-eqb, ne-eqb}
 use lib.Dec.{T, eqb}
 use lib.Ieee.Bits.{is-true}
 use lib.ListN.{length}
 use Rattle.rules.specs.Lists.{below, any, has}
-use Rattle.rules.specs.Mesh.{corners}
-use Rattle.rules.proofs.Members.{any-intro, any-mem, mem-below}
+use Rattle.rules.specs.Mesh.{face, facesOf, corners}
+use Rattle.rules.proofs.Members.{any-intro, any-mem, mem-below, below-mem}
 use Rattle.face_words.specs.Words.{stands, view}
+use Rattle.face_index.specs.Index.{joins, CandidateAsks, CandidateGives}
+use Rattle.entry_search.proofs.Entries.{view-has}
 use Rattle.searched_splits.specs.Splits.{hasPoint, metBefore, earlierIn, HasAsks}
 
 -- ---- one of three by its number
@@ -63,20 +65,7 @@ pub stands-has : (xs w : List ℕ) (v g : ℕ) {b : Bool} → stands w g ≡ tru
 unfolding hasPoint
 stands-has xs w v g s e = rw (s, e)
 
--- ---- all faces before f
-
--- none so far
-pub record None (xs w : List ℕ) (v f g : ℕ) : Type 0 where
-  pub most : g ≤ f
-  pub none : any (hasPoint xs w v) (below g) ≡ false
-
--- at first
-pub begin : (xs w : List ℕ) (v f : ℕ) → None xs w v f 0
-begin xs w v f = record { most = omega arith; none = unfold below any in refl }
-
--- a face is searched
-pub ask : {xs w : List ℕ} {f g : ℕ} → HasAsks xs w f → g < f → HasAsks xs w g
-ask p h = record { worded = p .worded; here = omega (arith, p .here) }
+-- ---- numbers in order
 
 -- one list after another
 any-append : (p : ℕ → Bool) (xs : List ℕ) (n : ℕ) → any p (xs ++ (n ∷ [])) ≡ (any p xs || p n)
@@ -97,9 +86,45 @@ pub any-last : (p : ℕ → Bool) (n : ℕ) → any p (below (suc n)) ≡ (any p
 unfolding below
 any-last p n = any-append p (below n) n
 
+-- ---- all faces before f
+
+and-self : (b : Bool) → (b && b) ≡ b
+and-self true = refl
+and-self false = refl
+
+never : (b : Bool) → (b && false) ≡ false
+never true = refl
+never false = refl
+
+-- a face that the index passes over has it not
+passed-over : (xs w : List ℕ) (v g : ℕ) → joins xs v v g ≡ false → hasPoint xs w v g ≡ false
+unfolding hasPoint joins
+passed-over xs w v g e = ap (λ b. stands w g && b) (view-has xs w g v ∙ sym (and-self (has v (corners (face (facesOf xs) g)))) ∙ e) ∙ never (stands w g)
+
+-- none so far
+pub record None (xs w : List ℕ) (v g : ℕ) : Type 0 where
+  pub none : (j : ℕ) → j < g → hasPoint xs w v j ≡ false
+
+-- a face is searched
+pub ask : {xs w : List ℕ} {f g : ℕ} → HasAsks xs w f → g < f → HasAsks xs w g
+ask p h = record { worded = p .worded; here = omega (arith, p .here) }
+
+-- and so is the next one
+pub next-ask : {xs w : List ℕ} {f : ℕ} → HasAsks xs w f → (g : ℕ) → g ≤ f → CandidateAsks xs g
+next-ask p g h = record { whole = omega (arith, p .worded .long); most = omega (arith, p .worded .long, p .here) }
+
+-- at first
+pub begin : {xs w : List ℕ} {v r : ℕ} → CandidateGives xs v v 0 r → None xs w v r
+begin {xs} {w} {v} c = record { none = λ j h. passed-over xs w v j (c .none j (omega arith) h) }
+
 -- it has not
-pub again : {xs w : List ℕ} {v f g : ℕ} → None xs w v f g → g < f → hasPoint xs w v g ≡ false → None xs w v f (g + 1)
-again {xs} {w} {v} {f} {g} i h e = record { most = omega arith; none = ap (λ k. any (hasPoint xs w v) (below k)) (add-one g) ∙ any-last (hasPoint xs w v) g ∙ rw (i .none, e) }
+pub again : {xs w : List ℕ} {v g r : ℕ} → None xs w v g → hasPoint xs w v g ≡ false → CandidateGives xs v v (g + 1) r → None xs w v r
+again {xs} {w} {v} {g} {r} i e c = record { none = λ j h. go j h (decLt j g) (ℕ-discrete j g) }
+  where
+    go : (j : ℕ) → j < r → Dec (j < g) → Dec (j ≡ g) → hasPoint xs w v j ≡ false
+    go j h (yes l) d = i .none j l
+    go j h (no l) (yes s) = rw s e
+    go j h (no l) (no s) = passed-over xs w v j (c .none j (omega arith) h)
 
 -- it has
 pub hit : (xs w : List ℕ) (v f g : ℕ) → g < f → hasPoint xs w v g ≡ true → true ≡ metBefore xs w v f
@@ -107,6 +132,12 @@ unfolding metBefore
 hit xs w v f g h e = sym (is-true (any (hasPoint xs w v) (below f)) (any-intro (hasPoint xs w v) g (below f) (mem-below g f h) (subst T (sym e) tt)))
 
 -- none has
-pub done : {xs w : List ℕ} {v f g : ℕ} → None xs w v f g → f ≤ g → false ≡ metBefore xs w v f
+pub done : {xs w : List ℕ} {v f g : ℕ} → None xs w v g → f ≤ g → false ≡ metBefore xs w v f
 unfolding metBefore
-done {xs} {w} {v} {f} {g} i h = let e : g ≡ f = omega (arith, i .most) in sym (ap (λ k. any (hasPoint xs w v) (below k)) (sym e) ∙ i .none)
+done {xs} {w} {v} {f} {g} i h = go (any (hasPoint xs w v) (below f)) refl
+  where
+    go : (b : Bool) → any (hasPoint xs w v) (below f) ≡ b → false ≡ b
+    go false e = refl
+    go true e =
+        let m = any-mem (hasPoint xs w v) (below f) (subst T (sym e) tt) in
+        absurd (subst T (i .none (m .0) (omega (arith, below-mem (m .0) f (m .1)))) (m .2))

@@ -91,26 +91,28 @@ fn has_point(faces: &[u32], words: &[u32], g: usize, v: u32) -> bool
 }
 
 // Whether a face before f stands and has v.
-fn met(faces: &[u32], words: &[u32], f: usize, v: u32) -> bool
+fn met(faces: &[u32], index: &[u32], words: &[u32], f: usize, v: u32) -> bool
     requires { ⌜ by.HasAsks (now faces) (now words) f ⌝ }
+    requires { ⌜ Indexed (now faces) (now index) ⌝ }
     ensures { λ r. ⌜ r ≡ by.metBefore (now (faces .entry)) (now (words .entry)) v f ⌝ }
 {
-    let mut g = 0;
+    let mut g = face_index::next_indexed(faces, index, v, v, 0);
     while g < f {
         if has_point(faces, words, g, v) {
             return true;
         }
-        g += 1;
+        g = face_index::next_indexed(faces, index, v, v, g + 1);
     }
     false
 }
 
 // Whether v was met before corner k of face f.
-pub fn met_at(faces: &[u32], words: &[u32], f: usize, k: usize, v: u32) -> bool
+pub fn met_at(faces: &[u32], index: &[u32], words: &[u32], f: usize, k: usize, v: u32) -> bool
     requires { ⌜ by.HasAsks (now faces) (now words) f ⌝ }
+    requires { ⌜ Indexed (now faces) (now index) ⌝ }
     ensures { λ r. ⌜ r ≡ by.metAt (now (faces .entry)) (now (words .entry)) v f k ⌝ }
 {
-    if met(faces, words, f, v) {
+    if met(faces, index, words, f, v) {
         return true;
     }
     let c = view(faces, words, f);
@@ -178,7 +180,7 @@ fn split_corner(
     }
     let c = view(faces, words, f);
     let v = pick(c.a, c.b, c.c, k);
-    let extra = met_at(faces, words, f, k, v);
+    let extra = met_at(faces, index, words, f, k, v);
     let taken = close(faces, index, words, f, k, v);
     if !extra {
         return Told {

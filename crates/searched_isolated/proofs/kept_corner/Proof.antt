@@ -32,8 +32,8 @@ returns c =
     let at-met = c .before in
     let at-pick = at-met .before in
     let at-view = at-pick .before in
-    let start = at-view .before .before .before in
-    corner-met (start .pre) (at-pick .pick .ensures ∙ ap (λ g. pickOf (g .a) (g .b) (g .c) (start .args .k)) (at-view .view .ensures)) (at-met .met-at .ensures) (c .if1 .taken)
+    let start = at-view .before .before .before .before in
+    corner-met (start .pre .0) (at-pick .pick .ensures ∙ ap (λ g. pickOf (g .a) (g .b) (g .c) (start .args .k)) (at-view .view .ensures)) (at-met .met-at .ensures) (c .if1 .taken)
 
 -- src/lib.rt:39:9
 number-length-requires : tie.Need-number-length-requires
@@ -49,8 +49,8 @@ returns-2 c =
     let at-met = c .before .before in
     let at-pick = at-met .before in
     let at-view = at-pick .before in
-    let start = at-view .before .before .before in
-    corner-first (start .pre) (at-pick .pick .ensures ∙ ap (λ g. pickOf (g .a) (g .b) (g .c) (start .args .k)) (at-view .view .ensures)) (at-met .met-at .ensures) (c .before .if1 .left) (c .number-length .ensures)
+    let start = at-view .before .before .before .before in
+    corner-first (start .pre .0) (at-pick .pick .ensures ∙ ap (λ g. pickOf (g .a) (g .b) (g .c) (start .args .k)) (at-view .view .ensures)) (at-met .met-at .ensures) (c .before .if1 .left) (c .number-length .ensures)
 
 pub kept-corner-spec : {M : Type 1} → statement M
 kept-corner-spec =

@@ -33,8 +33,8 @@ returns : tie.Need-returns
 returns c =
     let at-same = c .before in
     let at-view = at-same .before in
-    let start = at-view .before .before .before in
-    face-single (start .pre) (tested (at-same .same .ensures) (at-view .view .ensures) (c .if1 .taken))
+    let start = at-view .before .before .before .before in
+    face-single (start .pre .0) (tested (at-same .same .ensures) (at-view .view .ensures) (c .if1 .taken))
 
 -- src/lib.rt:51:5
 kept-corner-requires : tie.Need-kept-corner-requires
@@ -47,7 +47,7 @@ kept-corner-requires-2 c κs = search needs
 -- src/lib.rt:51:5
 add-result : tie.Need-add-result
 add-result c =
-    let start = c .before .before .before .before .before .before .before in
+    let start = c .before .before .before .before .before .before .before .before in
     omega (arith, c .before .kept-corner .ensures, c .kept-corner2 .ensures, first-most (start .args .faces .now) (start .args .words .now) (start .args .f) 0, first-most (start .args .faces .now) (start .args .words .now) (start .args .f) 1)
 
 -- src/lib.rt:53:11
@@ -57,7 +57,7 @@ kept-corner-requires-3 c κs = search needs
 -- src/lib.rt:51:5
 add-result-2 : tie.Need-add-result-2
 add-result-2 c =
-    let start = c .before .before .before .before .before .before .before .before in
+    let start = c .before .before .before .before .before .before .before .before .before in
     omega (
       arith,
       c .before .before .kept-corner .ensures,
@@ -74,8 +74,8 @@ returns-2 c =
     let at-else = c .before .before .before in
     let at-same = at-else .before in
     let at-view = at-same .before in
-    let start = at-view .before .before .before in
-    face-several (start .pre) (tested (at-same .same .ensures) (at-view .view .ensures) (at-else .if1 .left)) (c .before .before .kept-corner .ensures) (c .before .kept-corner2 .ensures) (c .kept-corner3 .ensures)
+    let start = at-view .before .before .before .before in
+    face-several (start .pre .0) (tested (at-same .same .ensures) (at-view .view .ensures) (at-else .if1 .left)) (c .before .before .kept-corner .ensures) (c .before .kept-corner2 .ensures) (c .kept-corner3 .ensures)
 
 pub kept-face-spec : {M : Type 1} → statement M
 kept-face-spec =

@@ -14,10 +14,10 @@ use Rattle.face_words.proofs.stands.Reads as stands-reads
 use Rattle.searched_isolated.proofs.kept_face.Reads as kept-face-reads
 
 abbrev Inv-loop : tie.InvT-loop
-Inv-loop faces words bytes₀ f₀ bytes f = Kept faces words bytes f
+Inv-loop faces index words bytes₀ f₀ bytes f = Kept faces words bytes f
 
 abbrev μ-loop : tie.MeasureT-loop
-μ-loop faces words bytes₀ f₀ bytes f = length words - f
+μ-loop faces index words bytes₀ f₀ bytes f = length words - f
 
 -- src/lib.rt:63:5
 loop-holds : tie.Need-loop-holds Inv-loop μ-loop
@@ -31,18 +31,19 @@ stands-requires c κs = c .loop-test .taken
 kept-face-requires : tie.Need-kept-face-requires Inv-loop μ-loop
 kept-face-requires c κs =
     let t = c .before .before in
-    record { worded = t .before .before .before .before .pre .worded; here = t .loop-test .taken; standing = subst T (sym (sym (c .before .stands .ensures) ∙ c .if1 .taken)) tt }
+    let start = t .before .before .before .before .before in
+    (record { worded = start .pre .0 .worded; here = t .loop-test .taken; standing = subst T (sym (sym (c .before .stands .ensures) ∙ c .if1 .taken)) tt }, start .pre .1)
 
 -- src/lib.rt:65:21
 add-bytes : tie.Need-add-bytes Inv-loop μ-loop
 add-bytes c =
     let t = c .before .before .before in
-    let start = t .before .before .before .before in
-    omega (arith, start .pre .worded .few, t .before .loop .inv .few, t .loop-test .taken, c .kept-face .ensures, face-most (start .args .faces .now) (start .args .words .now) (t .before .loop .f))
+    let start = t .before .before .before .before .before in
+    omega (arith, start .pre .0 .worded .few, t .before .loop .inv .few, t .loop-test .taken, c .kept-face .ensures, face-most (start .args .faces .now) (start .args .words .now) (t .before .loop .f))
 
 -- src/lib.rt:67:9
 add-f : tie.Need-add-f Inv-loop μ-loop
-add-f c = omega (arith, c .before .before .loop-test .taken, c .before .before .before .before .before .before .pre .worded .few)
+add-f c = omega (arith, c .before .before .loop-test .taken, c .before .before .before .before .before .before .before .pre .0 .worded .few)
 
 -- src/lib.rt:63:5
 loop-less : tie.Need-loop-less Inv-loop μ-loop

@@ -21,7 +21,7 @@ met-requires c κs = search needs
 returns : tie.Need-returns
 unfolding metAt
 returns c =
-    let start = c .before .before .before .before in
+    let start = c .before .before .before .before .before in
     let f = view (start .args .faces .now) (start .args .words .now) (start .args .f) in
     ap (λ (b : Bool). b || earlierIn (f .a) (f .b) (start .args .k) (start .args .v)) (sym (c .if1 .taken) ∙ c .before .met .ensures)
 
@@ -39,7 +39,7 @@ unfolding metAt
 returns-2 c =
     let at-view = c .before in
     let at-met = at-view .before .before in
-    let start = at-met .before .before .before in
+    let start = at-met .before .before .before .before in
     c .earlier .ensures
     ∙ ap (λ f. earlierIn (f .a) (f .b) (start .args .k) (start .args .v)) (at-view .view .ensures)
     ∙ ap (λ (b : Bool). b || earlierIn (view (start .args .faces .now) (start .args .words .now) (start .args .f) .a) (view (start .args .faces .now) (start .args .words .now) (start .args .f) .b) (start .args .k) (start .args .v)) (sym (at-view .before .if1 .left) ∙ at-met .met .ensures)

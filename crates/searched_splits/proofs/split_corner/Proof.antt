@@ -116,7 +116,15 @@ add-words c =
 
 -- src/lib.rt:177:5
 mul-words-3 : tie.Need-mul-words-3
-mul-words-3 c = search needs
+mul-words-3 c =
+    let at-bit = c in
+    let at-close = at-bit .before .before .before .before .before in
+    let at-met-at = at-close .before .before in
+    let at-pick = at-met-at .before .before in
+    let at-view = at-pick .before in
+    let at-flagged = at-view .before .before .before in
+    let start = at-flagged .before .before .before .before .before in
+    omega (arith, start .pre .0 .here, start .pre .0 .split .worded .few)
 
 -- src/lib.rt:177:5
 slice-write-words : tie.Need-slice-write-words

@@ -286,10 +286,11 @@ ShellPlyFile shell_write_ply(const double *points, size_t points_len, const uint
  * even where the work room is too short as well. Bytes of the text's room behind what is written are unchanged.
  *
  * What it costs: whether the text fits is found out before anything is written. The time grows with the mesh and no faster where the text's room has
- * SHELL_LIST_ROOM(P, F) bytes, so that it fits in any case; or where the work room is long enough and what is stated of it is all one number, as zeros are, and
- * as every accepted call leaves it, so that it can be worked in and put back. So lend one of these. Otherwise, where the text's room is shorter and the work
- * room is short or holds several numbers, the length is found by a search that has no lent memory: for a scan of 10,000 faces that takes about a third of
- * a second, of 100,000 a quarter of a minute, growing with the square of the faces, and longer where many share an edge; a call refused for its text takes as long. */
+ * SHELL_LIST_ROOM(P, F) bytes, so that it fits in any case; or where the work room is long enough and what is stated of it is all one number, as zeros are,
+ * and as every accepted call leaves it, so that it can be worked in and put back. So lend one of these. Otherwise, where the text's room is shorter and the
+ * work room is short or holds several numbers, the length is found by a search that has no lent memory: for a scan of 10,000 faces that takes about a third of
+ * a second, of 100,000 a quarter of a minute, growing with the square of the faces, and longer where many share an edge; a call refused for its text takes as
+ * long. */
 typedef struct {
     uint32_t number, place;
     uint64_t bytes;

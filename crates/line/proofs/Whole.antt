@@ -16,9 +16,9 @@ use Rattle.rules.specs.Refusal.{ok, no, decided}
 use Rattle.rules.specs.Rooms.{filled, outcome}
 use Rattle.rules.specs.LineCall.{line_check, write_line}
 use Rattle.line.specs.declared.Lined.TheVariants as lined
-use Rattle.bytes.specs.Put.{Puts}
+use Rattle.byte_rows.specs.Put.{Puts}
 use Rattle.line.specs.Put.{label_count, PartAsks, LineGives, more, shown, parts, outcome_of}
-use Rattle.bytes.proofs.Putting.{puts_none, puts_both, puts_front}
+use Rattle.byte_rows.proofs.Putting.{puts_none, puts_both, puts_front}
 use Rattle.line.proofs.Words.{more_short}
 use Rattle.line.proofs.Joining.{so_far, so_far_next, so_far_all, clean, line_clean, line_parts}
 use Rattle.line.proofs.Summed.{summed_long}

@@ -10,9 +10,9 @@ use lib.Dec.{eqb}
 use lib.ListN.{length, set, length-append, length-set}
 use Rattle.rules.specs.Line.{bytes, labels, decimal, part}
 use Rattle.rule_laws.proofs.Rising.{all_at}
-use Rattle.bytes.specs.Put.{Puts, NumberAsks}
+use Rattle.byte_rows.specs.Put.{Puts, NumberAsks}
 use Rattle.line.specs.Put.{label_count, PartAsks, label, comma, more}
-use Rattle.bytes.proofs.Putting.{puts_none, puts_one, puts_both}
+use Rattle.byte_rows.proofs.Putting.{puts_none, puts_one, puts_both}
 use Rattle.rule_laws.proofs.Digits.{decimal_short}
 
 -- no comma before the first part

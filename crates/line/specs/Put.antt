@@ -2,7 +2,7 @@
 use Rattle.std.specs.Prelude.{◌≡◌, cond, ℕ, ◌+◌, ◌≤◌, ◌<◌, eqb, ltb, length, get_or}
 use mathlib.Core.List.{List, [], ◌∷◌, ◌++◌, map, zip}
 use Prim.Native.String.{String}
-use Rattle.bytes.specs.Put.{Puts}
+use Rattle.byte_rows.specs.Put.{Puts}
 use Rattle.rules.specs.Lists.{filter}
 use Rattle.rules.specs.Line as rule
 use Rattle.rules.specs.Rooms.{Outcome, accepted, refused}

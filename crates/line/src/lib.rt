@@ -1,6 +1,6 @@
 // The call "report line" of document 01: from any u32 counts of a report, the line in a lent room of bytes.
 ghost use Rattle.std.specs.Prelude.{◌≡◌, ◌+◌, ◌^◌, ◌≤◌, ◌<◌, length, get_or, replicate};
-ghost use Rattle.bytes.specs.Put.{Puts};
+ghost use Rattle.byte_rows.specs.Put.{Puts};
 ghost use Rattle.line_refusal.specs.Checks.{LineAccepted};
 ghost use Rattle.rules.specs.Line as rule;
 ghost use Rattle.rules.specs.LineCall.{write_line};
@@ -36,16 +36,16 @@ fn put_label(line: &mut [u8], at: usize, k: usize) -> usize
     ensures { Puts line.old at (rule.bytes (by.label k)) line.new result }
 {
     match k {
-        0 => bytes::put_text(line, at, b"degenerate faces removed"),
-        1 => bytes::put_text(line, at, b"duplicate faces removed"),
-        2 => bytes::put_text(line, at, b"non-manifold edges"),
-        3 => bytes::put_text(line, at, b"faces dropped there"),
-        4 => bytes::put_text(line, at, b"faces dropped as unorientable"),
-        5 => bytes::put_text(line, at, b"bowtie vertices split"),
-        6 => bytes::put_text(line, at, b"points added"),
-        7 => bytes::put_text(line, at, b"faces reoriented"),
-        8 => bytes::put_text(line, at, b"non-orientable components"),
-        _ => bytes::put_text(line, at, b"isolated vertices removed"),
+        0 => byte_rows::put_text(line, at, b"degenerate faces removed"),
+        1 => byte_rows::put_text(line, at, b"duplicate faces removed"),
+        2 => byte_rows::put_text(line, at, b"non-manifold edges"),
+        3 => byte_rows::put_text(line, at, b"faces dropped there"),
+        4 => byte_rows::put_text(line, at, b"faces dropped as unorientable"),
+        5 => byte_rows::put_text(line, at, b"bowtie vertices split"),
+        6 => byte_rows::put_text(line, at, b"points added"),
+        7 => byte_rows::put_text(line, at, b"faces reoriented"),
+        8 => byte_rows::put_text(line, at, b"non-orientable components"),
+        _ => byte_rows::put_text(line, at, b"isolated vertices removed"),
     }
 }
 
@@ -55,7 +55,7 @@ fn put_part(line: &mut [u8], at: usize, n: u64, k: usize) -> usize
     requires n_bound { n < 10 ^ 10 }
     ensures { Puts line.old at (rule.part (n, by.label k)) line.new result }
 {
-    let next = bytes::put_number(line, at, n);
+    let next = byte_rows::put_number(line, at, n);
     line[next] = b' ';
     put_label(line, next + 1, k)
 }
@@ -126,7 +126,7 @@ fn put_line(counts: &[u32], line: &mut [u8]) -> usize
 {
     let end = put_parts(counts, line);
     if end == 0 {
-        return bytes::put_text(line, 0, b"mesh was already manifold, nothing changed");
+        return byte_rows::put_text(line, 0, b"mesh was already manifold, nothing changed");
     }
     end
 }

@@ -5,8 +5,8 @@ use Prim.Native.Nat.{ℕ, ◌+◌, ◌-◌, ◌*◌, ◌/◌, ◌≤◌, ◌<◌
 use native.Mathlib.Omega.{arith}
 use lib.Ieee.{Float}
 use lib.ListN.{length, drop, replicate}
-use Rattle.bytes.specs.Put.{Puts}
-use Rattle.bytes.proofs.Putting.{puts_front}
+use Rattle.byte_rows.specs.Put.{Puts}
+use Rattle.byte_rows.proofs.Putting.{puts_front}
 use Rattle.rules.specs.Rooms.{work_room, filled}
 use Rattle.refuse.specs.Verdicts.{Limits}
 use Rattle.list_text.specs.Written.{list_text_by_rows}

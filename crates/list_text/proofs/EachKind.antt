@@ -8,8 +8,8 @@ use native.Mathlib.Decide.{ℕ_discrete, dec_lt}
 use borrow.Author.Tests.{eq-eqb, ne_eqb, le-leb, lt-leb}
 use lib.Dec.{eqb, leb}
 use lib.ListN.{length, get_or, set, length-append}
-use Rattle.bytes.specs.Put.{Puts}
-use Rattle.bytes.proofs.Putting.{puts_one, puts_both}
+use Rattle.byte_rows.specs.Put.{Puts}
+use Rattle.byte_rows.proofs.Putting.{puts_one, puts_both}
 use Rattle.rules.specs.Lists.{below, each}
 use Rattle.rules.specs.Line.{bytes, digits, decimal}
 use Rattle.rules.specs.Text.{text_line}

@@ -6,8 +6,8 @@ use native.Mathlib.Omega.{arith}
 use native.Mathlib.Numerals.{add-one}
 use lib.ListN.{length, drop, length-append, drop_of_length-le}
 use lib.Seq.{drop-cons}
-use Rattle.bytes.specs.Put.{Puts}
-use Rattle.bytes.proofs.Putting.{puts_none, puts_both}
+use Rattle.byte_rows.specs.Put.{Puts}
+use Rattle.byte_rows.proofs.Putting.{puts_none, puts_both}
 use Rattle.rules.specs.Lists.{below, each}
 use Rattle.rule_laws.proofs.Lists.{length_below}
 use Rattle.rule_laws.proofs.Rising.{get_or_below}

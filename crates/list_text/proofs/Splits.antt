@@ -5,7 +5,7 @@ use Prim.Native.Nat.{ℕ, suc, ◌+◌, ◌*◌, ◌≤◌, ◌<◌}
 use native.Mathlib.Omega.{arith}
 use native.Mathlib.Numerals.{add-one}
 use lib.ListN.{length}
-use Rattle.bytes.specs.Put.{Puts}
+use Rattle.byte_rows.specs.Put.{Puts}
 use Rattle.list_text.specs.declared.Rows.{Rows}
 use Rattle.list_text.specs.Written.{split_text, splits_text, start_of, BelowAsks, SplitAsks, SplitsAsk}
 use Rattle.list_text.proofs.Onward.{Rowed, row_begin, row_room, row_on, row_done, Summed, sum_begin, sum_on, sum_done}

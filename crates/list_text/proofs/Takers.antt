@@ -7,7 +7,7 @@ use native.Mathlib.Omega.{arith}
 use lib.Dec.{eqb}
 use lib.ListN.{length, get_or, take, length-append}
 use lib.Seq.{drop-cons}
-use Rattle.bytes.specs.Put.{Puts}
+use Rattle.byte_rows.specs.Put.{Puts}
 use Rattle.rows.specs.Region.{part}
 use Rattle.rules.specs.Lists.{each}
 use Rattle.rule_laws.proofs.Digits.{decimal_short}

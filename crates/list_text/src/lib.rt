@@ -1,6 +1,6 @@
 // The text of a mending list, from rows that tell what becomes of each face and point: its length, found without writing, and its bytes.
 ghost use Rattle.std.specs.Prelude.{◌≡◌, ◌+◌, ◌*◌, ◌≤◌, ◌<◌, length};
-ghost use Rattle.bytes.specs.Put.{Puts};
+ghost use Rattle.byte_rows.specs.Put.{Puts};
 ghost use Rattle.rules.specs.Line.{decimal};
 ghost use Rattle.list_text.specs.Written as by;
 
@@ -87,12 +87,12 @@ fn put_tail(text: &mut [u8], at: usize, kind: u32) -> usize
     ensures { Puts text.old at (by.tail_of kind) text.new result }
 {
     match kind {
-        1 => bytes::put_text(text, at, b"\t1\trepeated\n"),
-        2 => bytes::put_text(text, at, b"\t1\tthin\n"),
-        3 => bytes::put_text(text, at, b"\t2\tduplicate\n"),
-        4 => bytes::put_text(text, at, b"\t3\tedge\n"),
-        5 => bytes::put_text(text, at, b"\t4\tdirection\n"),
-        _ => bytes::put_text(text, at, b"\n"),
+        1 => byte_rows::put_text(text, at, b"\t1\trepeated\n"),
+        2 => byte_rows::put_text(text, at, b"\t1\tthin\n"),
+        3 => byte_rows::put_text(text, at, b"\t2\tduplicate\n"),
+        4 => byte_rows::put_text(text, at, b"\t3\tedge\n"),
+        5 => byte_rows::put_text(text, at, b"\t4\tdirection\n"),
+        _ => byte_rows::put_text(text, at, b"\n"),
     }
 }
 
@@ -102,7 +102,7 @@ fn put_field(text: &mut [u8], at: usize, n: u32) -> usize
     ensures { Puts text.old at (by.field n) text.new result }
 {
     text[at] = 9;
-    bytes::put_number(text, at + 1, n as u64)
+    byte_rows::put_number(text, at + 1, n as u64)
 }
 
 // How long a line of a kind is, with the number n; no line, 0.

@@ -6,7 +6,7 @@ use native.Mathlib.Omega.{arith}
 use lib.ListN.{length, get_or, take}
 use lib.Seq.{take_all}
 use lib.Ieee.{Float, binary64, nan, to_bits}
-use Rattle.bytes.specs.Put.{Puts}
+use Rattle.byte_rows.specs.Put.{Puts}
 use Rattle.rules.specs.Mesh.{Point, Face, points_of, faces_of, flat_points, flat_faces, coordinates, corners, zero64}
 use Rattle.rules.specs.Lists.{each}
 use Rattle.rules.specs.Line.{bytes, decimal}

@@ -6,7 +6,7 @@ use Prim.Native.Nat.{ℕ, ◌≤◌}
 use native.Mathlib.Omega.{arith}
 use lib.Ieee.{Float}
 use lib.ListN.{length, take}
-use Rattle.bytes.specs.Put.{Puts}
+use Rattle.byte_rows.specs.Put.{Puts}
 use Rattle.rules.specs.Text.{Job, read, refusal_line, answered, meshfix}
 use Rattle.text_in.specs.Asked.{told_of, ToldWithin}
 use Rattle.text_in.specs.declared.Told.{Told}

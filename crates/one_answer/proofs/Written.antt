@@ -7,7 +7,7 @@ use native.Mathlib.Omega.{arith}
 use lib.ListN.{length, get_or}
 use lib.Seq.{ext_get_or}
 use Rattle.rows.proofs.Regions.{in_or_out, get_d_part}
-use Rattle.bytes.specs.Put.{Puts}
+use Rattle.byte_rows.specs.Put.{Puts}
 
 module _ {w : List ℕ} {at : ℕ} {xs : List ℕ} where
   -- an entry of the text that was put

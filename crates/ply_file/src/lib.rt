@@ -130,9 +130,9 @@ fn far(file: &[u8], i: usize) -> bool
     requires { i + 24 ≤ length file.now }
     ensures { result ≡ by.far (ply.point_at file.now i) }
 {
-    if refuse::in_domain(bytes::real_at(file, i)) {
-        if refuse::in_domain(bytes::real_at(file, i + 8)) {
-            if refuse::in_domain(bytes::real_at(file, i + 16)) {
+    if refuse::in_domain(byte_rows::real_at(file, i)) {
+        if refuse::in_domain(byte_rows::real_at(file, i + 8)) {
+            if refuse::in_domain(byte_rows::real_at(file, i + 16)) {
                 return false;
             }
             return true;
@@ -162,13 +162,13 @@ fn astray(file: &[u8], p: usize, i: usize) -> bool
     requires { i + 13 ≤ length file.now }
     ensures { result ≡ by.astray p (ply.face_at file.now i) }
 {
-    if p <= bytes::u32_at(file, i + 1) as usize {
+    if p <= byte_rows::u32_at(file, i + 1) as usize {
         return true;
     }
-    if p <= bytes::u32_at(file, i + 5) as usize {
+    if p <= byte_rows::u32_at(file, i + 5) as usize {
         return true;
     }
-    p <= bytes::u32_at(file, i + 9) as usize
+    p <= byte_rows::u32_at(file, i + 9) as usize
 }
 
 // 5: a corner >= P, at the first such face.

@@ -21,7 +21,7 @@ fn coordinates(file: &[u8], at: usize, n: usize, points: &mut [f64])
 {
     let mut i = 0;
     while i < n {
-        points[i] = bytes::real_at(file, at + 8 * i);
+        points[i] = byte_rows::real_at(file, at + 8 * i);
         i += 1;
     }
 }
@@ -33,9 +33,9 @@ fn triples(file: &[u8], at: usize, f: usize, faces: &mut [u32])
 {
     let mut i = 0;
     while i < f {
-        let a = bytes::u32_at(file, at + 13 * i + 1);
-        let b = bytes::u32_at(file, at + 13 * i + 5);
-        let c = bytes::u32_at(file, at + 13 * i + 9);
+        let a = byte_rows::u32_at(file, at + 13 * i + 1);
+        let b = byte_rows::u32_at(file, at + 13 * i + 5);
+        let c = byte_rows::u32_at(file, at + 13 * i + 9);
         faces[3 * i] = a;
         faces[3 * i + 1] = b;
         faces[3 * i + 2] = c;

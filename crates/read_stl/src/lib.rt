@@ -39,9 +39,9 @@ fn keys(file: &[u8], n: usize, work: &mut [u32])
     let mut c = 0;
     while c < n {
         let i = stl_file::place_of(c);
-        let x = one_zero(bytes::u32_at(file, i));
-        let y = one_zero(bytes::u32_at(file, i + 4));
-        let z = one_zero(bytes::u32_at(file, i + 8));
+        let x = one_zero(byte_rows::u32_at(file, i));
+        let y = one_zero(byte_rows::u32_at(file, i + 4));
+        let z = one_zero(byte_rows::u32_at(file, i + 8));
         work[c] = x;
         work[n + c] = y;
         work[2 * n + c] = z;
@@ -113,7 +113,7 @@ pub fn read_stl(file: &[u8], points: &mut [f64], faces: &mut [u32], work: &mut [
             return Read::Refused(number, place);
         }
     }
-    let count = bytes::u32_at(file, 80) as usize;
+    let count = byte_rows::u32_at(file, 80) as usize;
     let n = 3 * count;
     keys(file, n, work);
     corners(file, n, points);

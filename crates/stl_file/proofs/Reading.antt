@@ -8,7 +8,7 @@ use lib.Ieee.{binary32, binary64, is_nan, nan_bits, of_bits, div, fits}
 use lib.Ieee.Fits.{and_i}
 use lib.Ieee.Bits.{nan_bits_is, nan_bits_above}
 use Rattle.rule_laws.proofs.Equal.{widened_fits}
-use Rattle.bytes.proofs.Reading.{zero_by_zero, only_nan}
+use Rattle.byte_rows.proofs.Reading.{zero_by_zero, only_nan}
 
 -- a NaN's pattern is above the infinity's
 nan_by_bits : (b : ℕ) (t : Bool) → ltb 2139095040 (b % 2147483648) ≡ t → is_nan (of_bits binary32 b) ≡ t

@@ -24,7 +24,7 @@ pub fn coordinate(file: &[u8], i: usize) -> f64
     requires { i + 4 ≤ length file.now }
     ensures { result ≡ rule.coordinate file.now i }
 {
-    widened(bytes::u32_at(file, i))
+    widened(byte_rows::u32_at(file, i))
 }
 
 // The byte at which corner c begins, counted through the file.
@@ -93,7 +93,7 @@ pub fn stl_check(file: &[u8], points: usize, faces: usize, work: usize) -> Verdi
     if file.len() < 84 {
         return Verdict::Refused(12, 0);
     }
-    let count = bytes::u32_at(file, 80) as usize;
+    let count = byte_rows::u32_at(file, 80) as usize;
     if file.len() != 84 + 50 * count {
         return Verdict::Refused(12, 0);
     }

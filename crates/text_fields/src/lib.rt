@@ -130,5 +130,5 @@ pub fn read_real(field: &[u8]) -> Real
         n = 16 * n + d;
         i += 1;
     }
-    Real::Number(bytes::float(n))
+    Real::Number(byte_rows::float(n))
 }

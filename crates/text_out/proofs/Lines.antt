@@ -7,8 +7,8 @@ use native.Mathlib.Numerals.{add-one}
 use lib.Ieee.{Float, nan, binary64, to_bits}
 use lib.ListN.{length, get_or, set, take, length-append}
 use lib.Seq.{take-suc, take_all}
-use Rattle.bytes.specs.Put.{Puts}
-use Rattle.bytes.proofs.Putting.{puts_none, puts_both, puts_one}
+use Rattle.byte_rows.specs.Put.{Puts}
+use Rattle.byte_rows.proofs.Putting.{puts_none, puts_both, puts_one}
 use Rattle.rule_laws.proofs.Digits.{decimal_short}
 use Rattle.rules.specs.Lists.{each}
 use Rattle.rules.specs.Line.{bytes, decimal}

@@ -7,7 +7,7 @@ use lib.ListN.{length, get_or, set, take, length-append, length-set}
 use lib.Seq.{drop-cons, get_or-set_same}
 use Rattle.rows.specs.Region.{part, Only}
 use Rattle.rows.proofs.Regions.{only_none, only_both, only_set, part_set}
-use Rattle.bytes.specs.Put.{Puts}
+use Rattle.byte_rows.specs.Put.{Puts}
 use Rattle.rules.specs.Text.{hex}
 use Rattle.text_out.specs.Printed.{byte}
 

@@ -2,7 +2,7 @@
 use Rattle.std.specs.Prelude.{not, cond, List, ◌∷◌, map, ℕ, ◌+◌, ◌*◌, ◌/◌, ◌≤◌, ◌<◌, T, ltb, Float, length, get_or}
 use Rattle.std.specs.Float.{nan, binary64}
 use Rattle.std.specs.Float.Ieee.{is_nan, to_bits}
-use Rattle.bytes.specs.Put.{Puts}
+use Rattle.byte_rows.specs.Put.{Puts}
 use Rattle.rules.specs.Lists.{each}
 use Rattle.rules.specs.Mesh.{Point, Face, coordinates, corners, points_of, faces_of}
 use Rattle.rules.specs.State.{State}

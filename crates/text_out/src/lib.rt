@@ -2,7 +2,7 @@
 ghost use Rattle.std.specs.Prelude.{◌≡◌, ◌∷◌, map, ◌+◌, ◌/◌, ◌≤◌, ◌<◌, length};
 ghost use Rattle.std.specs.Float.{binary64};
 ghost use Rattle.std.specs.Float.Ieee.{to_bits};
-ghost use Rattle.bytes.specs.Put.{Puts};
+ghost use Rattle.byte_rows.specs.Put.{Puts};
 ghost use Rattle.rules.specs.Line as text;
 ghost use Rattle.rules.specs.Text as rule;
 ghost use Rattle.text_out.specs.Printed as by;
@@ -48,7 +48,7 @@ fn put_whole(out: &mut [u8], at: usize, n: u32) -> usize
     ensures { Puts out.old at (9 ∷ text.decimal n) out.new result }
 {
     out[at] = 9;
-    bytes::put_number(out, at + 1, n as u64)
+    byte_rows::put_number(out, at + 1, n as u64)
 }
 
 // Puts the `p` line of point i.

@@ -9,8 +9,8 @@ use lib.ListN.{length, get_or, drop, replicate}
 use lib.Ieee.{Float, nan, is_nan}
 use Rattle.rows.specs.Region.{Only, Filled}
 use Rattle.filling.proofs.Filling.{cleared_is}
-use Rattle.bytes.specs.Put.{Puts}
-use Rattle.bytes.proofs.Putting.{puts_both, puts_front}
+use Rattle.byte_rows.specs.Put.{Puts}
+use Rattle.byte_rows.proofs.Putting.{puts_both, puts_front}
 use Rattle.rules.specs.Lists.{all, each}
 use Rattle.rules.specs.Mesh.{Point, point, points_of, faces_of, flat_points, coordinates, zero64}
 use Rattle.rules.specs.Refusal.{ok, decided, in_domain, no4}

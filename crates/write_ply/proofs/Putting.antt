@@ -7,8 +7,8 @@ use native.Mathlib.Numerals.{add-one}
 use lib.Ieee.{Float}
 use lib.ListN.{length, get_or, set, take}
 use lib.Seq.{take-suc, take_all}
-use Rattle.bytes.specs.Put.{Puts}
-use Rattle.bytes.proofs.Putting.{puts_none, puts_both, puts_one}
+use Rattle.byte_rows.specs.Put.{Puts}
+use Rattle.byte_rows.proofs.Putting.{puts_none, puts_both, puts_one}
 use Rattle.rules.specs.Lists.{each}
 use Rattle.rules.specs.Bytes.{little}
 use Rattle.rules.specs.Line.{plain, decimal}

@@ -1,6 +1,6 @@
 // The call that writes points and triples as a binary PLY file into a lent room: its refusals, the file, and every room after it.
 ghost use Rattle.std.specs.Prelude.{◌≡◌};
-ghost use Rattle.bytes.specs.Put.{Puts};
+ghost use Rattle.byte_rows.specs.Put.{Puts};
 ghost use Rattle.rules.specs.Lists.{each};
 ghost use Rattle.rules.specs.Mesh.{faces_of};
 ghost use Rattle.rules.specs.Ply as ply;
@@ -22,19 +22,19 @@ fn put_header(out: &mut [u8], p: usize, f: usize) -> usize
     requires { to.HeaderAsks out.old p f }
     ensures { Puts out.old 0 (ply.header p f) out.new result }
 {
-    let a = bytes::put_text(
+    let a = byte_rows::put_text(
         out,
         0,
         b"ply\nformat binary_little_endian 1.0\nelement vertex ",
     );
-    let b = bytes::put_number(out, a, p as u64);
-    let c = bytes::put_text(
+    let b = byte_rows::put_number(out, a, p as u64);
+    let c = byte_rows::put_text(
         out,
         b,
         b"\nproperty double x\nproperty double y\nproperty double z\nelement face ",
     );
-    let d = bytes::put_number(out, c, f as u64);
-    bytes::put_text(
+    let d = byte_rows::put_number(out, c, f as u64);
+    byte_rows::put_text(
         out,
         d,
         b"\nproperty list uchar int vertex_indices\nend_header\n",
@@ -49,7 +49,7 @@ fn put_reals(out: &mut [u8], at: usize, points: &[f64]) -> usize
     let mut next = at;
     let mut i = 0;
     while i < points.len() {
-        next = bytes::put_little(out, next, 8, f64::to_bits(points[i]));
+        next = byte_rows::put_little(out, next, 8, f64::to_bits(points[i]));
         i += 1;
     }
     next
@@ -61,9 +61,9 @@ fn put_triple(out: &mut [u8], at: usize, faces: &[u32], i: usize) -> usize
     ensures { Puts out.old at (ply.triple (to.face_at faces.now i)) out.new result }
 {
     out[at] = 3;
-    let b = bytes::put_little(out, at + 1, 4, faces[3 * i] as u64);
-    let c = bytes::put_little(out, b, 4, faces[3 * i + 1] as u64);
-    bytes::put_little(out, c, 4, faces[3 * i + 2] as u64)
+    let b = byte_rows::put_little(out, at + 1, 4, faces[3 * i] as u64);
+    let c = byte_rows::put_little(out, b, 4, faces[3 * i + 1] as u64);
+    byte_rows::put_little(out, c, 4, faces[3 * i + 2] as u64)
 }
 
 // Puts all faces, from `at` on. Returns where they end.

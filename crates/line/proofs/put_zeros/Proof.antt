@@ -3,7 +3,7 @@ use mathlib.Core.Path.{◌≡◌, sym}
 use Prim.Native.Nat.{ℕ, ◌-◌}
 use native.Mathlib.Omega.{arith}
 use lib.ListN.{replicate, length-replicate, get_or-replicate}
-use Rattle.bytes.proofs.Putting.{Begun, begin, turn, again, done}
+use Rattle.byte_rows.proofs.Putting.{Begun, begin, turn, again, done}
 use Rattle.line.proofs.put_zeros.Statement.{statement}
 use Rattle.line.proofs.put_zeros.Tie as tie
 

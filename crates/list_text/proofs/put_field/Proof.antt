@@ -2,7 +2,7 @@
 use mathlib.Core.Path.{◌∙◌}
 use native.Mathlib.Omega.{arith}
 use lib.ListN.{length-set}
-use Rattle.bytes.proofs.Putting.{puts_one, puts_both}
+use Rattle.byte_rows.proofs.Putting.{puts_one, puts_both}
 use borrow.Author.Rules.{rules}
 use Rattle.list_text.proofs.put_field.Statement.{statement}
 use Rattle.list_text.proofs.put_field.Tie as tie

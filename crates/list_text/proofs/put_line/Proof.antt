@@ -2,7 +2,7 @@
 use mathlib.Core.Path.{◌∙◌}
 use native.Mathlib.Omega.{arith}
 use lib.ListN.{length-set}
-use Rattle.bytes.proofs.Putting.{puts_none}
+use Rattle.byte_rows.proofs.Putting.{puts_none}
 use Rattle.list_text.proofs.EachKind.{no_line, line_parts, line_put}
 use borrow.Author.Rules.{rules}
 use Rattle.list_text.proofs.put_line.Statement.{statement}

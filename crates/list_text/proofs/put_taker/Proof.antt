@@ -1,7 +1,7 @@
 -- `list_text::put_taker` meets its contract. Assumes nothing.
 use native.Mathlib.Omega.{arith}
 use borrow.Author.Tests.{eq-eqb, ne_eqb}
-use Rattle.bytes.proofs.Putting.{puts_none}
+use Rattle.byte_rows.proofs.Putting.{puts_none}
 use borrow.Author.Rules.{rules}
 use Rattle.list_text.proofs.put_taker.Statement.{statement}
 use Rattle.list_text.proofs.put_taker.Tie as tie

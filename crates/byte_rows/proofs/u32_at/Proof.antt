@@ -1,8 +1,8 @@
 -- `bytes::u32_at` meets its contract: four bytes, the lowest first. Assumes nothing.
-use Rattle.bytes.proofs.Reading.{four_bytes}
+use Rattle.byte_rows.proofs.Reading.{four_bytes}
 use borrow.Author.Rules.{rules}
-use Rattle.bytes.proofs.u32_at.Statement.{statement}
-use Rattle.bytes.proofs.u32_at.Tie as tie
+use Rattle.byte_rows.proofs.u32_at.Statement.{statement}
+use Rattle.byte_rows.proofs.u32_at.Tie as tie
 
 shared-slice-read-wide : tie.Need-shared-slice-read-wide
 shared-slice-read-wide c = search rules

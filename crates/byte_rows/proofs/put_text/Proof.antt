@@ -1,27 +1,29 @@
--- `bytes::put_little` meets its contract: the first i bytes are put, and m has the others. Assumes nothing.
+-- `bytes::put_text` meets its contract. Assumes nothing.
+use mathlib.Core.Path.{refl}
 use Prim.Native.Nat.{◌-◌}
 use native.Mathlib.Omega.{arith}
-use Rattle.bytes.proofs.Little.{Little, begin, turn, again, done}
-use Rattle.bytes.proofs.put_little.Statement.{statement}
-use Rattle.bytes.proofs.put_little.Tie as tie
+use lib.ListN.{length}
+use Rattle.byte_rows.proofs.Putting.{Begun, begin, turn, again, done}
+use Rattle.byte_rows.proofs.put_text.Statement.{statement}
+use Rattle.byte_rows.proofs.put_text.Tie as tie
 
 abbrev invariant-loop : tie.invariant-loop
-invariant-loop out₀ at k n m₀ i₀ out m i = Little out₀ at k n out m i
+invariant-loop out₀ at text i₀ out i = Begun out₀ at text out i
 
 abbrev decreases-loop : tie.decreases-loop
-decreases-loop out₀ at k n m₀ i₀ out m i = k - i
+decreases-loop out₀ at text i₀ out i = length text - i
 
 loop-holds : tie.Need-loop-init invariant-loop decreases-loop
-loop-holds c = begin _ c.requires
+loop-holds c = begin c.requires
 
-cast-out : tie.Need-overflow-cast-out invariant-loop decreases-loop
-cast-out c = omega arith
+shared-slice-read-out : tie.Need-shared-slice-read-out invariant-loop decreases-loop
+shared-slice-read-out c = omega arith
 
 add-out : tie.Need-overflow-add-out invariant-loop decreases-loop
-add-out c = omega (arith, turn c.before.loop.invariant c.loop-test.true)
+add-out c = omega (arith, turn c.before.before.loop.invariant c.before.loop-test.true)
 
 slice-write-out : tie.Need-slice-write-out invariant-loop decreases-loop
-slice-write-out c = omega (arith, turn c.before.loop.invariant c.loop-test.true)
+slice-write-out c = omega (arith, turn c.before.before.loop.invariant c.before.loop-test.true)
 
 add-i : tie.Need-overflow-add-i invariant-loop decreases-loop
 add-i c = omega arith
@@ -30,25 +32,25 @@ loop-less : tie.Need-loop-smaller invariant-loop decreases-loop
 loop-less c = omega arith
 
 loop-again : tie.Need-loop-preserved invariant-loop decreases-loop
-loop-again c = again c.before.loop.invariant c.loop-test.true
+loop-again c = again c.before.before.loop.invariant _ c.before.loop-test.true refl
 
 add-result : tie.Need-overflow-add-result invariant-loop decreases-loop
-add-result c = omega (arith, c.before.loop.invariant.begun)
+add-result c = omega (arith, c.before.loop.invariant)
 
 same_length : tie.Need-same-length invariant-loop decreases-loop
-same_length c = c.before.loop.invariant.begun.only.long
+same_length c = c.before.loop.invariant.only.long
 
 returns : tie.Need-returns invariant-loop decreases-loop
 returns c = done c.before.loop.invariant c.loop-test.false
 
-pub put-little-spec : {M : Type 1} → statement M
-put-little-spec =
+pub put-text-spec : {M : Type 1} → statement M
+put-text-spec =
     tie.close
     (tie.spec
     invariant-loop
     decreases-loop
     loop-holds
-    cast-out
+    shared-slice-read-out
     add-out
     slice-write-out
     add-i

@@ -2,16 +2,16 @@
 use mathlib.Core.Path.{◌∙◌}
 use native.Mathlib.Omega.{arith}
 use Rattle.rule_laws.proofs.Digits.{decimal_one}
-use Rattle.bytes.proofs.Numbers.{one_asks, tenth_asks, last_asks, number_done}
+use Rattle.byte_rows.proofs.Numbers.{one_asks, tenth_asks, last_asks, number_done}
 use Prim.Native.Nat.{ℕ, ◌<◌}
 use borrow.Fn.Kinds.{In}
 use borrow.Fn.PlainCycle.{Measures, is, falls, and}
-use Rattle.bytes.proofs.put_number.Reads as put-number
-use Rattle.bytes.proofs.put_number.Kinds as put-number-kinds
-use Rattle.bytes.proofs.+put_number.Lts-put_number as put-number-lts
-use Rattle.bytes.proofs.put_digit.Reads as put-digit-reads
-use Rattle.bytes.proofs.+put_number.{statement}
-use Rattle.bytes.proofs.+put_number.Tie.{close}
+use Rattle.byte_rows.proofs.put_number.Reads as put-number
+use Rattle.byte_rows.proofs.put_number.Kinds as put-number-kinds
+use Rattle.byte_rows.proofs.+put_number.Lts-put_number as put-number-lts
+use Rattle.byte_rows.proofs.put_digit.Reads as put-digit-reads
+use Rattle.byte_rows.proofs.+put_number.{statement}
+use Rattle.byte_rows.proofs.+put_number.Tie.{close}
 
 abbrev μ_put_number : Measures 1 put-number-kinds.ps ℕ
 μ_put_number κs a = a.1.1.0

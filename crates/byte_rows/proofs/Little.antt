@@ -5,9 +5,9 @@ use Prim.Native.Nat.{ℕ, suc, ◌+◌, ◌-◌, ◌/◌, ◌%◌, ◌≤◌, �
 use native.Mathlib.Omega.{arith}
 use lib.ListN.{length, get_or, set, drop}
 use lib.Seq.{get_or-drop, drop-drop}
-use Rattle.bytes.specs.Put.{Puts}
-use Rattle.bytes.proofs.Putting as put
-use Rattle.bytes.proofs.Putting.{Begun}
+use Rattle.byte_rows.specs.Put.{Puts}
+use Rattle.byte_rows.proofs.Putting as put
+use Rattle.byte_rows.proofs.Putting.{Begun}
 use Rattle.rules.specs.Bytes.{little}
 use Rattle.rule_laws.proofs.Bytes.{little_long}
 

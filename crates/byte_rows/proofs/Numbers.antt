@@ -6,8 +6,8 @@ use native.Mathlib.Omega.{arith}
 use lib.ListN.{length, length-append}
 use Rattle.rules.specs.Line.{decimal}
 use Rattle.rule_laws.proofs.Digits.{decimal_one, decimal_more}
-use Rattle.bytes.specs.Put.{Puts, DigitAsks, NumberAsks}
-use Rattle.bytes.proofs.Putting.{puts_both}
+use Rattle.byte_rows.specs.Put.{Puts, DigitAsks, NumberAsks}
+use Rattle.byte_rows.proofs.Putting.{puts_both}
 
 module _ {w : List ℕ} {at n : ℕ} (p : NumberAsks w at n) where
   -- the digit of a number below ten has room

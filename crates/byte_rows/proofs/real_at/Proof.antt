@@ -1,8 +1,8 @@
 -- `bytes::real_at` meets its contract: eight bytes are the bits. Assumes nothing.
-use Rattle.bytes.proofs.Reading.{eight_bytes}
+use Rattle.byte_rows.proofs.Reading.{eight_bytes}
 use borrow.Author.Rules.{rules}
-use Rattle.bytes.proofs.real_at.Statement.{statement}
-use Rattle.bytes.proofs.real_at.Tie as tie
+use Rattle.byte_rows.proofs.real_at.Statement.{statement}
+use Rattle.byte_rows.proofs.real_at.Tie as tie
 
 u32-at-requires : tie.Need-u32-at-requires
 u32-at-requires c κs = search rules

@@ -1,8 +1,8 @@
 -- `bytes::float` meets its contract: a NaN's pattern is read as such, and any other is a number's. Assumes nothing.
-use Rattle.bytes.proofs.Reading.{no_number, number}
+use Rattle.byte_rows.proofs.Reading.{no_number, number}
 use borrow.Author.Rules.{rules}
-use Rattle.bytes.proofs.float.Statement.{statement}
-use Rattle.bytes.proofs.float.Tie as tie
+use Rattle.byte_rows.proofs.float.Statement.{statement}
+use Rattle.byte_rows.proofs.float.Tie as tie
 
 returns : tie.Need-returns
 returns c = no_number _ c.if1.true

@@ -7,7 +7,7 @@ use lib.ListN.{length, get_or, set, drop, length-append, length-drop, take-appen
 use lib.Seq.{get_or-drop, ext_get_or}
 use Rattle.rows.specs.Region.{part, Out.above, Apart.before, Only, Holds}
 use Rattle.rows.proofs.Regions.{length_part, get_d_part, part_add, only_none, only_both, only_more, only_next, holds_none, holds_next, kept}
-use Rattle.bytes.specs.Put.{Puts}
+use Rattle.byte_rows.specs.Put.{Puts}
 
 -- nothing is put
 pub puts_none : {w : List ℕ} {at : ℕ} → at ≤ length w → Puts w at [] w at

@@ -5,7 +5,7 @@ ghost use Rattle.std.specs.Float.{binary64};
 ghost use Rattle.rules.specs.Bytes as rule;
 ghost use Rattle.rules.specs.Line.{decimal};
 ghost use Rattle.rules.specs.Ply.{real_at};
-ghost use Rattle.bytes.specs.Put as by;
+ghost use Rattle.byte_rows.specs.Put as by;
 
 // ---- read
 

@@ -1,8 +1,8 @@
 -- `bytes::put_digit` meets its contract. Assumes nothing.
-use Rattle.bytes.proofs.Putting.{puts_one}
+use Rattle.byte_rows.proofs.Putting.{puts_one}
 use borrow.Author.Rules.{rules}
-use Rattle.bytes.proofs.put_digit.Statement.{statement}
-use Rattle.bytes.proofs.put_digit.Tie as tie
+use Rattle.byte_rows.proofs.put_digit.Statement.{statement}
+use Rattle.byte_rows.proofs.put_digit.Tie as tie
 
 cast-out : tie.Need-overflow-cast-out
 cast-out c = search rules

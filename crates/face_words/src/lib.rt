@@ -6,7 +6,7 @@ ghost use Rattle.face_words.specs.Words as word;
 ghost use Rattle.face_words.specs.Views.{seen_as, ViewAsks, CornerAsks};
 
 // The corners of a face as it stands.
-#[derive(Drop)]
+#[derive(Clone, Copy)]
 pub struct Corners {
     pub a: u32,
     pub b: u32,

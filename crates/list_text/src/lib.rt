@@ -7,7 +7,7 @@ ghost use Rattle.list_text.specs.Written as by;
 // Where the rows stand in the work room, for `points` points and `faces` faces of the input: the fate of each face from `fates` on; `splits` old
 // points from `olds` on; of the `left` faces that stand after pass 5 the point at each corner from `column` on, and the corners sorted by it from
 // `sorted` on; and from `unused` on 1 for each point that is told as isolated.
-#[derive(Drop)]
+#[derive(Clone, Copy)]
 pub struct Rows {
     pub points: usize,
     pub faces: usize,

@@ -7,7 +7,7 @@ ghost use Rattle.rules.specs.Float as rule;
 ghost use Rattle.measure.specs.Measure.{point_of, shape_of, number_of, face_of, Corners};
 
 // A point, and also a difference of two points.
-#[derive(Drop)]
+#[derive(Clone, Copy)]
 pub struct Vector {
     pub x: f64,
     pub y: f64,
@@ -15,7 +15,7 @@ pub struct Vector {
 }
 
 // What the degeneracy test finds: nothing, two corners equal, or a sine not above the threshold.
-#[derive(Drop)]
+#[derive(Clone, Copy)]
 pub enum Form {
     Good,
     Repeated,

@@ -5,7 +5,7 @@ ghost use Rattle.std.specs.Prelude.{◌≤◌, length};
 use write_list::Listed;
 
 // How long the rooms are that are lent, and what entry 3 of the last part holds.
-#[derive(Drop)]
+#[derive(Clone, Copy)]
 struct Lent {
     text: usize,
     corners: usize,

@@ -11,7 +11,7 @@ ghost use Rattle.patch_sums.specs.Sums.{patch_of, record_at, BeginAsks, BeginGiv
 use measure::Vector;
 
 // A patch's record: its area and six box numbers.
-#[derive(Drop)]
+#[derive(Clone, Copy)]
 pub struct Patch {
     pub area: f64,
     pub min_x: f64,

@@ -16,7 +16,7 @@ use patches_refusal::Rooms;
 use refuse::Verdict;
 
 // A float setting of the filter: absent, or it holds its number.
-#[derive(Drop)]
+#[derive(Clone, Copy)]
 pub enum Limit {
     Absent,
     Limit(f64),
@@ -30,7 +30,7 @@ pub enum Whole {
 }
 
 // The filter's five settings.
-#[derive(Drop)]
+#[derive(Clone, Copy)]
 pub struct Filter {
     pub min_faces: Whole,
     pub min_area: Limit,

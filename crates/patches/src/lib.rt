@@ -23,7 +23,7 @@ pub enum Limit {
 }
 
 // A setting that is a whole number.
-#[derive(Drop)]
+#[derive(Clone, Copy)]
 pub enum Whole {
     Absent,
     Limit(usize),

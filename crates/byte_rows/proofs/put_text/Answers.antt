@@ -1,0 +1,27 @@
+-- `bytes::put_text` meets its contract. Assumes nothing.
+use mathlib.Core.Path.{refl}
+use Prim.Native.Nat.{◌-◌}
+use native.Mathlib.Omega.{arith}
+use Rattle.byte_rows.proofs.Putting.{begin, turn, again, done}
+use Rattle.byte_rows.proofs.put_text.Goals as goal
+
+pub loop-i-init : goal.loop-i-init
+loop-i-init c = begin c.requires
+
+pub overflow_add-out : goal.overflow_add-out
+overflow_add-out c = omega (arith, turn c.loop-i.invariant c.loop-i-test.true)
+
+pub bounds-out-at : goal.bounds-out-at
+bounds-out-at c = omega (arith, turn c.loop-i.invariant c.loop-i-test.true)
+
+pub loop-i-preserved : goal.loop-i-preserved
+loop-i-preserved c = again c.loop-i.invariant _ c.loop-i-test.true refl
+
+pub overflow_add-result : goal.overflow_add-result
+overflow_add-result c = omega (arith, c.loop-i.invariant)
+
+pub shape_of-out : goal.shape_of-out
+shape_of-out c = c.loop-i.invariant.only.long
+
+pub returns : goal.returns
+returns c = done c.loop-i.invariant c.loop-i-test.false

@@ -1,0 +1,6 @@
+-- `bytes::real_at` meets its contract: eight bytes are the bits. Assumes nothing.
+use Rattle.byte_rows.proofs.Reading.{eight_bytes}
+use Rattle.byte_rows.proofs.real_at.Goals as goal
+
+pub returns : goal.returns
+returns c = eight_bytes _ _ _ _ _ c.u32_at-low.ensures c.u32_at-high.ensures c.float.ensures

@@ -1,0 +1,23 @@
+-- `edge_check::sound` meets its contract: a repeated corner decides, or the number of directed edges, or the groups. Assumes nothing.
+use mathlib.Core.Path.{sym, ◌∙◌}
+use native.Mathlib.Omega.{arith}
+use Rattle.edge_check.proofs.Tabling.{table_asks, not_distinct, not_once, by_groups}
+use borrow.Author.Tests.{not-true, not-false}
+use Rattle.edge_check.proofs.sound.Goals as goal
+
+pub returns-then-not-distinct : goal.returns-then-not-distinct
+returns-then-not-distinct c = not_distinct c.requires (sym (not-true _ c.if-not-distinct.true) ∙ c.distinct.ensures)
+
+pub table-requires : goal.table-requires
+table-requires c = table_asks c.requires
+
+pub returns-then-table-faces : goal.returns-then-table-faces
+returns-then-table-faces c = let t = c.before.before.before in
+    let d = t.before.before in
+    not_once d.requires (sym (not-false _ d.if-not-distinct.false) ∙ d.distinct.ensures) t.table.ensures c.if-table-faces.true
+
+pub returns : goal.returns
+returns c = let g = c.before.before in
+    let t = g.before.before.before.before.before in
+    let d = t.before.before in
+    by_groups d.requires (sym (not-false _ d.if-not-distinct.false) ∙ d.distinct.ensures) t.table.ensures (omega arith) g.one_group.ensures

@@ -1,0 +1,170 @@
+-- `fates::record_degenerate` meets its contract: the amounts of the places passed are added. Assumes nothing.
+use Prim.Native.Nat.{◌-◌}
+use native.Mathlib.Omega.{arith}
+use Rattle.fates.proofs.Sums.{begin, turn, again, done, shape_small, why_read}
+use Rattle.fates.proofs.record_degenerate.Goals as goal
+
+pub loop-i-init : goal.loop-i-init
+loop-i-init c = let start = c.before.before.before in
+    begin _ (shape_small start.args.faces.now start.args.work.now start.args.marks) start.requires.0.add
+
+pub overflow_mul-i : goal.overflow_mul-i
+overflow_mul-i c = let head = c.before in
+    let start = head.before.before.before.before in
+    omega (arith, turn start.requires.0.add head.loop-i.invariant c.loop-i-test.true, start.requires.0.flags, start.requires.1)
+
+pub offset_bounds-faces-i : goal.offset_bounds-faces-i
+offset_bounds-faces-i c = let head = c.before in
+    let start = head.before.before.before.before in
+    omega (arith, turn start.requires.0.add head.loop-i.invariant c.loop-i-test.true, start.requires.0.flags, start.requires.1)
+
+pub bounds-faces-i : goal.bounds-faces-i
+bounds-faces-i c = let turning = c.before in
+    let head = turning.before in
+    let start = head.before.before.before.before in
+    omega (arith, turn start.requires.0.add head.loop-i.invariant turning.loop-i-test.true, start.requires.0.flags, start.requires.1)
+
+pub overflow_mul-i-in-loop-i : goal.overflow_mul-i-in-loop-i
+overflow_mul-i-in-loop-i c = let turning = c.before in
+    let head = turning.before in
+    let start = head.before.before.before.before in
+    omega (arith, turn start.requires.0.add head.loop-i.invariant turning.loop-i-test.true, start.requires.0.flags, start.requires.1)
+
+pub overflow_add-i : goal.overflow_add-i
+overflow_add-i c = let turning = c.before in
+    let head = turning.before in
+    let start = head.before.before.before.before in
+    omega (arith, turn start.requires.0.add head.loop-i.invariant turning.loop-i-test.true, start.requires.0.flags, start.requires.1)
+
+pub offset_bounds-faces-i-in-loop-i : goal.offset_bounds-faces-i-in-loop-i
+offset_bounds-faces-i-in-loop-i c = let turning = c.before in
+    let head = turning.before in
+    let start = head.before.before.before.before in
+    omega (arith, turn start.requires.0.add head.loop-i.invariant turning.loop-i-test.true, start.requires.0.flags, start.requires.1)
+
+pub bounds-faces-i-in-loop-i : goal.bounds-faces-i-in-loop-i
+bounds-faces-i-in-loop-i c = let turning = c.before.before in
+    let head = turning.before in
+    let start = head.before.before.before.before in
+    omega (arith, turn start.requires.0.add head.loop-i.invariant turning.loop-i-test.true, start.requires.0.flags, start.requires.1)
+
+pub overflow_mul-i-in-loop-i-2 : goal.overflow_mul-i-in-loop-i-2
+overflow_mul-i-in-loop-i-2 c = let turning = c.before.before in
+    let head = turning.before in
+    let start = head.before.before.before.before in
+    omega (arith, turn start.requires.0.add head.loop-i.invariant turning.loop-i-test.true, start.requires.0.flags, start.requires.1)
+
+pub overflow_add-i-in-loop-i : goal.overflow_add-i-in-loop-i
+overflow_add-i-in-loop-i c = let turning = c.before.before in
+    let head = turning.before in
+    let start = head.before.before.before.before in
+    omega (arith, turn start.requires.0.add head.loop-i.invariant turning.loop-i-test.true, start.requires.0.flags, start.requires.1)
+
+pub offset_bounds-faces-i-in-loop-i-2 : goal.offset_bounds-faces-i-in-loop-i-2
+offset_bounds-faces-i-in-loop-i-2 c = let turning = c.before.before in
+    let head = turning.before in
+    let start = head.before.before.before.before in
+    omega (arith, turn start.requires.0.add head.loop-i.invariant turning.loop-i-test.true, start.requires.0.flags, start.requires.1)
+
+pub bounds-faces-i-in-loop-i-2 : goal.bounds-faces-i-in-loop-i-2
+bounds-faces-i-in-loop-i-2 c = let turning = c.before.before.before in
+    let head = turning.before in
+    let start = head.before.before.before.before in
+    omega (arith, turn start.requires.0.add head.loop-i.invariant turning.loop-i-test.true, start.requires.0.flags, start.requires.1)
+
+pub overflow_add-marks : goal.overflow_add-marks
+overflow_add-marks c = let turning = c.before.before.before.before in
+    let head = turning.before in
+    let start = head.before.before.before.before in
+    omega (arith, turn start.requires.0.add head.loop-i.invariant turning.loop-i-test.true, start.requires.0.flags, start.requires.1)
+
+pub offset_bounds-work-marks : goal.offset_bounds-work-marks
+offset_bounds-work-marks c = let turning = c.before.before.before.before in
+    let head = turning.before in
+    let start = head.before.before.before.before in
+    omega (arith, turn start.requires.0.add head.loop-i.invariant turning.loop-i-test.true, start.requires.0.flags, start.requires.1)
+
+pub bounds-work-marks : goal.bounds-work-marks
+bounds-work-marks c = let turning = c.before.before.before.before.before in
+    let head = turning.before in
+    let start = head.before.before.before.before in
+    omega (arith, turn start.requires.0.add head.loop-i.invariant turning.loop-i-test.true, start.requires.0.flags, start.requires.1)
+
+pub offset_bounds-origins-i : goal.offset_bounds-origins-i
+offset_bounds-origins-i c = let turning = c.before.before.before.before.before.before in
+    let head = turning.before in
+    let start = head.before.before.before.before in
+    omega (arith, turn start.requires.0.add head.loop-i.invariant turning.loop-i-test.true, start.requires.0.flags, start.requires.1)
+
+pub bounds-origins-i : goal.bounds-origins-i
+bounds-origins-i c = let turning = c.before.before.before.before.before.before.before in
+    let head = turning.before in
+    let start = head.before.before.before.before in
+    omega (arith, turn start.requires.0.add head.loop-i.invariant turning.loop-i-test.true, start.requires.0.flags, start.requires.1)
+
+pub overflow_cast-at : goal.overflow_cast-at
+overflow_cast-at c = let turning = c.before.before.before.before.before.before.before in
+    let head = turning.before in
+    let start = head.before.before.before.before in
+    omega (arith, turn start.requires.0.add head.loop-i.invariant turning.loop-i-test.true, start.requires.0.flags, start.requires.1)
+
+pub overflow_add-at : goal.overflow_add-at
+overflow_add-at c = let turning = c.before.before.before.before.before.before.before in
+    let head = turning.before in
+    let start = head.before.before.before.before in
+    omega (arith, turn start.requires.0.add head.loop-i.invariant turning.loop-i-test.true, start.requires.0.flags, start.requires.1)
+
+pub offset_bounds-work-at : goal.offset_bounds-work-at
+offset_bounds-work-at c = let turning = c.before.before.before.before.before.before.before in
+    let head = turning.before in
+    let start = head.before.before.before.before in
+    omega (arith, turn start.requires.0.add head.loop-i.invariant turning.loop-i-test.true, start.requires.0.flags, start.requires.1)
+
+pub bounds-work-at : goal.bounds-work-at
+bounds-work-at c = let turning = c.before.before.before.before.before.before.before.before in
+    let head = turning.before in
+    let start = head.before.before.before.before in
+    omega (arith, turn start.requires.0.add head.loop-i.invariant turning.loop-i-test.true, start.requires.0.flags, start.requires.1)
+
+pub overflow_add-work : goal.overflow_add-work
+overflow_add-work c = let at-flagged = c.before.before in
+    let at-why = at-flagged.before.before in
+    let turning = at-why.before.before.before.before in
+    let head = turning.before in
+    let start = head.before.before.before.before in
+    omega (arith, turn start.requires.0.add head.loop-i.invariant turning.loop-i-test.true, why_read start.requires.0 head.loop-i.invariant turning.loop-i-test.true start.args.faces.now _ _ at-flagged.flagged-told.ensures at-why.why-reason.ensures)
+
+pub offset_bounds-work-at-in-loop-i : goal.offset_bounds-work-at-in-loop-i
+offset_bounds-work-at-in-loop-i c = let turning = c.before.before.before.before.before.before.before.before in
+    let head = turning.before in
+    let start = head.before.before.before.before in
+    omega (arith, turn start.requires.0.add head.loop-i.invariant turning.loop-i-test.true, start.requires.0.flags, start.requires.1)
+
+pub bounds-work-at-in-loop-i : goal.bounds-work-at-in-loop-i
+bounds-work-at-in-loop-i c = let turning = c.before.before.before.before.before.before.before.before in
+    let head = turning.before in
+    let start = head.before.before.before.before in
+    omega (arith, turn start.requires.0.add head.loop-i.invariant turning.loop-i-test.true, start.requires.0.flags, start.requires.1)
+
+pub overflow_add-i-in-loop-i-2 : goal.overflow_add-i-in-loop-i-2
+overflow_add-i-in-loop-i-2 c = let turning = c.before.before.before.before.before.before.before.before in
+    let head = turning.before in
+    let start = head.before.before.before.before in
+    omega (arith, turn start.requires.0.add head.loop-i.invariant turning.loop-i-test.true, start.requires.0.flags, start.requires.1)
+
+pub loop-i-preserved : goal.loop-i-preserved
+loop-i-preserved c = let at-flagged = c.before.before in
+    let at-why = at-flagged.before.before in
+    let turning = at-why.before.before.before.before in
+    let head = turning.before in
+    let start = head.before.before.before.before in
+    again start.requires.0.add head.loop-i.invariant turning.loop-i-test.true _ (why_read start.requires.0 head.loop-i.invariant turning.loop-i-test.true start.args.faces.now _ _ at-flagged.flagged-told.ensures at-why.why-reason.ensures)
+
+pub shape_of-work : goal.shape_of-work
+shape_of-work c = let head = c.before in
+    head.loop-i.invariant.only.long
+
+pub returns : goal.returns
+returns c = let head = c.before in
+    let start = head.before.before.before.before in
+    done start.requires.0.add head.loop-i.invariant c.loop-i-test.false

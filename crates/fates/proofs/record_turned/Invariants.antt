@@ -1,0 +1,11 @@
+-- `fates::record_turned` meets its contract: the amounts of the places passed are added. Assumes nothing.
+use Prim.Native.Nat.{◌-◌}
+use Rattle.fates.specs.Adding.{by_turn}
+use Rattle.fates.proofs.Sums.{Adding}
+use Rattle.fates.proofs.record_turned.Given as goal
+
+abbrev pub invariant-loop-i : goal.invariant-loop-i
+invariant-loop-i l = Adding (by_turn l.input l.faces l.origins) l.origins l.n l.initial.work l.fates l.work l.i
+
+abbrev pub decreases-loop-i : goal.decreases-loop-i
+decreases-loop-i l = l.n - l.i

@@ -1,0 +1,66 @@
+-- `lending::mend` meets its contract: the lists are copied, the faces numbered, and the six passes follow each other. Assumes nothing.
+use native.Mathlib.Omega.{arith}
+use Rattle.lending.proofs.Mending.{copies_points, copies_faces, numbers_faces, turns_ask, mend_done}
+use Rattle.lending.proofs.mend.Goals as goal
+
+pub overflow_mul-p : goal.overflow_mul-p
+overflow_mul-p c = omega (arith, c.requires.input.faces_fine)
+
+pub copy_points-requires : goal.copy_points-requires
+copy_points-requires c = copies_points c.requires
+
+pub overflow_mul-n : goal.overflow_mul-n
+overflow_mul-n c = omega (arith, c.requires.input.faces_fine)
+
+pub copy_row-requires : goal.copy_row-requires
+copy_row-requires c = copies_faces c.requires
+
+pub number-requires : goal.number-requires
+number-requires c = numbers_faces c.requires
+
+pub in_turn-requires : goal.in_turn-requires
+in_turn-requires c = let at_number = c.before.before.before.before.before.before in
+    let at-faces = at_number.before.before.before.before in
+    let at-points = at-faces.before.before.before.before in
+    let start = at-points.before.before.before.before.before.before.before.before in
+    turns_ask start.requires at-points.copy_points.ensures at-faces.copy_row.ensures at_number.number.ensures
+
+pub shape_of-out_points : goal.shape_of-out_points
+shape_of-out_points c = let at-turns = c.before.before.before.before.before.before.before.before in
+    let at_number = at-turns.before.before.before.before.before.before.before in
+    let at-faces = at_number.before.before.before.before in
+    let at-points = at-faces.before.before.before.before in
+    let start = at-points.before.before.before.before.before.before.before.before in
+    (mend_done start.requires at-points.copy_points.ensures at-faces.copy_row.ensures at_number.number.ensures at-turns.in_turn.ensures).only_points.long
+
+pub shape_of-out_faces : goal.shape_of-out_faces
+shape_of-out_faces c = let at-turns = c.before.before.before.before.before.before.before.before in
+    let at_number = at-turns.before.before.before.before.before.before.before in
+    let at-faces = at_number.before.before.before.before in
+    let at-points = at-faces.before.before.before.before in
+    let start = at-points.before.before.before.before.before.before.before.before in
+    (mend_done start.requires at-points.copy_points.ensures at-faces.copy_row.ensures at_number.number.ensures at-turns.in_turn.ensures).only_faces.long
+
+pub shape_of-origins : goal.shape_of-origins
+shape_of-origins c = let at-turns = c.before.before.before.before.before.before.before.before in
+    let at_number = at-turns.before.before.before.before.before.before.before in
+    let at-faces = at_number.before.before.before.before in
+    let at-points = at-faces.before.before.before.before in
+    let start = at-points.before.before.before.before.before.before.before.before in
+    (mend_done start.requires at-points.copy_points.ensures at-faces.copy_row.ensures at_number.number.ensures at-turns.in_turn.ensures).only_origins.long
+
+pub shape_of-work : goal.shape_of-work
+shape_of-work c = let at-turns = c.before.before.before.before.before.before.before.before in
+    let at_number = at-turns.before.before.before.before.before.before.before in
+    let at-faces = at_number.before.before.before.before in
+    let at-points = at-faces.before.before.before.before in
+    let start = at-points.before.before.before.before.before.before.before.before in
+    (mend_done start.requires at-points.copy_points.ensures at-faces.copy_row.ensures at_number.number.ensures at-turns.in_turn.ensures).only_work.long
+
+pub returns : goal.returns
+returns c = let at-turns = c.before.before.before.before.before.before.before.before in
+    let at_number = at-turns.before.before.before.before.before.before.before in
+    let at-faces = at_number.before.before.before.before in
+    let at-points = at-faces.before.before.before.before in
+    let start = at-points.before.before.before.before.before.before.before.before in
+    mend_done start.requires at-points.copy_points.ensures at-faces.copy_row.ensures at_number.number.ensures at-turns.in_turn.ensures

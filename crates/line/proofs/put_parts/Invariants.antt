@@ -1,0 +1,11 @@
+-- `line::put_parts` meets its contract: after k labels the line of their numbers stands in front. Assumes nothing.
+use Prim.Native.Nat.{◌-◌}
+use Rattle.line.specs.Put.{label_count}
+use Rattle.line.proofs.Whole.{Kept}
+use Rattle.line.proofs.put_parts.Given as goal
+
+abbrev pub invariant-loop-k : goal.invariant-loop-k
+invariant-loop-k l = Kept l.counts l.initial.line l.line l.at l.k
+
+abbrev pub decreases-loop-k : goal.decreases-loop-k
+decreases-loop-k l = label_count - l.k

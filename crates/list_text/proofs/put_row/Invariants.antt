@@ -1,0 +1,11 @@
+-- `list_text::put_row` meets its contract: the lines of the entries before i are put. Assumes nothing.
+use Prim.Native.Nat.{◌-◌}
+use Rattle.list_text.specs.Written.{line_at}
+use Rattle.list_text.proofs.Onward.{Rowed}
+use Rattle.list_text.proofs.put_row.Given as goal
+
+abbrev pub invariant-loop-i : goal.invariant-loop-i
+invariant-loop-i l = Rowed (line_at l.work l.row l.first l.last) l.n l.initial.text l.at l.text l.next l.i
+
+abbrev pub decreases-loop-i : goal.decreases-loop-i
+decreases-loop-i l = l.n - l.i

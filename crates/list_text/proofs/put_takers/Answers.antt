@@ -1,0 +1,38 @@
+-- `list_text::put_takers` meets its contract: the fields at the corners before q are put. Assumes nothing.
+use Prim.Native.Nat.{◌-◌}
+use native.Mathlib.Omega.{arith}
+use Rattle.list_text.proofs.Takers.{corner_at, take_begin, take_room, take_on, take_done}
+use Rattle.list_text.proofs.put_takers.Goals as goal
+
+pub loop-q-init : goal.loop-q-init
+loop-q-init c = take_begin c.requires.0 c.requires.1
+
+pub overflow_add-i : goal.overflow_add-i
+overflow_add-i c = omega (arith, corner_at c.requires.0 c.loop-q.q c.loop-q-test.true)
+
+pub offset_bounds-work-rows : goal.offset_bounds-work-rows
+offset_bounds-work-rows c = omega (arith, corner_at c.requires.0 c.loop-q.q c.loop-q-test.true)
+
+pub bounds-work-rows : goal.bounds-work-rows
+bounds-work-rows c = omega (arith, corner_at c.requires.0 c.loop-q.q c.loop-q-test.true)
+
+pub overflow_cast-i : goal.overflow_cast-i
+overflow_cast-i c = omega (arith, corner_at c.requires.0 c.loop-q.q c.loop-q-test.true)
+
+pub put_taker-next-requires : goal.put_taker-next-requires
+put_taker-next-requires c = ((corner_at c.requires.0 c.loop-q.q c.loop-q-test.true).has_origin, take_room c.requires.0 c.loop-q.invariant c.loop-q-test.true)
+
+pub overflow_add-q : goal.overflow_add-q
+overflow_add-q c = omega (arith, c.loop-q-test.true)
+
+pub loop-q-smaller : goal.loop-q-smaller
+loop-q-smaller c = omega (arith, c.loop-q-test.true)
+
+pub loop-q-preserved : goal.loop-q-preserved
+loop-q-preserved c = take_on c.requires.0 c.loop-q.invariant c.loop-q-test.true c.put_taker-next.ensures
+
+pub shape_of-text : goal.shape_of-text
+shape_of-text c = c.loop-q.invariant.sofar.puts.only.long
+
+pub returns : goal.returns
+returns c = take_done c.requires.0 c.loop-q.invariant c.loop-q-test.false

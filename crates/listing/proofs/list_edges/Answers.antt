@@ -1,0 +1,25 @@
+-- `listing::list_edges` meets its contract: the edges are written and the rest is cleared. Assumes nothing.
+use native.Mathlib.Omega.{arith}
+use Rattle.listing.proofs.Ends.{fewer, rest_fits, room_done}
+use Rattle.listing.proofs.list_edges.Goals as goal
+
+pub overflow_mul-m : goal.overflow_mul-m
+overflow_mul-m c = let p = c.requires in
+    omega (arith, fewer p, p.room)
+
+pub overflow_mul-m-2 : goal.overflow_mul-m-2
+overflow_mul-m-2 c = let p = c.requires in
+    omega (arith, fewer p, p.room)
+
+pub overflow_sub-faces : goal.overflow_sub-faces
+overflow_sub-faces c = let p = c.requires in
+    omega (arith, fewer p, p.room)
+
+pub wipe-requires : goal.wipe-requires
+wipe-requires c = let at-put-edges = c.before.before.before in
+    rest_fits at-put-edges.requires at-put-edges.put_edges.ensures
+
+pub returns : goal.returns
+returns c = let at-wipe = c.before.before in
+    let at-put-edges = at-wipe.before.before.before.before in
+    λ q. room_done q at-put-edges.put_edges.ensures at-wipe.wipe.ensures.0 at-wipe.wipe.ensures.1

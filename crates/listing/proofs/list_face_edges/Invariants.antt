@@ -1,0 +1,11 @@
+-- `listing::list_face_edges` meets its contract: the edges of the first i faces stand at the front. Assumes nothing.
+use Prim.Native.Nat.{◌-◌, ◌/◌}
+use lib.ListN.{length}
+use Rattle.listing.proofs.Sides.{Sides}
+use Rattle.listing.proofs.list_face_edges.Given as goal
+
+abbrev pub invariant-loop-i : goal.invariant-loop-i
+invariant-loop-i l = Sides l.work l.faces l.at l.initial.face_edges l.face_edges l.i
+
+abbrev pub decreases-loop-i : goal.decreases-loop-i
+decreases-loop-i l = length l.faces / 3 - l.i

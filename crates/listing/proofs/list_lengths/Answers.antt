@@ -1,0 +1,11 @@
+-- `listing::list_lengths` meets its contract: the lengths are written and the rest is cleared. Assumes nothing.
+use Rattle.listing.proofs.Lengths.{lengths_asks, room_done}
+use Rattle.listing.proofs.list_lengths.Goals as goal
+
+pub put_lengths-requires : goal.put_lengths-requires
+put_lengths-requires c = lengths_asks c.requires
+
+pub returns : goal.returns
+returns c = let at-wipe = c.before.before in
+    let at-put = at-wipe.before.before.before.before in
+    room_done at-put.requires at-put.put_lengths.ensures at-wipe.wipe_points.ensures.0 at-wipe.wipe_points.ensures.1

@@ -1,0 +1,29 @@
+-- `loops::list_loops` meets its contract: the loops are written and the rest of both rooms is cleared. Assumes nothing.
+use native.Mathlib.Omega.{arith}
+use Rattle.loops.proofs.Rooms.{trace_asks, fits, done}
+use Rattle.loops.proofs.list_loops.Goals as goal
+
+pub trace-found-requires : goal.trace-found-requires
+trace-found-requires c = trace_asks c.requires
+
+pub overflow_sub-faces : goal.overflow_sub-faces
+overflow_sub-faces c = let t = c.before.before.before.before.before.before.before.before in
+    omega (arith, (fits t.requires t.trace-found.ensures).0)
+
+pub wipe-requires : goal.wipe-requires
+wipe-requires c = let t = c.before.before.before.before.before.before.before.before in
+    (fits t.requires t.trace-found.ensures).2
+
+pub overflow_sub-faces-2 : goal.overflow_sub-faces-2
+overflow_sub-faces-2 c = let t = c.before.before.before.before.before.before.before.before.before.before.before.before.before in
+    omega (arith, (fits t.requires t.trace-found.ensures).1)
+
+pub wipe-requires-2 : goal.wipe-requires-2
+wipe-requires-2 c = let t = c.before.before.before.before.before.before.before.before.before.before.before.before.before in
+    (fits t.requires t.trace-found.ensures).3
+
+pub returns : goal.returns
+returns c = let u = c.before.before in
+    let r = u.before.before.before.before.before in
+    let t = r.before.before.before.before.before.before.before.before.before in
+    done t.requires t.trace-found.ensures r.wipe.ensures.0 r.wipe.ensures.1 u.wipe-2.ensures.0 u.wipe-2.ensures.1

@@ -1,0 +1,11 @@
+-- `panel_refusal::adds_up` meets its contract: after k counts the others are to add up to what is left. Assumes nothing.
+use Prim.Native.Nat.{◌-◌}
+use lib.ListN.{length}
+use Rattle.panel_refusal.proofs.Adding.{Left}
+use Rattle.panel_refusal.proofs.adds_up.Given as goal
+
+abbrev pub invariant-loop-k : goal.invariant-loop-k
+invariant-loop-k l = Left l.counts l.length l.left l.k
+
+abbrev pub decreases-loop-k : goal.decreases-loop-k
+decreases-loop-k l = length l.counts - l.k

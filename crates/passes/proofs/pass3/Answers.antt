@@ -1,0 +1,33 @@
+-- `passes::pass3` meets its contract: the pass is on and marked faces leave, or it is off. Assumes nothing.
+use mathlib.Core.Path.{sym}
+use Rattle.leaving.proofs.ByFlags.{left_by, left_fewer}
+use Rattle.passes.proofs.Steps.{bit_set, bit_clear, as_long}
+use Rattle.passes.proofs.Passes.{reads3, leaves3, on3, off3}
+use Rattle.passes.proofs.pass3.Goals as goal
+
+pub slice_bounds-mark-end-then-options-eq1 : goal.slice_bounds-mark-end-then-options-eq1
+slice_bounds-mark-end-then-options-eq1 c = sym (as_long c.requires)
+
+pub mark-marked-requires : goal.mark-marked-requires
+mark-marked-requires c = reads3 c.requires
+
+pub leave-left-requires : goal.leave-left-requires
+leave-left-requires c = let at_mark = c.before.before.before.before.before in
+    let start = at_mark.before.before.before.before.before.before.before.before.before in
+    leaves3 start.requires at_mark.mark-marked.ensures.0
+
+pub overflow_sub-result : goal.overflow_sub-result
+overflow_sub-result c = let at-leave = c.before.before.before.before in
+    let at_mark = at-leave.before.before.before.before.before.before in
+    left_fewer (left_by at_mark.mark-marked.ensures.0 at-leave.leave-left.ensures)
+
+pub returns-then-options-eq1 : goal.returns-then-options-eq1
+returns-then-options-eq1 c = let at-leave = c.before.before.before.before in
+    let at_mark = at-leave.before.before.before.before.before.before in
+    let start = at_mark.before.before.before.before.before.before.before.before.before in
+    rw (bit_set 2 start.args.options at_mark.if-options-eq1.true)
+    (on3 start.requires at_mark.mark-marked.ensures.0 (left_by at_mark.mark-marked.ensures.0 at-leave.leave-left.ensures) at_mark.mark-marked.ensures.1)
+
+pub returns : goal.returns
+returns c = let start = c.before.before.before.before.before in
+    rw (bit_clear 2 start.args.options c.if-options-eq1.false) (off3 start.requires)

@@ -1,0 +1,33 @@
+-- `passes::pass4` meets its contract: the pass is on and both halves follow each other, or it is off. Assumes nothing.
+use native.Mathlib.Omega.{arith}
+use Rattle.leaving.proofs.ByFlags.{left_fewer}
+use Rattle.passes.proofs.Steps.{bit_set, bit_clear, as_long}
+use Rattle.passes.proofs.Passes.{reads4, on4, off4, turned_reads}
+use Rattle.passes.proofs.pass4.Goals as goal
+
+pub settle-turned-requires : goal.settle-turned-requires
+settle-turned-requires c = reads4 c.requires
+
+pub slice_bounds-drop_collisions-end : goal.slice_bounds-drop_collisions-end
+slice_bounds-drop_collisions-end c = omega (arith, c.requires.room)
+
+pub slice_bounds-drop_collisions-end-then-options-eq1 : goal.slice_bounds-drop_collisions-end-then-options-eq1
+slice_bounds-drop_collisions-end-then-options-eq1 c = omega (arith, as_long c.requires)
+
+pub drop_collisions-left-requires : goal.drop_collisions-left-requires
+drop_collisions-left-requires c = let at-settle = c.before.before.before.before.before.before.before.before in
+    let start = at-settle.before.before.before.before.before.before.before.before in
+    (turned_reads start.requires at-settle.settle-turned.ensures.0, (start.requires.own, at-settle.settle-turned.ensures.1))
+
+pub overflow_sub-result : goal.overflow_sub-result
+overflow_sub-result c = left_fewer c.drop_collisions-left.ensures.0
+
+pub returns-then-options-eq1 : goal.returns-then-options-eq1
+returns-then-options-eq1 c = let at_drop = c.before.before.before.before.before.before in
+    let at-settle = at_drop.before.before.before.before.before.before.before.before.before in
+    let start = at-settle.before.before.before.before.before.before.before.before in
+    rw (bit_set 4 start.args.options at-settle.if-options-eq1.true) (on4 start.requires at-settle.settle-turned.ensures.0 at_drop.drop_collisions-left.ensures.1 at_drop.drop_collisions-left.ensures.0)
+
+pub returns : goal.returns
+returns c = let start = c.before.before.before.before.before in
+    rw (bit_clear 4 start.args.options c.if-options-eq1.false) (off4 start.requires)

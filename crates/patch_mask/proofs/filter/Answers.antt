@@ -1,0 +1,12 @@
+-- `patch_mask::filter` meets its contract: each limit counts if its bit is set. Assumes nothing.
+use Rattle.patch_mask.proofs.Masking.{masked_is}
+use Rattle.patch_mask.proofs.filter.Goals as goal
+
+pub returns : goal.returns
+returns c = let a = c.args in
+    masked_is a.limits a.min_faces a.min_area a.min-aabb-diagonal a.min-area-fraction a.keep-largest-n
+    c.is_set.ensures c.whole.ensures
+    c.is_set-2.ensures c.limit.ensures
+    c.is_set-3.ensures c.limit-2.ensures
+    c.is_set-4.ensures c.limit-3.ensures
+    c.is_set-5.ensures c.whole-2.ensures

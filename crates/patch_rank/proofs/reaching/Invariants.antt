@@ -1,0 +1,11 @@
+-- `patch_rank::reaching` meets its contract: n of the keys before k are t or more. Assumes nothing.
+use Prim.Native.Nat.{◌-◌}
+use Rattle.patch_rank.specs.Rank.{key_at}
+use Rattle.patch_rank.proofs.Scanning.{Reached}
+use Rattle.patch_rank.proofs.reaching.Given as goal
+
+abbrev pub invariant-loop-k : goal.invariant-loop-k
+invariant-loop-k l = Reached (key_at l.work) l.count l.t l.n l.k
+
+abbrev pub decreases-loop-k : goal.decreases-loop-k
+decreases-loop-k l = l.count - l.k

@@ -1,0 +1,23 @@
+-- `patch_sums::begin` meets its contract: the records before k are empty. Assumes nothing.
+use Prim.Native.Nat.{◌-◌}
+use native.Mathlib.Omega.{arith}
+use Rattle.patch_sums.proofs.Empties.{begin, turn, again, done, empty_is}
+use Rattle.patch_sums.proofs.begin.Goals as goal
+
+pub loop-k-init : goal.loop-k-init
+loop-k-init c = begin c.requires
+
+pub write-requires : goal.write-requires
+write-requires c = turn c.requires c.loop-k.invariant c.loop-k-test.true
+
+pub overflow_add-k : goal.overflow_add-k
+overflow_add-k c = omega (arith, c.loop-k-test.true)
+
+pub loop-k-preserved : goal.loop-k-preserved
+loop-k-preserved c = again c.requires c.loop-k.invariant c.loop-k-test.true c.write.ensures.0 c.write.ensures.1
+
+pub shape_of-numbers : goal.shape_of-numbers
+shape_of-numbers c = c.loop-k.invariant.only.long
+
+pub returns : goal.returns
+returns c = done c.requires c.loop-k.invariant c.loop-k-test.false empty_is

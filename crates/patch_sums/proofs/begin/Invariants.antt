@@ -1,0 +1,11 @@
+-- `patch_sums::begin` meets its contract: the records before k are empty. Assumes nothing.
+use Prim.Native.Nat.{◌-◌}
+use Rattle.patch_sums.specs.Sums.{patch_of}
+use Rattle.patch_sums.proofs.Empties.{Begun}
+use Rattle.patch_sums.proofs.begin.Given as goal
+
+abbrev pub invariant-loop-k : goal.invariant-loop-k
+invariant-loop-k l = Begun l.initial.numbers l.count (patch_of l.empty) l.numbers l.k
+
+abbrev pub decreases-loop-k : goal.decreases-loop-k
+decreases-loop-k l = l.count - l.k

@@ -1,0 +1,35 @@
+-- `patches::find_patches` meets its contract: the verdict refuses, or the rooms are filled. Assumes nothing.
+use native.Mathlib.Omega.{arith}
+use Rattle.patches.specs.Answers.{filter_of, rooms_of}
+use Rattle.patches.proofs.Ending.{is_refused, is_accepted, is_done}
+use Rattle.patches.proofs.find_patches.Goals as goal
+
+pub fill_rooms-requires : goal.fill_rooms-requires
+fill_rooms-requires c = let t = c.before.before.before.before in
+    let v = t.before.before in
+    let a = v.args in
+    is_accepted a.points.now a.faces.now a.labels.now a.count (filter_of a.by) (rooms_of a.face_counts-1.now a.numbers-1.now a.flags-1.now a.work-1.now) _
+    v.patches_refusal.ensures t.in-Fine.is
+
+pub overflow_mul-result : goal.overflow_mul-result
+overflow_mul-result c = let t = c.before.before.before.before.before.before.before.before.before.before.before.before.before in
+    let v = t.before.before in
+    let a = v.args in
+    omega (
+      arith,
+      (is_accepted a.points.now a.faces.now a.labels.now a.count (filter_of a.by) (rooms_of a.face_counts-1.now a.numbers-1.now a.flags-1.now a.work-1.now) _
+          v.patches_refusal.ensures t.in-Fine.is).patches,
+    )
+
+pub returns-in-Refused : goal.returns-in-Refused
+returns-in-Refused c = let v = c.before.before.before in
+    let a = v.args in
+    is_refused a.points.now a.faces.now a.labels.now a.count (filter_of a.by) (rooms_of a.face_counts-1.now a.numbers-1.now a.flags-1.now a.work-1.now) _
+    v.patches_refusal.ensures _ _ c.in-Refused.is
+
+pub returns-in-Fine : goal.returns-in-Fine
+returns-in-Fine c = let t = c.before.before.before.before.before.before.before.before.before.before.before.before.before in
+    let v = t.before.before in
+    let a = v.args in
+    is_done a.points.now a.faces.now a.labels.now a.count (filter_of a.by) (rooms_of a.face_counts-1.now a.numbers-1.now a.flags-1.now a.work-1.now) _
+    v.patches_refusal.ensures t.in-Fine.is c.fill_rooms.ensures

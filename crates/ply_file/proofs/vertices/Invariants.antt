@@ -1,0 +1,11 @@
+-- `ply_file::vertices` meets its contract: all vertices before i are without fault. Assumes nothing.
+use Prim.Native.Nat.{◌-◌}
+use Rattle.refuse.proofs.Scans.{Clean}
+use Rattle.ply_file.proofs.Scanning.{far_at}
+use Rattle.ply_file.proofs.vertices.Given as goal
+
+abbrev pub invariant-loop-i : goal.invariant-loop-i
+invariant-loop-i l = Clean (far_at l.file l.at) l.p l.i
+
+abbrev pub decreases-loop-i : goal.decreases-loop-i
+decreases-loop-i l = l.p - l.i

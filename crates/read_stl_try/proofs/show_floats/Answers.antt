@@ -1,0 +1,9 @@
+-- `read_stl_try::show_floats` meets its contract: it reads within the slice. Assumes nothing.
+use Prim.Native.Nat.{◌-◌}
+use Rattle.read_stl_try.proofs.show_floats.Goals as goal
+
+pub show_float-requires : goal.show_float-requires
+show_float-requires c = tt
+
+pub returns : goal.returns
+returns c = tt

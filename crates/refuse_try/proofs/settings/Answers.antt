@@ -1,0 +1,27 @@
+-- `refuse_try::settings` meets its contract: antt runs the rules. Assumes nothing.
+use Rattle.rules.specs.Open.{every_rule}
+use Rattle.refuse_try.proofs.settings.Goals as goal
+
+pub accepted-requires : goal.accepted-requires
+unfolding every_rule
+accepted-requires c = c.repair.ensures
+
+pub accepted-requires-2 : goal.accepted-requires-2
+unfolding every_rule
+accepted-requires-2 c = c.repair-2.ensures
+
+pub refused-requires : goal.refused-requires
+unfolding every_rule
+refused-requires c = c.repair-3.ensures
+
+pub refused-requires-2 : goal.refused-requires-2
+unfolding every_rule
+refused-requires-2 c = c.repair-4.ensures
+
+pub refused-requires-3 : goal.refused-requires-3
+unfolding every_rule
+refused-requires-3 c = c.repair-5.ensures
+
+pub refused-requires-4 : goal.refused-requires-4
+unfolding every_rule
+refused-requires-4 c = c.repair-6.ensures

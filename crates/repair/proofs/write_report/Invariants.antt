@@ -1,0 +1,11 @@
+-- `repair::write_report` meets its contract: after k counts these stand in front. Assumes nothing.
+use Prim.Native.Nat.{◌-◌}
+use Rattle.rules.specs.State.{report_counts}
+use Rattle.repair.proofs.Reporting.{Wrote}
+use Rattle.repair.proofs.write_report.Given as goal
+
+abbrev pub invariant-loop-k : goal.invariant-loop-k
+invariant-loop-k l = Wrote l.initial.report l.all l.report l.k
+
+abbrev pub decreases-loop-k : goal.decreases-loop-k
+decreases-loop-k l = report_counts - l.k

@@ -1,0 +1,172 @@
+-- `repair_panel::repair_panel` meets its contract: the verdict refuses, or the meshes are mended and the rooms are cleared behind the answers. Assumes nothing.
+use Rattle.repair_panel.proofs.Ending.{is_refused, is_accepted, sizes, is_done}
+use Rattle.repair_panel.proofs.repair_panel.Goals as goal
+
+pub returns-in-Refused : goal.returns-in-Refused
+returns-in-Refused c = let refusal = c.before.before.before in
+    let start = c.before.before.before.before.before.before.before.before.before.before.before.before.before.before in
+    let a = start.args in
+    is_refused a.points.now a.faces.now a.point-counts.now a.face_counts.now a.s a.options a.out_points-1.now a.out_faces-1.now a.report-1.now a.origins-1.now a.meshes-1.now a.work-1.now _ refusal.panel_refusal.ensures _ _ c.in-Refused.is
+
+pub largest-largest-requires : goal.largest-largest-requires
+largest-largest-requires c = let refusal = c.before.before in
+    let fine = c in
+    let start = c.before.before.before.before.before.before.before.before.before.before.before.before.before in
+    let a = start.args in
+    (is_accepted a.points.now a.faces.now a.point-counts.now a.face_counts.now a.s a.options a.out_points-1.now a.out_faces-1.now a.report-1.now a.origins-1.now a.meshes-1.now a.work-1.now _ refusal.panel_refusal.ensures fine.in-Fine.is).rows.same
+
+pub mend_all-at-requires : goal.mend_all-at-requires
+mend_all-at-requires c = let refusal = c.before.before.before.before.before.before.before.before.before in
+    let fine = c.before.before.before.before.before.before.before in
+    let start = c.before.before.before.before.before.before.before.before.before.before.before.before.before.before.before.before.before.before.before.before in
+    let a = start.args in
+    is_accepted a.points.now a.faces.now a.point-counts.now a.face_counts.now a.s a.options a.out_points-1.now a.out_faces-1.now a.report-1.now a.origins-1.now a.meshes-1.now a.work-1.now _ refusal.panel_refusal.ensures fine.in-Fine.is
+
+pub overflow_mul-f : goal.overflow_mul-f
+overflow_mul-f c = let refusal = c.before.before.before.before.before.before.before.before.before.before.before.before.before.before.before.before.before.before.before.before.before.before.before in
+    let fine = c.before.before.before.before.before.before.before.before.before.before.before.before.before.before.before.before.before.before.before.before.before in
+    let mended = c.before.before.before.before.before.before.before.before.before.before.before.before.before in
+    let largest = c.before.before.before.before.before.before.before.before.before.before.before.before.before.before.before.before.before.before.before.before in
+    let start = c.before.before.before.before.before.before.before.before.before.before.before.before.before.before.before.before.before.before.before.before.before.before.before.before.before.before.before.before.before.before.before.before.before.before in
+    let a = start.args in
+    record { fits = (sizes a.points.now a.faces.now a.point-counts.now a.face_counts.now a.s a.options a.out_points-1.now a.out_faces-1.now a.report-1.now a.origins-1.now a.meshes-1.now a.work-1.now _ refusal.panel_refusal.ensures fine.in-Fine.is mended.mend_all-at.ensures start.well_formed.1.1.1.1.1.1.0.0 _ largest.largest-largest.ensures).three_faces }
+
+pub overflow_add-p : goal.overflow_add-p
+overflow_add-p c = let refusal = c.before.before.before.before.before.before.before.before.before.before.before.before.before.before.before.before.before.before.before.before.before.before.before in
+    let fine = c.before.before.before.before.before.before.before.before.before.before.before.before.before.before.before.before.before.before.before.before.before in
+    let mended = c.before.before.before.before.before.before.before.before.before.before.before.before.before in
+    let largest = c.before.before.before.before.before.before.before.before.before.before.before.before.before.before.before.before.before.before.before.before in
+    let start = c.before.before.before.before.before.before.before.before.before.before.before.before.before.before.before.before.before.before.before.before.before.before.before.before.before.before.before.before.before.before.before.before.before.before in
+    let a = start.args in
+    record { fits = (sizes a.points.now a.faces.now a.point-counts.now a.face_counts.now a.s a.options a.out_points-1.now a.out_faces-1.now a.report-1.now a.origins-1.now a.meshes-1.now a.work-1.now _ refusal.panel_refusal.ensures fine.in-Fine.is mended.mend_all-at.ensures start.well_formed.1.1.1.1.1.1.0.0 _ largest.largest-largest.ensures).all_points }
+
+pub overflow_mul-p : goal.overflow_mul-p
+overflow_mul-p c = let refusal = c.before.before.before.before.before.before.before.before.before.before.before.before.before.before.before.before.before.before.before.before.before.before.before in
+    let fine = c.before.before.before.before.before.before.before.before.before.before.before.before.before.before.before.before.before.before.before.before.before in
+    let mended = c.before.before.before.before.before.before.before.before.before.before.before.before.before in
+    let largest = c.before.before.before.before.before.before.before.before.before.before.before.before.before.before.before.before.before.before.before.before in
+    let start = c.before.before.before.before.before.before.before.before.before.before.before.before.before.before.before.before.before.before.before.before.before.before.before.before.before.before.before.before.before.before.before.before.before.before in
+    let a = start.args in
+    record { fits = (sizes a.points.now a.faces.now a.point-counts.now a.face_counts.now a.s a.options a.out_points-1.now a.out_faces-1.now a.report-1.now a.origins-1.now a.meshes-1.now a.work-1.now _ refusal.panel_refusal.ensures fine.in-Fine.is mended.mend_all-at.ensures start.well_formed.1.1.1.1.1.1.0.0 _ largest.largest-largest.ensures).three_points }
+
+pub overflow_sub-p : goal.overflow_sub-p
+overflow_sub-p c = let refusal = c.before.before.before.before.before.before.before.before.before.before.before.before.before.before.before.before.before.before.before.before.before.before.before in
+    let fine = c.before.before.before.before.before.before.before.before.before.before.before.before.before.before.before.before.before.before.before.before.before in
+    let mended = c.before.before.before.before.before.before.before.before.before.before.before.before.before in
+    let largest = c.before.before.before.before.before.before.before.before.before.before.before.before.before.before.before.before.before.before.before.before in
+    let start = c.before.before.before.before.before.before.before.before.before.before.before.before.before.before.before.before.before.before.before.before.before.before.before.before.before.before.before.before.before.before.before.before.before.before in
+    let a = start.args in
+    (sizes a.points.now a.faces.now a.point-counts.now a.face_counts.now a.s a.options a.out_points-1.now a.out_faces-1.now a.report-1.now a.origins-1.now a.meshes-1.now a.work-1.now _ refusal.panel_refusal.ensures fine.in-Fine.is mended.mend_all-at.ensures start.well_formed.1.1.1.1.1.1.0.0 _ largest.largest-largest.ensures).points_end
+
+pub wipe_points-requires : goal.wipe_points-requires
+wipe_points-requires c = let refusal = c.before.before.before.before.before.before.before.before.before.before.before.before.before.before.before.before.before.before.before.before.before.before.before in
+    let fine = c.before.before.before.before.before.before.before.before.before.before.before.before.before.before.before.before.before.before.before.before.before in
+    let mended = c.before.before.before.before.before.before.before.before.before.before.before.before.before in
+    let largest = c.before.before.before.before.before.before.before.before.before.before.before.before.before.before.before.before.before.before.before.before in
+    let start = c.before.before.before.before.before.before.before.before.before.before.before.before.before.before.before.before.before.before.before.before.before.before.before.before.before.before.before.before.before.before.before.before.before.before in
+    let a = start.args in
+    (sizes a.points.now a.faces.now a.point-counts.now a.face_counts.now a.s a.options a.out_points-1.now a.out_faces-1.now a.report-1.now a.origins-1.now a.meshes-1.now a.work-1.now _ refusal.panel_refusal.ensures fine.in-Fine.is mended.mend_all-at.ensures start.well_formed.1.1.1.1.1.1.0.0 _ largest.largest-largest.ensures).points_room
+
+pub overflow_mul-f-2 : goal.overflow_mul-f-2
+overflow_mul-f-2 c = let refusal = c.before.before.before.before.before.before.before.before.before.before.before.before.before.before.before.before.before.before.before.before.before.before.before.before.before.before.before in
+    let fine = c.before.before.before.before.before.before.before.before.before.before.before.before.before.before.before.before.before.before.before.before.before.before.before.before.before in
+    let mended = c.before.before.before.before.before.before.before.before.before.before.before.before.before.before.before.before.before in
+    let largest = c.before.before.before.before.before.before.before.before.before.before.before.before.before.before.before.before.before.before.before.before.before.before.before.before in
+    let start = c.before.before.before.before.before.before.before.before.before.before.before.before.before.before.before.before.before.before.before.before.before.before.before.before.before.before.before.before.before.before.before.before.before.before.before.before.before.before in
+    let a = start.args in
+    record { fits = (sizes a.points.now a.faces.now a.point-counts.now a.face_counts.now a.s a.options a.out_points-1.now a.out_faces-1.now a.report-1.now a.origins-1.now a.meshes-1.now a.work-1.now _ refusal.panel_refusal.ensures fine.in-Fine.is mended.mend_all-at.ensures start.well_formed.1.1.1.1.1.1.0.0 _ largest.largest-largest.ensures).three_faces }
+
+pub overflow_sub-f : goal.overflow_sub-f
+overflow_sub-f c = let refusal = c.before.before.before.before.before.before.before.before.before.before.before.before.before.before.before.before.before.before.before.before.before.before.before.before.before.before.before in
+    let fine = c.before.before.before.before.before.before.before.before.before.before.before.before.before.before.before.before.before.before.before.before.before.before.before.before.before in
+    let mended = c.before.before.before.before.before.before.before.before.before.before.before.before.before.before.before.before.before in
+    let largest = c.before.before.before.before.before.before.before.before.before.before.before.before.before.before.before.before.before.before.before.before.before.before.before.before in
+    let start = c.before.before.before.before.before.before.before.before.before.before.before.before.before.before.before.before.before.before.before.before.before.before.before.before.before.before.before.before.before.before.before.before.before.before.before.before.before.before in
+    let a = start.args in
+    (sizes a.points.now a.faces.now a.point-counts.now a.face_counts.now a.s a.options a.out_points-1.now a.out_faces-1.now a.report-1.now a.origins-1.now a.meshes-1.now a.work-1.now _ refusal.panel_refusal.ensures fine.in-Fine.is mended.mend_all-at.ensures start.well_formed.1.1.1.1.1.1.0.0 _ largest.largest-largest.ensures).faces_end
+
+pub wipe-requires : goal.wipe-requires
+wipe-requires c = let refusal = c.before.before.before.before.before.before.before.before.before.before.before.before.before.before.before.before.before.before.before.before.before.before.before.before.before.before.before in
+    let fine = c.before.before.before.before.before.before.before.before.before.before.before.before.before.before.before.before.before.before.before.before.before.before.before.before.before in
+    let mended = c.before.before.before.before.before.before.before.before.before.before.before.before.before.before.before.before.before in
+    let largest = c.before.before.before.before.before.before.before.before.before.before.before.before.before.before.before.before.before.before.before.before.before.before.before.before in
+    let start = c.before.before.before.before.before.before.before.before.before.before.before.before.before.before.before.before.before.before.before.before.before.before.before.before.before.before.before.before.before.before.before.before.before.before.before.before.before.before in
+    let a = start.args in
+    (sizes a.points.now a.faces.now a.point-counts.now a.face_counts.now a.s a.options a.out_points-1.now a.out_faces-1.now a.report-1.now a.origins-1.now a.meshes-1.now a.work-1.now _ refusal.panel_refusal.ensures fine.in-Fine.is mended.mend_all-at.ensures start.well_formed.1.1.1.1.1.1.0.0 _ largest.largest-largest.ensures).faces_room
+
+pub overflow_mul-m : goal.overflow_mul-m
+overflow_mul-m c = let refusal = c.before.before.before.before.before.before.before.before.before.before.before.before.before.before.before.before.before.before.before.before.before.before.before.before.before.before.before.before.before.before.before in
+    let fine = c.before.before.before.before.before.before.before.before.before.before.before.before.before.before.before.before.before.before.before.before.before.before.before.before.before.before.before.before.before in
+    let mended = c.before.before.before.before.before.before.before.before.before.before.before.before.before.before.before.before.before.before.before.before.before in
+    let largest = c.before.before.before.before.before.before.before.before.before.before.before.before.before.before.before.before.before.before.before.before.before.before.before.before.before.before.before.before in
+    let start = c.before.before.before.before.before.before.before.before.before.before.before.before.before.before.before.before.before.before.before.before.before.before.before.before.before.before.before.before.before.before.before.before.before.before.before.before.before.before.before.before.before.before in
+    let a = start.args in
+    record { fits = (sizes a.points.now a.faces.now a.point-counts.now a.face_counts.now a.s a.options a.out_points-1.now a.out_faces-1.now a.report-1.now a.origins-1.now a.meshes-1.now a.work-1.now _ refusal.panel_refusal.ensures fine.in-Fine.is mended.mend_all-at.ensures start.well_formed.1.1.1.1.1.1.0.0 _ largest.largest-largest.ensures).all_counts }
+
+pub overflow_sub-m : goal.overflow_sub-m
+overflow_sub-m c = let refusal = c.before.before.before.before.before.before.before.before.before.before.before.before.before.before.before.before.before.before.before.before.before.before.before.before.before.before.before.before.before.before.before in
+    let fine = c.before.before.before.before.before.before.before.before.before.before.before.before.before.before.before.before.before.before.before.before.before.before.before.before.before.before.before.before.before in
+    let mended = c.before.before.before.before.before.before.before.before.before.before.before.before.before.before.before.before.before.before.before.before.before in
+    let largest = c.before.before.before.before.before.before.before.before.before.before.before.before.before.before.before.before.before.before.before.before.before.before.before.before.before.before.before.before in
+    let start = c.before.before.before.before.before.before.before.before.before.before.before.before.before.before.before.before.before.before.before.before.before.before.before.before.before.before.before.before.before.before.before.before.before.before.before.before.before.before.before.before.before.before in
+    let a = start.args in
+    (sizes a.points.now a.faces.now a.point-counts.now a.face_counts.now a.s a.options a.out_points-1.now a.out_faces-1.now a.report-1.now a.origins-1.now a.meshes-1.now a.work-1.now _ refusal.panel_refusal.ensures fine.in-Fine.is mended.mend_all-at.ensures start.well_formed.1.1.1.1.1.1.0.0 _ largest.largest-largest.ensures).counts_end
+
+pub wipe-requires-2 : goal.wipe-requires-2
+wipe-requires-2 c = let refusal = c.before.before.before.before.before.before.before.before.before.before.before.before.before.before.before.before.before.before.before.before.before.before.before.before.before.before.before.before.before.before.before in
+    let fine = c.before.before.before.before.before.before.before.before.before.before.before.before.before.before.before.before.before.before.before.before.before.before.before.before.before.before.before.before.before in
+    let mended = c.before.before.before.before.before.before.before.before.before.before.before.before.before.before.before.before.before.before.before.before.before in
+    let largest = c.before.before.before.before.before.before.before.before.before.before.before.before.before.before.before.before.before.before.before.before.before.before.before.before.before.before.before.before in
+    let start = c.before.before.before.before.before.before.before.before.before.before.before.before.before.before.before.before.before.before.before.before.before.before.before.before.before.before.before.before.before.before.before.before.before.before.before.before.before.before.before.before.before.before in
+    let a = start.args in
+    (sizes a.points.now a.faces.now a.point-counts.now a.face_counts.now a.s a.options a.out_points-1.now a.out_faces-1.now a.report-1.now a.origins-1.now a.meshes-1.now a.work-1.now _ refusal.panel_refusal.ensures fine.in-Fine.is mended.mend_all-at.ensures start.well_formed.1.1.1.1.1.1.0.0 _ largest.largest-largest.ensures).counts_room
+
+pub overflow_sub-f-2 : goal.overflow_sub-f-2
+overflow_sub-f-2 c = let refusal = c.before.before.before.before.before.before.before.before.before.before.before.before.before.before.before.before.before.before.before.before.before.before.before.before.before.before.before.before.before.before.before.before.before.before.before in
+    let fine = c.before.before.before.before.before.before.before.before.before.before.before.before.before.before.before.before.before.before.before.before.before.before.before.before.before.before.before.before.before.before.before.before.before in
+    let mended = c.before.before.before.before.before.before.before.before.before.before.before.before.before.before.before.before.before.before.before.before.before.before.before.before.before in
+    let largest = c.before.before.before.before.before.before.before.before.before.before.before.before.before.before.before.before.before.before.before.before.before.before.before.before.before.before.before.before.before.before.before.before in
+    let start = c.before.before.before.before.before.before.before.before.before.before.before.before.before.before.before.before.before.before.before.before.before.before.before.before.before.before.before.before.before.before.before.before.before.before.before.before.before.before.before.before.before.before.before.before.before.before in
+    let a = start.args in
+    (sizes a.points.now a.faces.now a.point-counts.now a.face_counts.now a.s a.options a.out_points-1.now a.out_faces-1.now a.report-1.now a.origins-1.now a.meshes-1.now a.work-1.now _ refusal.panel_refusal.ensures fine.in-Fine.is mended.mend_all-at.ensures start.well_formed.1.1.1.1.1.1.0.0 _ largest.largest-largest.ensures).origins_end
+
+pub wipe-requires-3 : goal.wipe-requires-3
+wipe-requires-3 c = let refusal = c.before.before.before.before.before.before.before.before.before.before.before.before.before.before.before.before.before.before.before.before.before.before.before.before.before.before.before.before.before.before.before.before.before.before.before in
+    let fine = c.before.before.before.before.before.before.before.before.before.before.before.before.before.before.before.before.before.before.before.before.before.before.before.before.before.before.before.before.before.before.before.before.before in
+    let mended = c.before.before.before.before.before.before.before.before.before.before.before.before.before.before.before.before.before.before.before.before.before.before.before.before.before in
+    let largest = c.before.before.before.before.before.before.before.before.before.before.before.before.before.before.before.before.before.before.before.before.before.before.before.before.before.before.before.before.before.before.before.before in
+    let start = c.before.before.before.before.before.before.before.before.before.before.before.before.before.before.before.before.before.before.before.before.before.before.before.before.before.before.before.before.before.before.before.before.before.before.before.before.before.before.before.before.before.before.before.before.before.before in
+    let a = start.args in
+    (sizes a.points.now a.faces.now a.point-counts.now a.face_counts.now a.s a.options a.out_points-1.now a.out_faces-1.now a.report-1.now a.origins-1.now a.meshes-1.now a.work-1.now _ refusal.panel_refusal.ensures fine.in-Fine.is mended.mend_all-at.ensures start.well_formed.1.1.1.1.1.1.0.0 _ largest.largest-largest.ensures).origins_room
+
+pub wipe-requires-4 : goal.wipe-requires-4
+wipe-requires-4 c = let refusal = c.before.before.before.before.before.before.before.before.before.before.before.before.before.before.before.before.before.before.before.before.before.before.before.before.before.before.before.before.before.before.before.before.before.before.before.before.before.before.before in
+    let fine = c.before.before.before.before.before.before.before.before.before.before.before.before.before.before.before.before.before.before.before.before.before.before.before.before.before.before.before.before.before.before.before.before.before.before.before.before.before in
+    let mended = c.before.before.before.before.before.before.before.before.before.before.before.before.before.before.before.before.before.before.before.before.before.before.before.before.before.before.before.before.before in
+    let largest = c.before.before.before.before.before.before.before.before.before.before.before.before.before.before.before.before.before.before.before.before.before.before.before.before.before.before.before.before.before.before.before.before.before.before.before.before in
+    let start = c.before.before.before.before.before.before.before.before.before.before.before.before.before.before.before.before.before.before.before.before.before.before.before.before.before.before.before.before.before.before.before.before.before.before.before.before.before.before.before.before.before.before.before.before.before.before.before.before.before.before in
+    let a = start.args in
+    (sizes a.points.now a.faces.now a.point-counts.now a.face_counts.now a.s a.options a.out_points-1.now a.out_faces-1.now a.report-1.now a.origins-1.now a.meshes-1.now a.work-1.now _ refusal.panel_refusal.ensures fine.in-Fine.is mended.mend_all-at.ensures start.well_formed.1.1.1.1.1.1.0.0 _ largest.largest-largest.ensures).work_room
+
+pub overflow_mul-result : goal.overflow_mul-result
+overflow_mul-result c = let refusal = c.before.before.before.before.before.before.before.before.before.before.before.before.before.before.before.before.before.before.before.before.before.before.before.before.before.before.before.before.before.before.before.before.before.before.before.before.before.before.before.before.before.before in
+    let fine = c.before.before.before.before.before.before.before.before.before.before.before.before.before.before.before.before.before.before.before.before.before.before.before.before.before.before.before.before.before.before.before.before.before.before.before.before.before.before.before.before in
+    let mended = c.before.before.before.before.before.before.before.before.before.before.before.before.before.before.before.before.before.before.before.before.before.before.before.before.before.before.before.before.before.before.before.before in
+    let largest = c.before.before.before.before.before.before.before.before.before.before.before.before.before.before.before.before.before.before.before.before.before.before.before.before.before.before.before.before.before.before.before.before.before.before.before.before.before.before.before in
+    let start = c.before.before.before.before.before.before.before.before.before.before.before.before.before.before.before.before.before.before.before.before.before.before.before.before.before.before.before.before.before.before.before.before.before.before.before.before.before.before.before.before.before.before.before.before.before.before.before.before.before.before.before.before.before in
+    let a = start.args in
+    record { fits = (sizes a.points.now a.faces.now a.point-counts.now a.face_counts.now a.s a.options a.out_points-1.now a.out_faces-1.now a.report-1.now a.origins-1.now a.meshes-1.now a.work-1.now _ refusal.panel_refusal.ensures fine.in-Fine.is mended.mend_all-at.ensures start.well_formed.1.1.1.1.1.1.0.0 _ largest.largest-largest.ensures).all_fours }
+
+pub returns : goal.returns
+returns c = let refusal = c.before.before.before.before.before.before.before.before.before.before.before.before.before.before.before.before.before.before.before.before.before.before.before.before.before.before.before.before.before.before.before.before.before.before.before.before.before.before.before.before.before.before in
+    let fine = c.before.before.before.before.before.before.before.before.before.before.before.before.before.before.before.before.before.before.before.before.before.before.before.before.before.before.before.before.before.before.before.before.before.before.before.before.before.before.before.before in
+    let mended = c.before.before.before.before.before.before.before.before.before.before.before.before.before.before.before.before.before.before.before.before.before.before.before.before.before.before.before.before.before.before.before.before in
+    let largest = c.before.before.before.before.before.before.before.before.before.before.before.before.before.before.before.before.before.before.before.before.before.before.before.before.before.before.before.before.before.before.before.before.before.before.before.before.before.before.before in
+    let start = c.before.before.before.before.before.before.before.before.before.before.before.before.before.before.before.before.before.before.before.before.before.before.before.before.before.before.before.before.before.before.before.before.before.before.before.before.before.before.before.before.before.before.before.before.before.before.before.before.before.before.before.before.before in
+    let a = start.args in
+    is_done a.points.now a.faces.now a.point-counts.now a.face_counts.now a.s a.options a.out_points-1.now a.out_faces-1.now a.report-1.now a.origins-1.now a.meshes-1.now a.work-1.now _ refusal.panel_refusal.ensures fine.in-Fine.is mended.mend_all-at.ensures start.well_formed.1.1.1.1.1.1.0.0 _ largest.largest-largest.ensures
+    c.wipe_points.ensures.0 c.wipe_points.ensures.1
+    c.wipe.ensures.0 c.wipe.ensures.1
+    c.wipe-2.ensures.0 c.wipe-2.ensures.1
+    c.wipe-3.ensures.0 c.wipe-3.ensures.1
+    c.wipe-4.ensures.0 c.wipe-4.ensures.1

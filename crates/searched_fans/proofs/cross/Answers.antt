@@ -1,0 +1,76 @@
+-- `searched_fans::cross` meets its contract: face after face. The measure is the number of faces to come. Assumes nothing.
+use Prim.Native.Nat.{◌-◌}
+use mathlib.Core.Path.{sym, ◌∙◌}
+use native.Mathlib.Omega.{arith}
+use Rattle.searched_fans.proofs.Crossing.{begin, first_asks, next_asks, ask, turn, hit, miss, done, nothing}
+use Rattle.searched_fans.proofs.cross.Reads as reads
+use Rattle.searched_fans.proofs.cross.Lts as lts
+use Rattle.searched_fans.proofs.meets.Reads as meets-reads
+use Rattle.searched_fans.proofs.next_face.Reads as next-face-reads
+use Rattle.searched_fans.proofs.cross.Goals as goal
+use Rattle.searched_fans.proofs.cross.Goals.{else-meets, then-meets}
+
+-- src/lib.rt:72:9
+pub returns-then-x-v : goal.returns-then-x-v
+returns-then-x-v c = nothing _ _ _ _ c.if-x-v.true
+
+-- src/lib.rt:74:9
+pub next_face-g-requires : goal.next_face-g-requires
+next_face-g-requires c = (first_asks c.requires.0, c.requires.1)
+
+-- src/lib.rt:75:5
+pub loop-g-init : goal.loop-g-init
+loop-g-init c = begin c.requires.0 c.next_face-g.ensures
+
+-- src/lib.rt:76:12
+pub meets-requires : goal.meets-requires
+meets-requires c = ask c.requires.0 c.loop-g.invariant c.loop-g-test.true
+
+-- src/lib.rt:77:24
+pub offset_bounds-words-g : goal.offset_bounds-words-g
+offset_bounds-words-g c = omega (arith, turn c.requires.0 c.loop-g.invariant c.loop-g-test.true)
+
+-- src/lib.rt:77:24
+pub bounds-words-g : goal.bounds-words-g
+bounds-words-g c = omega (arith, turn c.requires.0 c.loop-g.invariant c.loop-g-test.true)
+
+-- src/lib.rt:77:24
+pub overflow_add-words : goal.overflow_add-words
+overflow_add-words c = omega (arith, turn c.requires.0 c.loop-g.invariant c.loop-g-test.true)
+
+-- src/lib.rt:77:13
+pub offset_bounds-words-g-then-meets : goal.offset_bounds-words-g-then-meets
+offset_bounds-words-g-then-meets c = omega (arith, turn c.requires.0 c.loop-g.invariant c.loop-g-test.true)
+
+-- src/lib.rt:77:13
+pub bounds-words-g-then-meets : goal.bounds-words-g-then-meets
+bounds-words-g-then-meets c = omega (arith, turn c.requires.0 c.loop-g.invariant c.loop-g-test.true)
+
+-- src/lib.rt:79:36
+pub overflow_add-g : goal.overflow_add-g
+overflow_add-g c = omega (arith, turn c.requires.0 c.loop-g.invariant c.loop-g-test.true)
+
+-- src/lib.rt:79:9
+pub next_face-g-requires-in-loop-g : goal.next_face-g-requires-in-loop-g
+next_face-g-requires-in-loop-g c = (next_asks c.requires.0 c.loop-g.invariant c.loop-g-test.true, c.requires.1)
+
+-- src/lib.rt:75:5
+pub loop-g-smaller : goal.loop-g-smaller
+loop-g-smaller c = let a = c.before.before.before.before.before in
+    omega (arith, c.next_face-g-in-loop-g.ensures.least, a.loop-g.invariant.long, c.loop-g-test.true)
+
+-- src/lib.rt:75:5
+pub loop-g-preserved : goal.loop-g-preserved
+loop-g-preserved c = let t = c.before.before.before.before in
+    let a = t.before in
+    let p = a.requires.0 in
+    let q = c.next_face-g-in-loop-g.ensures in
+    elim c.if-meets.branch [ then-meets w ↦ rw w.2 (hit p a.loop-g.invariant t.loop-g-test.true q (sym c.meets.ensures ∙ w.if-meets.true)) | else-meets w ↦ rw w.1 (miss p a.loop-g.invariant t.loop-g-test.true q (sym c.meets.ensures ∙ w.if-meets.false)) ]
+
+-- src/lib.rt:67:1
+pub shape_of-words : goal.shape_of-words
+shape_of-words c = c.loop-g.invariant.long
+
+-- src/lib.rt:67:1
+pub returns : goal.returns
+returns c = done c.requires.0 c.loop-g.invariant c.if-x-v.false c.loop-g-test.false

@@ -1,0 +1,13 @@
+-- `searched_fans::next_face` meets its contract: the index tells the next one. Assumes nothing.
+use Rattle.face_index.specs.Index.{joins}
+use Rattle.searched_fans.proofs.next_face.Reads as reads
+use Rattle.searched_fans.proofs.next_face.Lts as lts
+use Rattle.face_index.proofs.next_indexed.Reads as next-indexed-reads
+use Rattle.searched_fans.proofs.next_face.Goals as goal
+
+pub next_indexed-requires : goal.next_indexed-requires
+next_indexed-requires c = let p = c.requires in (p.1, record { whole = p.0.whole; most = p.0.most })
+
+pub returns : goal.returns
+unfolding joins
+returns c = let q = c.next_indexed.ensures in record { least = q.least; most = q.most; none = q.none }

@@ -1,0 +1,13 @@
+-- `searched_isolated::all_length` meets its contract: point after point. Assumes nothing.
+use Prim.Native.Nat.{◌-◌}
+use Rattle.searched_isolated.proofs.Lines.{Told}
+use Rattle.searched_isolated.proofs.all_length.Reads as reads
+use Rattle.searched_isolated.proofs.all_length.Lts as lts
+use Rattle.searched_fans.proofs.number_length.Reads as number-length-reads
+use Rattle.searched_isolated.proofs.all_length.Given as goal
+
+abbrev pub invariant-loop-v : goal.invariant-loop-v
+invariant-loop-v l = Told l.points l.bytes l.v
+
+abbrev pub decreases-loop-v : goal.decreases-loop-v
+decreases-loop-v l = l.points - l.v

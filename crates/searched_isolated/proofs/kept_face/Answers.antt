@@ -1,0 +1,52 @@
+-- `searched_isolated::kept_face` meets its contract: three corners, or none. Assumes nothing.
+use mathlib.Core.Path.{◌≡◌, sym, ap, ◌∙◌}
+use mathlib.Core.Bool.{Bool, ◌&&◌}
+use native.Mathlib.Omega.{arith}
+use lib.Dec.{eqb}
+use Rattle.rules.specs.Mesh.{Face}
+use Rattle.fan_laws.specs.Opening.{single}
+use Rattle.searched_isolated.proofs.Lines.{first_most, face_single, face_several}
+use Rattle.searched_isolated.proofs.kept_face.Reads as reads
+use Rattle.searched_isolated.proofs.kept_face.Lts as lts
+use Rattle.face_words.proofs.view.Reads as view-reads
+use Rattle.searched_isolated.proofs.kept_corner.Reads as kept-corner-reads
+use Rattle.searched_splits.proofs.same.Reads as same_Reads
+use Rattle.searched_isolated.proofs.kept_face.Goals as goal
+
+-- what the test says of the face
+tested : {f g : Face} {r b : Bool} → r ≡ (eqb f.a f.b && eqb f.b f.c) → f ≡ g → r ≡ b → single g ≡ b
+unfolding single
+tested e q t = ap single (sym q) ∙ sym e ∙ t
+
+-- src/lib.rt:49:9
+pub returns-then-same : goal.returns-then-same
+returns-then-same c = let at_same = c.before in
+    let at-view = at_same.before in
+    let start = at-view.before.before.before.before in
+    face_single start.requires.0 (tested at_same.same.ensures at-view.view-c.ensures c.if-same.true)
+
+-- src/lib.rt:51:5
+pub overflow_add-result : goal.overflow_add-result
+overflow_add-result c = let start = c.before.before.before.before.before.before.before.before in
+    omega (arith, c.kept_corner.ensures, c.kept_corner-2.ensures, first_most start.args.faces.now start.args.words.now start.args.f 0, first_most start.args.faces.now start.args.words.now start.args.f 1)
+
+-- src/lib.rt:51:5
+pub overflow_add-result-2 : goal.overflow_add-result-2
+overflow_add-result-2 c = let start = c.before.before.before.before.before.before.before.before.before in
+    omega (
+      arith,
+      c.kept_corner.ensures,
+      c.kept_corner-2.ensures,
+      c.kept_corner-3.ensures,
+      first_most start.args.faces.now start.args.words.now start.args.f 0,
+      first_most start.args.faces.now start.args.words.now start.args.f 1,
+      first_most start.args.faces.now start.args.words.now start.args.f 2,
+    )
+
+-- src/lib.rt:43:1
+pub returns : goal.returns
+returns c = let at-else = c.before.before.before in
+    let at_same = at-else.before in
+    let at-view = at_same.before in
+    let start = at-view.before.before.before.before in
+    face_several start.requires.0 (tested at_same.same.ensures at-view.view-c.ensures at-else.if-same.false) c.kept_corner.ensures c.kept_corner-2.ensures c.kept_corner-3.ensures

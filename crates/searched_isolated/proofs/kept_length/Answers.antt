@@ -1,0 +1,50 @@
+-- `searched_isolated::kept_length` meets its contract: face after face. Assumes nothing.
+use mathlib.Core.Path.{sym, ◌∙◌, subst}
+use Prim.Native.Nat.{◌-◌}
+use native.Mathlib.Omega.{arith}
+use lib.Dec.{T}
+use Rattle.searched_isolated.proofs.Lines.{kept_begin, kept_more, kept_same, kept_done, face_most}
+use Rattle.searched_isolated.proofs.kept_length.Reads as reads
+use Rattle.searched_isolated.proofs.kept_length.Lts as lts
+use Rattle.face_words.proofs.stands.Reads as stands-reads
+use Rattle.searched_isolated.proofs.kept_face.Reads as kept-face-reads
+use Rattle.searched_isolated.proofs.kept_length.Goals as goal
+use Rattle.searched_isolated.proofs.kept_length.Goals.{else-stands, then-stands}
+
+-- src/lib.rt:63:5
+pub loop-f-init : goal.loop-f-init
+loop-f-init c = kept_begin _ _
+
+-- src/lib.rt:64:12
+pub stands-requires : goal.stands-requires
+stands-requires c = c.loop-f-test.true
+
+-- src/lib.rt:65:29
+pub kept_face-bytes-requires : goal.kept_face-bytes-requires
+kept_face-bytes-requires c = let t = c.before.before in
+    let start = t.before.before.before.before.before in
+    (record { worded = start.requires.0.worded; here = t.loop-f-test.true; standing = subst T (sym (sym c.stands.ensures ∙ c.if-stands.true)) tt }, start.requires.1)
+
+-- src/lib.rt:65:21
+pub overflow_add-bytes : goal.overflow_add-bytes
+overflow_add-bytes c = let t = c.before.before.before in
+    let start = t.before.before.before.before.before in
+    omega (arith, start.requires.0.worded.few, t.loop-f.invariant.few, t.loop-f-test.true, c.kept_face-bytes.ensures, face_most start.args.faces.now start.args.words.now t.loop-f.f)
+
+-- src/lib.rt:67:9
+pub overflow_add-f : goal.overflow_add-f
+overflow_add-f c = omega (arith, c.loop-f-test.true, c.requires.0.worded.few)
+
+-- src/lib.rt:63:5
+pub loop-f-smaller : goal.loop-f-smaller
+loop-f-smaller c = omega (arith, c.loop-f-test.true)
+
+-- src/lib.rt:63:5
+pub loop-f-preserved : goal.loop-f-preserved
+loop-f-preserved c = let t = c.before.before in
+    let i = t.loop-f.invariant in
+    elim c.if-stands.branch [ then-stands w ↦ rw w.2 (kept_more i t.loop-f-test.true (sym c.stands.ensures ∙ w.if-stands.true) w.1.ensures) | else-stands w ↦ rw w.1 (kept_same i t.loop-f-test.true (sym c.stands.ensures ∙ w.if-stands.false)) ]
+
+-- src/lib.rt:57:1
+pub returns : goal.returns
+returns c = kept_done c.loop-f.invariant c.loop-f-test.false

@@ -1,0 +1,15 @@
+-- `searched_lines::exchange_length` meets its contract. The invariant: the lines of the faces that were passed are added up. Assumes nothing.
+use Prim.Native.Nat.{◌-◌}
+use lib.ListN.{length}
+use Rattle.searched_lines.specs.Lines.{exchange_line}
+use Rattle.searched_lines.proofs.Summing.{Summed}
+use Rattle.searched_lines.proofs.exchange_length.Reads as reads
+use Rattle.searched_lines.proofs.exchange_length.Lts as lts
+use Rattle.searched_lines.proofs.exchange_line.Reads as exchange-line-reads
+use Rattle.searched_lines.proofs.exchange_length.Given as goal
+
+abbrev pub invariant-loop-f : goal.invariant-loop-f
+invariant-loop-f l = Summed (exchange_line l.faces l.words) (length l.words) l.bytes l.f
+
+abbrev pub decreases-loop-f : goal.decreases-loop-f
+decreases-loop-f l = length l.words - l.f

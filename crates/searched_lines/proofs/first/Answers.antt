@@ -1,0 +1,19 @@
+-- `searched_lines::first` meets its contract: off, or both kinds leave together. Assumes nothing.
+use native.Mathlib.Omega.{arith}
+use Rattle.rules.specs.Pass1.{pass1}
+use Rattle.rules.specs.Mending.{lines1}
+use Rattle.searched_lines.proofs.Passing.{off_told, on_told, pass_ask, first_told}
+use Rattle.searched_lines.proofs.first.Reads as reads
+use Rattle.searched_lines.proofs.first.Lts as lts
+use Rattle.searched_lines.proofs.degenerate_length.Reads as degenerate-length-reads
+use Rattle.searched_marks.proofs.pass1.Reads as pass1-reads
+use Rattle.searched_lines.proofs.first.Goals as goal
+
+pub returns-then-not-on : goal.returns-then-not-on
+returns-then-not-on c = let start = c.before.before.before.before in off_told 2 (pass1 start.args.s) (lines1 start.args.s) (omega arith) start.requires start.args.on c.if-not-on.true
+
+pub pass1-requires : goal.pass1-requires
+pass1-requires c = pass_ask c.requires
+
+pub returns : goal.returns
+returns c = let start = c.before.before.before.before.before.before.before.before.before.before in on_told 2 (pass1 start.args.s) (lines1 start.args.s) (first_told start.requires start.args.s c.degenerate_length-bytes.ensures c.pass1.ensures) start.args.on c.if-not-on.false

@@ -1,0 +1,26 @@
+-- `searched_lines::fourth` meets its contract: off, or faces are oriented, and those that then collide leave. Assumes nothing.
+use native.Mathlib.Omega.{arith}
+use Rattle.rules.specs.Pass4.{pass4}
+use Rattle.rules.specs.Mending.{lines4}
+use Rattle.searched_marks.proofs.Marking.{sweep_ok}
+use Rattle.searched_lines.proofs.Passing.{off_told, on_told, turn_ask, fourth_told}
+use Rattle.searched_lines.proofs.fourth.Reads as reads
+use Rattle.searched_lines.proofs.fourth.Lts as lts
+use Rattle.searched_lines.proofs.exchange_length.Reads as exchange-length-reads
+use Rattle.searched_lines.proofs.marked_length.Reads as marked-length-reads
+use Rattle.searched_marks.proofs.mark_at_steps.Reads as mark-at-steps-reads
+use Rattle.searched_marks.proofs.sweep.Reads as sweep-reads
+use Rattle.searched_walk.proofs.walk.Reads as walk-reads
+use Rattle.searched_lines.proofs.fourth.Goals as goal
+
+pub returns-then-not-on : goal.returns-then-not-on
+returns-then-not-on c = let start = c.before.before.before.before.before in off_told 4 pass4 lines4 (omega arith) start.requires.0 start.args.on c.if-not-on.true
+
+pub mark_at_steps-requires : goal.mark_at_steps-requires
+mark_at_steps-requires c = let start = c.before.before.before.before.before.before.before.before.before.before.before.before in (turn_ask start.requires.0 c.walk.ensures, start.requires.1)
+
+pub sweep-requires : goal.sweep-requires
+sweep-requires c = sweep_ok (turn_ask c.requires.0 c.walk.ensures).plain c.mark_at_steps.ensures
+
+pub returns : goal.returns
+returns c = let start = c.before.before.before.before.before.before.before.before.before.before.before.before.before.before.before.before.before.before.before.before.before in on_told 4 pass4 lines4 (fourth_told start.requires.0 c.walk.ensures c.exchange_length-turned.ensures c.mark_at_steps.ensures c.marked_length-bytes.ensures c.sweep.ensures) start.args.on c.if-not-on.false

@@ -1,0 +1,24 @@
+-- `searched_lines::marked_length` meets its contract. The invariant: the lines of the faces that were passed are added up. Assumes nothing.
+use native.Mathlib.Omega.{arith}
+use Prim.Native.Nat.{◌-◌}
+use Rattle.searched_lines.proofs.Texts.{marked_short}
+use Rattle.searched_lines.proofs.Summing.{sum_begin, sum_again, sum_done}
+use Rattle.searched_lines.proofs.marked_length.Reads as reads
+use Rattle.searched_lines.proofs.marked_length.Lts as lts
+use Rattle.searched_lines.proofs.marked_line.Reads as marked-line-reads
+use Rattle.searched_lines.proofs.marked_length.Goals as goal
+
+pub loop-f-init : goal.loop-f-init
+loop-f-init c = sum_begin _ _
+
+pub marked_line-bytes-requires : goal.marked_line-bytes-requires
+marked_line-bytes-requires c = record { asks = c.requires; here = c.loop-f-test.true }
+
+pub overflow_add-bytes : goal.overflow_add-bytes
+overflow_add-bytes c = let start = c.before.before.before.before in let at = c.before.before in omega (arith, at.loop-f.invariant, c.marked_line_is.ensures, marked_short start.args.n start.requires.letters start.args.words.now c.loop-f.f, start.requires.few)
+
+pub loop-f-preserved : goal.loop-f-preserved
+loop-f-preserved c = let start = c.before.before.before.before in sum_again c.loop-f.invariant c.loop-f-test.true c.marked_line_is.ensures (marked_short start.args.n start.requires.letters start.args.words.now c.loop-f.f)
+
+pub returns : goal.returns
+returns c = sum_done c.loop-f.invariant c.loop-f-test.false

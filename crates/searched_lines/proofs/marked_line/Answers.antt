@@ -1,0 +1,17 @@
+-- `searched_lines::marked_line` meets its contract: by its word. Assumes nothing.
+use native.Mathlib.Omega.{arith}
+use Rattle.rule_laws.proofs.Digits.{decimal_short}
+use Rattle.searched_lines.proofs.Lining.{marked_line_is, unmarked_none}
+use Rattle.searched_lines.proofs.marked_line.Reads as reads
+use Rattle.searched_lines.proofs.marked_line.Lts as lts
+use Rattle.searched_fans.proofs.number_length.Reads as number-length-reads
+use Rattle.searched_lines.proofs.marked_line.Goals as goal
+
+pub overflow_add-result-then-words-f-eq1 : goal.overflow_add-result-then-words-f-eq1
+overflow_add-result-then-words-f-eq1 c = omega (arith, decimal_short c.args.f, c.number_length.ensures, c.requires.asks)
+
+pub returns-then-words-f-eq1 : goal.returns-then-words-f-eq1
+returns-then-words-f-eq1 c = let start = c.before.before.before.before in marked_line_is start.args.n start.args.words.now start.args.f c.if-words-f-eq1.true c.number_length.ensures
+
+pub returns : goal.returns
+returns c = let start = c.before.before.before in unmarked_none start.args.n start.args.words.now start.args.f c.if-words-f-eq1.false

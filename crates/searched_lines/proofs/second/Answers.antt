@@ -1,0 +1,24 @@
+-- `searched_lines::second` meets its contract: off, or faces are marked, their lines measured, and they are swept. Assumes nothing.
+use native.Mathlib.Omega.{arith}
+use Rattle.rules.specs.Pass2.{pass2}
+use Rattle.rules.specs.Mending.{lines2}
+use Rattle.searched_marks.proofs.Marking.{sweep_ok}
+use Rattle.searched_lines.proofs.Passing.{off_told, on_told, plain, words_ask, second_told}
+use Rattle.searched_lines.proofs.second.Reads as reads
+use Rattle.searched_lines.proofs.second.Lts as lts
+use Rattle.searched_lines.proofs.marked_length.Reads as marked-length-reads
+use Rattle.searched_marks.proofs.mark_duplicates.Reads as mark-duplicates-reads
+use Rattle.searched_marks.proofs.sweep.Reads as sweep-reads
+use Rattle.searched_lines.proofs.second.Goals as goal
+
+pub returns-then-not-on : goal.returns-then-not-on
+returns-then-not-on c = let start = c.before.before.before.before.before in off_told 2 pass2 lines2 (omega arith) start.requires.0 start.args.on c.if-not-on.true
+
+pub mark_duplicates-requires : goal.mark_duplicates-requires
+mark_duplicates-requires c = let start = c.before.before.before.before.before.before in (words_ask start.requires.0, start.requires.1)
+
+pub sweep-requires : goal.sweep-requires
+sweep-requires c = sweep_ok (plain c.requires.0) c.mark_duplicates.ensures
+
+pub returns : goal.returns
+returns c = let start = c.before.before.before.before.before.before.before.before.before.before.before.before.before.before.before in on_told 2 pass2 lines2 (second_told start.requires.0 c.mark_duplicates.ensures c.marked_length-bytes.ensures c.sweep.ensures) start.args.on c.if-not-on.false

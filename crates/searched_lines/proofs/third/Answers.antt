@@ -1,0 +1,24 @@
+-- `searched_lines::third` meets its contract: off, or faces are marked, their lines measured, and they are swept. Assumes nothing.
+use native.Mathlib.Omega.{arith}
+use Rattle.rules.specs.Pass3.{pass3}
+use Rattle.rules.specs.Mending.{lines3}
+use Rattle.searched_marks.proofs.Marking.{sweep_ok}
+use Rattle.searched_lines.proofs.Passing.{off_told, on_told, plain, pass_ask, third_told}
+use Rattle.searched_lines.proofs.third.Reads as reads
+use Rattle.searched_lines.proofs.third.Lts as lts
+use Rattle.searched_lines.proofs.marked_length.Reads as marked-length-reads
+use Rattle.searched_marks.proofs.mark_at_edges.Reads as mark-at-edges-reads
+use Rattle.searched_marks.proofs.sweep.Reads as sweep-reads
+use Rattle.searched_lines.proofs.third.Goals as goal
+
+pub returns-then-not-on : goal.returns-then-not-on
+returns-then-not-on c = let start = c.before.before.before.before.before in off_told 2 pass3 lines3 (omega arith) start.requires.0 start.args.on c.if-not-on.true
+
+pub mark_at_edges-requires : goal.mark_at_edges-requires
+mark_at_edges-requires c = let start = c.before.before.before.before.before.before in (pass_ask start.requires.0, start.requires.1)
+
+pub sweep-requires : goal.sweep-requires
+sweep-requires c = sweep_ok (plain c.requires.0) c.mark_at_edges.ensures
+
+pub returns : goal.returns
+returns c = let start = c.before.before.before.before.before.before.before.before.before.before.before.before.before.before.before in on_told 2 pass3 lines3 (third_told start.requires.0 c.mark_at_edges.ensures c.marked_length-bytes.ensures c.sweep.ensures) start.args.on c.if-not-on.false

@@ -1,0 +1,34 @@
+-- `searched_lost::lost_length` meets its contract: face after face. The measure is the number of faces to come. Assumes nothing.
+use Prim.Native.Nat.{◌-◌}
+use native.Mathlib.Omega.{arith}
+use Rattle.searched_lost.proofs.Adding.{face_most, gone_begin, face-ask, gone_more, gone_same, gone_done}
+use Rattle.searched_lost.proofs.lost_length.Reads as reads
+use Rattle.searched_lost.proofs.lost_length.Lts as lts
+use Rattle.face_words.proofs.stands.Reads as stands-reads
+use Rattle.searched_lost.proofs.lost_face.Reads as lost-face-reads
+use Rattle.searched_lost.proofs.lost_length.Goals as goal
+use Rattle.searched_lost.proofs.lost_length.Goals.{else-stands, then-stands}
+
+pub loop-f-init : goal.loop-f-init
+loop-f-init c = λ q. gone_begin q
+
+pub stands-requires : goal.stands-requires
+stands-requires c = c.loop-f-test.true
+
+pub lost_face-bytes-requires : goal.lost_face-bytes-requires
+lost_face-bytes-requires c = let p = c.requires in face-ask p (c.loop-f.invariant p) c.loop-f-test.true c.stands.ensures c.if-stands.true
+
+pub overflow_add-bytes : goal.overflow_add-bytes
+overflow_add-bytes c = let start = c.before.before.before.before.before.before.before in let p = start.requires in let a = c.before.before.before.before in omega (arith, (a.loop-f.invariant p).few, c.loop-f-test.true, c.lost_face-bytes.ensures (face-ask p (a.loop-f.invariant p) c.loop-f-test.true c.stands.ensures c.if-stands.true), face_most start.args.faces.now p.base start.args.points a.loop-f.f, p.split.worded.few, p.stage.long)
+
+pub overflow_add-f : goal.overflow_add-f
+overflow_add-f c = omega (arith, c.loop-f-test.true)
+
+pub loop-f-smaller : goal.loop-f-smaller
+loop-f-smaller c = omega (arith, c.loop-f-test.true)
+
+pub loop-f-preserved : goal.loop-f-preserved
+loop-f-preserved c = let t = c.before.before in let a = t.before in λ q. elim c.if-stands.branch [ then-stands w ↦ rw w.2 (gone_more q (a.loop-f.invariant q) t.loop-f-test.true c.stands.ensures w.if-stands.true (w.1.ensures (face-ask q (a.loop-f.invariant q) t.loop-f-test.true c.stands.ensures w.if-stands.true))) | else-stands w ↦ rw w.1 (gone_same q (a.loop-f.invariant q) t.loop-f-test.true c.stands.ensures w.if-stands.false) ]
+
+pub returns : goal.returns
+returns c = λ q. gone_done q (c.loop-f.invariant q) c.loop-f-test.false

@@ -1,0 +1,43 @@
+-- `searched_ranks::rank_corner` meets its contract, test after test. Assumes nothing.
+use mathlib.Core.Path.{sym, ap, ◌∙◌}
+use mathlib.Core.Bool.{true, false}
+use Prim.Native.Nat.{◌+◌, ◌*◌}
+use Rattle.searched_fans.proofs.Meeting.{off, on}
+use Rattle.searched_splits.specs.Splits.{pick_of}
+use Rattle.searched_ranks.specs.Ranks.{before_in}
+use Rattle.searched_ranks.proofs.Counting.{unmarked, by_order}
+use Rattle.searched_ranks.proofs.rank_corner.Reads as reads
+use Rattle.searched_ranks.proofs.rank_corner.Lts as lts
+use Rattle.face_words.proofs.view.Reads as view-reads
+use Rattle.searched_ranks.proofs.comes_before.Reads as comes-before-reads
+use Rattle.searched_ranks.proofs.marked.Reads as marked-reads
+use Rattle.searched_splits.proofs.pick.Reads as pick-reads
+use Rattle.searched_ranks.proofs.rank_corner.Goals as goal
+
+-- src/lib.rt:47:9
+pub returns-then-not-marked : goal.returns-then-not-marked
+returns-then-not-marked c = let at-marked = c.before in
+    let start = at-marked.before.before.before.before in
+    unmarked start.args.faces.now start.args.words.now start.args.v start.args.id start.args.g start.args.j (sym at-marked.marked.ensures ∙ off at-marked.marked.result c.if-not-marked.true)
+
+-- src/lib.rt:51:9
+pub returns-then-comes_before : goal.returns-then-comes_before
+returns-then-comes_before c = let at-order = c.before in
+    let at-pick = at-order.before in
+    let at-view = at-pick.before in
+    let at-marked = at-view.before.before in
+    let start = at-marked.before.before.before.before in
+    let p = start.args in
+    by_order p.faces.now p.words.now p.v p.id p.g p.j true (sym at-marked.marked.ensures ∙ on at-marked.marked.result at-view.if-not-marked.false)
+    (ap (λ x. before_in x p.v (3 * p.g + p.j) p.id) (sym (at-pick.pick.ensures ∙ ap (λ g. pick_of g.a g.b g.c p.j) at-view.view-c.ensures)) ∙ sym at-order.comes_before.ensures ∙ c.if-comes_before.true)
+
+-- src/lib.rt:35:1
+pub returns : goal.returns
+returns c = let at-order = c.before in
+    let at-pick = at-order.before in
+    let at-view = at-pick.before in
+    let at-marked = at-view.before.before in
+    let start = at-marked.before.before.before.before in
+    let p = start.args in
+    by_order p.faces.now p.words.now p.v p.id p.g p.j false (sym at-marked.marked.ensures ∙ on at-marked.marked.result at-view.if-not-marked.false)
+    (ap (λ x. before_in x p.v (3 * p.g + p.j) p.id) (sym (at-pick.pick.ensures ∙ ap (λ g. pick_of g.a g.b g.c p.j) at-view.view-c.ensures)) ∙ sym at-order.comes_before.ensures ∙ c.if-comes_before.false)

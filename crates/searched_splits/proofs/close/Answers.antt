@@ -1,0 +1,76 @@
+-- `searched_splits::close` meets its contract: by a search, or the corner alone. Assumes nothing.
+use mathlib.Core.Path.{◌≡◌, sym, ap, ◌∙◌, subst}
+use mathlib.Core.Bool.{Bool, true, false, ◌&&◌}
+use native.Mathlib.Omega.{arith}
+use lib.Dec.{T, eqb}
+use Rattle.rules.specs.Mesh.{Face}
+use Rattle.rule_laws.proofs.Digits.{decimal_short}
+use Rattle.fan_laws.specs.Opening.{single}
+use Rattle.searched_splits.proofs.Closing.{bit_most, reach_ask, reached, given, kept}
+use Rattle.searched_splits.proofs.close.Reads as reads
+use Rattle.searched_splits.proofs.close.Lts as lts
+use Rattle.face_words.proofs.view.Reads as view-reads
+use Rattle.searched_fans.proofs.number_length.Reads as number-length-reads
+use Rattle.searched_fans.proofs.reach.Reads as reach-reads
+use Rattle.searched_splits.proofs.bit.Reads as bit-reads
+use Rattle.searched_splits.proofs.gives.Reads as gives-reads
+use Rattle.searched_splits.proofs.same.Reads as same_Reads
+use Rattle.searched_splits.proofs.close.Goals as goal
+
+-- what the test says of the face
+tested : {f g : Face} {r b : Bool} → r ≡ (eqb f.a f.b && eqb f.b f.c) → f ≡ g → r ≡ b → single g ≡ b
+unfolding single
+tested e q t = ap single (sym q) ∙ sym e ∙ t
+
+-- src/lib.rt:145:20
+pub overflow_add-words : goal.overflow_add-words
+overflow_add-words c = let at-bit = c in
+    let at_same = at-bit.before.before.before in
+    let at-view = at_same.before in
+    let start = at-view.before.before.before.before.before in
+    omega (arith, start.requires.0.few start.args.f start.requires.0.here, at-bit.bit.ensures, bit_most start.args.k)
+
+-- src/lib.rt:147:20
+pub overflow_add-result : goal.overflow_add-result
+overflow_add-result c = let at-number-length = c in
+    let at_gives = at-number-length.before.before in
+    let at-bit = at_gives.before in
+    let at_same = at-bit.before.before.before in
+    let at-view = at_same.before in
+    let start = at-view.before.before.before.before.before in
+    omega (arith, at-number-length.number_length.ensures, decimal_short start.args.f)
+
+-- src/lib.rt:147:13
+pub returns-then-gives : goal.returns-then-gives
+returns-then-gives c = let at-number-length = c in
+    let at_gives = at-number-length.before.before in
+    let at-bit = at_gives.before in
+    let at_same = at-bit.before.before.before in
+    let at-view = at_same.before in
+    let start = at-view.before.before.before.before.before in
+    given start.requires.0 (subst T (sym (tested at_same.same.ensures at-view.view-c.ensures at-bit.if-same.true)) tt) at-bit.bit.ensures (sym at_gives.gives.ensures ∙ c.if-gives.true) at-number-length.number_length.ensures
+
+-- src/lib.rt:149:9
+pub returns-then-same : goal.returns-then-same
+returns-then-same c = let at_gives = c.before in
+    let at-bit = at_gives.before in
+    let at_same = at-bit.before.before.before in
+    let at-view = at_same.before in
+    let start = at-view.before.before.before.before.before in
+    kept start.requires.0 (subst T (sym (tested at_same.same.ensures at-view.view-c.ensures at-bit.if-same.true)) tt) at-bit.bit.ensures (sym at_gives.gives.ensures ∙ c.if-gives.false)
+
+-- src/lib.rt:151:5
+pub reach-requires : goal.reach-requires
+reach-requires c = let at_same = c.before.before in
+    let at-view = at_same.before in
+    let start = at-view.before.before.before.before.before in
+    (reach_ask start.requires.0 (tested at_same.same.ensures at-view.view-c.ensures c.if-same.false), start.requires.1)
+
+-- src/lib.rt:138:1
+pub returns : goal.returns
+returns c = let at-reach = c.before.before in
+    let at_same = at-reach.before.before.before in
+    let at-view = at_same.before in
+    let start = at-view.before.before.before.before.before in
+    let e = tested at_same.same.ensures at-view.view-c.ensures at-reach.if-same.false in
+    reached start.requires.0 e (at-reach.reach.ensures (reach_ask start.requires.0 e))

@@ -1,0 +1,54 @@
+-- `searched_splits::split_length` meets its contract: face after face. The measure is the number of faces to come. Assumes nothing.
+use mathlib.Core.Path.{sym, ◌∙◌}
+use mathlib.Core.Logic.{⊎_elim}
+use Prim.Native.Nat.{◌-◌}
+use native.Mathlib.Omega.{arith}
+use Rattle.searched_splits.proofs.Faces.{begin, ask, face_more, face_none, done}
+use Rattle.searched_splits.proofs.split_length.Reads as reads
+use Rattle.searched_splits.proofs.split_length.Lts as lts
+use Rattle.face_words.proofs.stands.Reads as stands-reads
+use Rattle.searched_splits.proofs.split_face.Reads as split-face-reads
+use Rattle.searched_splits.proofs.split_length.Goals as goal
+
+-- src/lib.rt:209:5
+pub loop-f-init : goal.loop-f-init
+loop-f-init c = begin c.requires.0
+
+-- src/lib.rt:210:12
+pub stands-requires : goal.stands-requires
+stands-requires c = c.loop-f-test.true
+
+-- src/lib.rt:211:17
+pub split_face-told-requires : goal.split_face-told-requires
+split_face-told-requires c = let t = c.before.before.before.before in
+    let a = t.before in
+    (ask a.requires.0 a.loop-f.invariant t.loop-f-test.true (sym c.stands.ensures ∙ c.if-stands.true), a.requires.1)
+
+-- src/lib.rt:215:9
+pub overflow_add-f : goal.overflow_add-f
+overflow_add-f c = let a = c.before.before.before.before in
+    omega (arith, c.loop-f-test.true, a.loop-f.invariant.stage.long, a.requires.0.worded.few)
+
+-- src/lib.rt:209:5
+pub loop-f-smaller : goal.loop-f-smaller
+loop-f-smaller c = omega (arith, c.loop-f-test.true, c.loop-f.invariant.stage.long)
+
+-- src/lib.rt:209:5
+pub loop-f-preserved : goal.loop-f-preserved
+loop-f-preserved c = let t = c.before.before.before in
+    let a = t.before in
+    let p = a.requires.0 in
+    ⊎_elim
+    (λ w.
+    let e = sym c.stands.ensures ∙ w.0.taken in
+    rw (w.5, w.6, w.7) (face_more p a.loop-f.invariant t.loop-f-test.true e (w.2.ensures (ask p a.loop-f.invariant t.loop-f-test.true e))))
+    (λ w. rw (w.1, w.2, w.3) (face_none p a.loop-f.invariant t.loop-f-test.true (sym c.stands.ensures ∙ w.0.left)))
+    c.if-stands.branch
+
+-- src/lib.rt:202:1
+pub shape_of-words : goal.shape_of-words
+shape_of-words c = c.loop-f.invariant.stage.long
+
+-- src/lib.rt:202:1
+pub returns : goal.returns
+returns c = done c.requires.0 c.loop-f.invariant c.loop-f-test.false

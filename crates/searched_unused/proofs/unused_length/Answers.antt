@@ -1,0 +1,32 @@
+-- `searched_unused::unused_length` meets its contract. The invariant: the lines of the points that were passed are added up. Assumes nothing.
+use native.Mathlib.Omega.{arith}
+use Prim.Native.Nat.{◌-◌}
+use Rattle.searched_unused.proofs.Adding.{add_begin, add_again, add_done, line_short}
+use Rattle.searched_unused.proofs.unused_length.Reads as reads
+use Rattle.searched_unused.proofs.unused_length.Lts as lts
+use Rattle.searched_unused.proofs.unused_line.Reads as unused-line-reads
+use Rattle.searched_unused.proofs.unused_length.Goals as goal
+
+pub loop-v-init : goal.loop-v-init
+loop-v-init c = add_begin _ _ _
+
+pub overflow_cast-v : goal.overflow_cast-v
+overflow_cast-v c = omega (arith, c.loop-v-test.true, c.requires.0.few)
+
+pub unused_line-bytes-requires : goal.unused_line-bytes-requires
+unused_line-bytes-requires c = let start = c.before.before.before.before.before in (start.requires.0.worded, start.requires.1)
+
+pub overflow_add-bytes : goal.overflow_add-bytes
+overflow_add-bytes c = let start = c.before.before.before.before.before.before in omega (arith, c.loop-v.invariant, c.loop-v-test.true, c.unused_line_is.ensures, line_short start.args.faces.now start.args.words.now c.loop-v.v, start.requires.0.few)
+
+pub overflow_add-v : goal.overflow_add-v
+overflow_add-v c = omega (arith, c.loop-v-test.true)
+
+pub loop-v-smaller : goal.loop-v-smaller
+loop-v-smaller c = omega (arith, c.loop-v-test.true)
+
+pub loop-v-preserved : goal.loop-v-preserved
+loop-v-preserved c = add_again c.loop-v.invariant c.loop-v-test.true c.unused_line_is.ensures
+
+pub returns : goal.returns
+returns c = add_done c.loop-v.invariant c.loop-v-test.false

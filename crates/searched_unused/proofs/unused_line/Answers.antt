@@ -1,0 +1,18 @@
+-- `searched_unused::unused_line` meets its contract. Assumes nothing.
+use native.Mathlib.Omega.{arith}
+use Rattle.rule_laws.proofs.Digits.{decimal_short}
+use Rattle.searched_unused.proofs.Adding.{used_none, unused_line_is}
+use Rattle.searched_unused.proofs.unused_line.Reads as reads
+use Rattle.searched_unused.proofs.unused_line.Lts as lts
+use Rattle.searched_fans.proofs.number_length.Reads as number-length-reads
+use Rattle.searched_unused.proofs.is_used.Reads as is-used-reads
+use Rattle.searched_unused.proofs.unused_line.Goals as goal
+
+pub returns-then-is_used : goal.returns-then-is_used
+returns-then-is_used c = let start = c.before.before.before.before.before in used_none start.args.faces.now start.args.words.now start.args.v c.is_used.ensures c.if-is_used.true
+
+pub overflow_add-result : goal.overflow_add-result
+overflow_add-result c = omega (arith, decimal_short c.args.v, c.number_length.ensures)
+
+pub returns : goal.returns
+returns c = let start = c.before.before.before.before.before.before in unused_line_is start.args.faces.now start.args.words.now start.args.v c.is_used.ensures c.if-is_used.false c.number_length.ensures

@@ -1,0 +1,19 @@
+-- `searched_walk::cross_face` meets its contract: one step after the other. Assumes nothing.
+use Rattle.searched_walk.proofs.Popping.{still_ask, crossed}
+use Rattle.searched_walk.proofs.cross_face.Reads as reads
+use Rattle.searched_walk.proofs.cross_face.Lts as lts
+use Rattle.face_words.proofs.view.Reads as view-reads
+use Rattle.searched_walk.proofs.across.Reads as across-reads
+use Rattle.searched_walk.proofs.cross_face.Goals as goal
+
+-- src/lib.rt:149:9
+pub across-second-requires : goal.across-second-requires
+across-second-requires c = (still_ask c.requires.0 c.across-first.ensures, c.requires.1)
+
+-- src/lib.rt:150:5
+pub across-requires : goal.across-requires
+across-requires c = (still_ask (still_ask c.requires.0 c.across-first.ensures) c.across-second.ensures, c.requires.1)
+
+-- src/lib.rt:143:1
+pub returns : goal.returns
+returns c = crossed c.view-v.ensures c.across-first.ensures c.across-second.ensures c.across.ensures

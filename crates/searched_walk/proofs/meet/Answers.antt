@@ -1,0 +1,47 @@
+-- `searched_walk::meet` meets its contract: a face that is visited marks, another is pushed. Assumes nothing.
+use native.Mathlib.Omega.{arith}
+use mathlib.Core.Path.{refl}
+use mathlib.Core.Bool.{cond}
+use Rattle.searched_walk.proofs.Noting.{more_most}
+use Rattle.searched_walk.proofs.Visiting.{view_ok, met_seen, bounds, met_new}
+use Rattle.searched_walk.proofs.meet.Reads as reads
+use Rattle.searched_walk.proofs.meet.Lts as lts
+use Rattle.entry_search.proofs.walks.Reads as walks-reads
+use Rattle.face_words.proofs.view.Reads as view-reads
+use Rattle.searched_walk.proofs.one_more.Reads as one-more-reads
+use Rattle.searched_walk.proofs.remark.Reads as remark-reads
+use Rattle.searched_walk.proofs.seen.Reads as seen-reads
+use Rattle.searched_walk.proofs.turn.Reads as turn-reads
+use Rattle.searched_walk.proofs.meet.Goals as goal
+
+-- src/lib.rt:63:38
+pub view-requires : goal.view-requires
+view-requires c = view_ok c.requires
+
+-- src/lib.rt:65:9
+pub returns-then-seen : goal.returns-then-seen
+returns-then-seen c = let at_seen = c.before.before in let at_Walks = at_seen.before.before in let at-view = at_Walks.before in let start = at-view.before.before.before.before in met_seen start.requires at-view.view.ensures start.args.a start.args.b at_Walks.walks-agrees.ensures at_seen.seen.ensures c.if-seen.true c.remark.ensures
+
+-- src/lib.rt:73:16
+pub overflow_add-words : goal.overflow_add-words
+overflow_add-words c = let at_seen = c.before.before in let at_Walks = at_seen.before.before in let at-view = at_Walks.before in let start = at-view.before.before.before.before in omega (arith, bounds start.requires at-view.view.ensures start.args.a start.args.b at_Walks.walks-agrees.ensures at_seen.seen.ensures c.if-seen.false {turn = cond at_Walks.walks-agrees.result 0 2} refl)
+
+-- src/lib.rt:73:16
+pub overflow_add-words-2 : goal.overflow_add-words-2
+overflow_add-words-2 c = let at_seen = c.before.before.before in let at_Walks = at_seen.before.before in let at-view = at_Walks.before in let start = at-view.before.before.before.before in omega (arith, bounds start.requires at-view.view.ensures start.args.a start.args.b at_Walks.walks-agrees.ensures at_seen.seen.ensures c.if-seen.false c.turn.ensures)
+
+-- src/lib.rt:73:16
+pub overflow_add-words-3 : goal.overflow_add-words-3
+overflow_add-words-3 c = let at_seen = c.before.before.before.before in let at_Walks = at_seen.before.before in let at-view = at_Walks.before in let start = at-view.before.before.before.before in omega (arith, bounds start.requires at-view.view.ensures start.args.a start.args.b at_Walks.walks-agrees.ensures at_seen.seen.ensures c.if-seen.false c.turn.ensures)
+
+-- src/lib.rt:76:15
+pub overflow_add-result : goal.overflow_add-result
+overflow_add-result c = let at_seen = c.before.before.before.before.before in let at_Walks = at_seen.before.before in let at-view = at_Walks.before in let start = at-view.before.before.before.before in omega (arith, bounds start.requires at-view.view.ensures start.args.a start.args.b at_Walks.walks-agrees.ensures at_seen.seen.ensures c.if-seen.false c.turn.ensures)
+
+-- src/lib.rt:77:20
+pub overflow_add-result-2 : goal.overflow_add-result-2
+overflow_add-result-2 c = let at_seen = c.before.before.before.before.before.before.before in let at_Walks = at_seen.before.before in let at-view = at_Walks.before in let start = at-view.before.before.before.before in omega (arith, bounds start.requires at-view.view.ensures start.args.a start.args.b at_Walks.walks-agrees.ensures at_seen.seen.ensures c.if-seen.false c.turn.ensures, more_most at_Walks.walks-agrees.result c.one_more.ensures)
+
+-- src/lib.rt:59:1
+pub returns : goal.returns
+returns c = let at_seen = c.before.before.before.before.before.before.before in let at_Walks = at_seen.before.before in let at-view = at_Walks.before in let start = at-view.before.before.before.before in met_new start.requires at-view.view.ensures start.args.a start.args.b at_Walks.walks-agrees.ensures at_seen.seen.ensures c.if-seen.false c.turn.ensures c.one_more.ensures

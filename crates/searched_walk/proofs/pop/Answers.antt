@@ -1,0 +1,18 @@
+-- `searched_walk::pop` meets its contract: the top face crosses its edges. Assumes nothing.
+use Rattle.searched_walk.proofs.Popping.{top_in, pop_ask, pop_gives}
+use Rattle.searched_walk.proofs.pop.Reads as reads
+use Rattle.searched_walk.proofs.pop.Lts as lts
+use Rattle.searched_walk.proofs.cross_face.Reads as cross-face-reads
+use Rattle.searched_walk.proofs.pop.Goals as goal
+
+-- src/lib.rt:160:14
+pub bounds-words-j : goal.bounds-words-j
+bounds-words-j c = (top_in c.requires.0).0
+
+-- src/lib.rt:166:5
+pub cross_face-requires : goal.cross_face-requires
+cross_face-requires c = (pop_ask c.requires.0, c.requires.1)
+
+-- src/lib.rt:154:1
+pub returns : goal.returns
+returns c = pop_gives c.requires.0 c.cross_face.ensures

@@ -1,0 +1,32 @@
+-- `searched_walk::walk_all` meets its contract. The invariant: the walk was begun at the faces that were passed. Assumes nothing.
+use Prim.Native.Nat.{◌-◌}
+use native.Mathlib.Omega.{arith}
+use Rattle.searched_walk.proofs.Beginning.{all_begin, all_ask, all_again, all_done}
+use Rattle.searched_walk.proofs.walk_all.Reads as reads
+use Rattle.searched_walk.proofs.walk_all.Lts as lts
+use Rattle.searched_walk.proofs.begin.Reads as begin-reads
+use Rattle.searched_walk.proofs.walk_all.Goals as goal
+
+-- src/lib.rt:252:5
+pub loop-f-init : goal.loop-f-init
+loop-f-init c = all_begin c.requires.0
+
+-- src/lib.rt:253:9
+pub begin-now-requires : goal.begin-now-requires
+begin-now-requires c = (all_ask c.requires.0 c.loop-f.invariant c.loop-f-test.true, c.requires.1)
+
+-- src/lib.rt:252:5
+pub loop-f-smaller : goal.loop-f-smaller
+loop-f-smaller c = omega (arith, c.loop-f.invariant.kept.long, c.loop-f-test.true)
+
+-- src/lib.rt:252:5
+pub loop-f-preserved : goal.loop-f-preserved
+loop-f-preserved c = all_again c.requires.0 c.loop-f.invariant c.loop-f-test.true c.begin-now.ensures
+
+-- src/lib.rt:240:1
+pub shape_of-words : goal.shape_of-words
+shape_of-words c = c.loop-f.invariant.kept.long
+
+-- src/lib.rt:240:1
+pub returns : goal.returns
+returns c = all_done c.requires.0 c.loop-f.invariant c.loop-f-test.false

@@ -1,0 +1,54 @@
+-- `text_in::read_lines` meets its contract: the lines before `at` are taken in. Assumes nothing.
+use mathlib.Core.Path.{◌∙◌}
+use Prim.Native.Nat.{◌-◌}
+use native.Mathlib.Omega.{arith}
+use Rattle.text_in.proofs.Lines.{begin, unended, bad, again, done}
+use Rattle.text_in.proofs.read_lines.Goals as goal
+
+pub loop-at-init : goal.loop-at-init
+loop-at-init c = begin c.requires
+
+pub find-end-requires : goal.find-end-requires
+find-end-requires c = omega (arith, c.loop-at-test.true)
+
+pub shape_of-points-then-end-text : goal.shape_of-points-then-end-text
+shape_of-points-then-end-text c = c.loop-at.invariant.long_points
+
+pub shape_of-faces-then-end-text : goal.shape_of-faces-then-end-text
+shape_of-faces-then-end-text c = c.loop-at.invariant.long_faces
+
+pub returns-then-end-text : goal.returns-then-end-text
+returns-then-end-text c = (unended c.loop-at.invariant c.loop-at-test.true c.find-end.ensures c.if-end-text.true, tt)
+
+pub slice_bounds-add_line-count : goal.slice_bounds-add_line-count
+slice_bounds-add_line-count c = omega (arith, c.find-end.ensures.begins)
+
+pub add_line-requires : goal.add_line-requires
+add_line-requires c = c.loop-at.invariant.rooms
+
+pub shape_of-points-in-Bad : goal.shape_of-points-in-Bad
+shape_of-points-in-Bad c = c.add_line.ensures.long_points ∙ c.loop-at.invariant.long_points
+
+pub shape_of-faces-in-Bad : goal.shape_of-faces-in-Bad
+shape_of-faces-in-Bad c = c.add_line.ensures.long_faces ∙ c.loop-at.invariant.long_faces
+
+pub returns-in-Bad : goal.returns-in-Bad
+returns-in-Bad c = (bad c.loop-at.invariant c.loop-at-test.true c.find-end.ensures c.if-end-text.false c.add_line.ensures c.in-Bad.is, tt)
+
+pub overflow_add-at : goal.overflow_add-at
+overflow_add-at c = omega (arith, c.find-end.ensures.ends, c.if-end-text.false)
+
+pub loop-at-smaller : goal.loop-at-smaller
+loop-at-smaller c = omega (arith, c.find-end.ensures.begins, c.find-end.ensures.ends, c.loop-at-test.true)
+
+pub loop-at-preserved : goal.loop-at-preserved
+loop-at-preserved c = again c.loop-at.invariant c.loop-at-test.true c.find-end.ensures c.if-end-text.false c.add_line.ensures c.in-Entries.is
+
+pub shape_of-points : goal.shape_of-points
+shape_of-points c = c.loop-at.invariant.long_points
+
+pub shape_of-faces : goal.shape_of-faces
+shape_of-faces c = c.loop-at.invariant.long_faces
+
+pub returns : goal.returns
+returns c = (done c.loop-at.invariant c.loop-at-test.false, (c.loop-at.invariant.rooms.few_points, c.loop-at.invariant.rooms.few_faces))

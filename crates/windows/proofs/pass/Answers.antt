@@ -1,0 +1,71 @@
+-- `windows::pass` meets its contract. The invariant: of the first i corners those of the window are in their runs, and those after it are counted. Assumes nothing.
+use Rattle.std.proofs.Common.{◌-◌, ⊎_elim, arith}
+use Rattle.windows.proofs.Passing.{begin, bounds, elsewhere, counter_in, counter_small, counting, corner_asks, putting, done}
+use Rattle.windows.proofs.pass.Goals as goal
+
+pub overflow_add-outer : goal.overflow_add-outer
+overflow_add-outer c = let h = c.requires in omega (arith, h)
+
+pub loop-i-init : goal.loop-i-init
+loop-i-init c = begin c.requires
+
+pub offset_bounds-faces-i : goal.offset_bounds-faces-i
+offset_bounds-faces-i c = omega (arith, bounds c.requires c.loop-i.invariant c.loop-i-test.true)
+
+pub bounds-faces-i : goal.bounds-faces-i
+bounds-faces-i c = omega (arith, bounds c.requires c.loop-i.invariant c.loop-i-test.true)
+
+pub overflow_cast-faces : goal.overflow_cast-faces
+overflow_cast-faces c = omega (arith, bounds c.requires c.loop-i.invariant c.loop-i-test.true)
+
+pub wrapping_sub_u64-j-requires : goal.wrapping_sub_u64-j-requires
+wrapping_sub_u64-j-requires c = omega (arith, bounds c.requires c.loop-i.invariant c.loop-i-test.true)
+
+pub put_corner-requires : goal.put_corner-requires
+put_corner-requires c = corner_asks c.requires c.loop-i.invariant c.loop-i-test.true c.wrapping_sub_u64-j.ensures c.wrapping_sub_u64-j.type-inv c.if-j-outer.true c.if-j-inner.true
+
+pub offset_bounds-counts-k : goal.offset_bounds-counts-k
+offset_bounds-counts-k c = omega (arith, counter_in c.requires c.loop-i.invariant c.loop-i-test.true c.wrapping_sub_u64-j.ensures c.wrapping_sub_u64-j.type-inv c.if-j-outer.true c.if-j-inner.false, counter_small c.requires c.loop-i.invariant c.loop-i-test.true c.wrapping_sub_u64-j.ensures c.wrapping_sub_u64-j.type-inv c.if-j-outer.true c.if-j-inner.false)
+
+pub bounds-counts-k : goal.bounds-counts-k
+bounds-counts-k c = omega (arith, counter_in c.requires c.loop-i.invariant c.loop-i-test.true c.wrapping_sub_u64-j.ensures c.wrapping_sub_u64-j.type-inv c.if-j-outer.true c.if-j-inner.false, counter_small c.requires c.loop-i.invariant c.loop-i-test.true c.wrapping_sub_u64-j.ensures c.wrapping_sub_u64-j.type-inv c.if-j-outer.true c.if-j-inner.false)
+
+pub overflow_add-counts : goal.overflow_add-counts
+overflow_add-counts c = omega (arith, counter_in c.requires c.loop-i.invariant c.loop-i-test.true c.wrapping_sub_u64-j.ensures c.wrapping_sub_u64-j.type-inv c.if-j-outer.true c.if-j-inner.false, counter_small c.requires c.loop-i.invariant c.loop-i-test.true c.wrapping_sub_u64-j.ensures c.wrapping_sub_u64-j.type-inv c.if-j-outer.true c.if-j-inner.false)
+
+pub offset_bounds-counts-k-else-j-inner : goal.offset_bounds-counts-k-else-j-inner
+offset_bounds-counts-k-else-j-inner c = omega (arith, counter_in c.requires c.loop-i.invariant c.loop-i-test.true c.wrapping_sub_u64-j.ensures c.wrapping_sub_u64-j.type-inv c.if-j-outer.true c.if-j-inner.false, counter_small c.requires c.loop-i.invariant c.loop-i-test.true c.wrapping_sub_u64-j.ensures c.wrapping_sub_u64-j.type-inv c.if-j-outer.true c.if-j-inner.false)
+
+pub bounds-counts-k-else-j-inner : goal.bounds-counts-k-else-j-inner
+bounds-counts-k-else-j-inner c = omega (arith, counter_in c.requires c.loop-i.invariant c.loop-i-test.true c.wrapping_sub_u64-j.ensures c.wrapping_sub_u64-j.type-inv c.if-j-outer.true c.if-j-inner.false, counter_small c.requires c.loop-i.invariant c.loop-i-test.true c.wrapping_sub_u64-j.ensures c.wrapping_sub_u64-j.type-inv c.if-j-outer.true c.if-j-inner.false)
+
+pub overflow_add-i : goal.overflow_add-i
+overflow_add-i c = omega (arith, bounds c.requires c.loop-i.invariant c.loop-i-test.true)
+
+pub loop-i-preserved : goal.loop-i-preserved
+loop-i-preserved c = let e = c.before in
+    let t = e.before.before in
+    let a = t.before in
+    let p = a.requires in
+    let q = a.loop-i.invariant in
+    let h = t.loop-i-test.true in
+    let x = e.wrapping_sub_u64-j.ensures in
+    let y = e.wrapping_sub_u64-j.type-inv in
+    ⊎_elim
+    (λ w. rw (w.9, w.10, w.11) (putting p q h x y w.0.taken w.1.taken w.4.ensures))
+    (⊎_elim
+    (λ w. rw (w.3, w.4, w.5) (counting p q h x y w.0.taken w.1.left))
+    (λ w. rw (w.1, w.2, w.3) (elsewhere p q h x y w.0.left)))
+    c.if-j-outer.branch
+
+pub shape_of-ends : goal.shape_of-ends
+shape_of-ends c = c.loop-i.invariant.ends_long
+
+pub shape_of-buffer : goal.shape_of-buffer
+shape_of-buffer c = c.loop-i.invariant.b_long
+
+pub shape_of-counts : goal.shape_of-counts
+shape_of-counts c = c.loop-i.invariant.counts_long
+
+pub returns : goal.returns
+returns c = done c.requires c.loop-i.invariant c.loop-i-test.false

@@ -1,0 +1,6 @@
+-- `wiping::any` meets its contract: four quarters, and what is left behind them. Assumes nothing.
+use Rattle.wiping.proofs.Blocks.{any_rest}
+use Rattle.wiping.proofs.any.Goals as goal
+
+pub returns : goal.returns
+returns c = any_rest c.any_in_four-x.ensures c.any_in_line-y.ensures

@@ -1,0 +1,11 @@
+-- `wiping::any_in_four` meets its contract. The invariant: x, y, z and u have the bits of the first i entries of each quarter.
+-- Assumes nothing.
+use Prim.Native.Nat.{◌-◌}
+use Rattle.wiping.proofs.Blocks.{Four}
+use Rattle.wiping.proofs.any_in_four.Given as goal
+
+abbrev pub invariant-loop-i : goal.invariant-loop-i
+invariant-loop-i l = Four 0 0 l.work l.from l.n l.x l.y l.z l.u l.i
+
+abbrev pub decreases-loop-i : goal.decreases-loop-i
+decreases-loop-i l = l.n - l.i

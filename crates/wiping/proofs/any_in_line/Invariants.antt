@@ -1,0 +1,11 @@
+-- `wiping::any_in_line` meets its contract. The invariant: x has the bits of the first i entries of the region.
+-- Assumes nothing.
+use Prim.Native.Nat.{◌-◌, ◌≤◌}
+use Rattle.wiping.specs.Blocks.{AnyGives}
+use Rattle.wiping.proofs.any_in_line.Given as goal
+
+abbrev pub invariant-loop-i : goal.invariant-loop-i
+invariant-loop-i l = (l.i ≤ l.n) × AnyGives 0 0 l.work l.from l.i l.x
+
+abbrev pub decreases-loop-i : goal.decreases-loop-i
+decreases-loop-i l = l.n - l.i

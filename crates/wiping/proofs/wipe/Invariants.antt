@@ -1,0 +1,11 @@
+-- `wiping::wipe` meets its contract. The invariant: only the first i entries of the region are changed, and those are 0.
+-- Assumes nothing.
+use Prim.Native.Nat.{◌-◌}
+use Rattle.wiping.proofs.Blocks.{Wiped}
+use Rattle.wiping.proofs.wipe.Given as goal
+
+abbrev pub invariant-loop-i : goal.invariant-loop-i
+invariant-loop-i l = Wiped 0 0 l.initial.work l.from l.n l.work l.i
+
+abbrev pub decreases-loop-i : goal.decreases-loop-i
+decreases-loop-i l = l.n - l.i

@@ -1,0 +1,45 @@
+-- `write_ply::write_ply` meets its contract: the verdict refuses, or the parts of the file are put and the work room is cleared. Assumes nothing.
+use Rattle.write_ply.proofs.Ending.{is_refused, limits, header_asks, reals_ask, triples_ask, wipe_ask, is_done}
+use Rattle.write_ply.proofs.write_ply.Goals as goal
+
+pub returns-in-Refused : goal.returns-in-Refused
+returns-in-Refused c = let at-check = c.before.before.before in
+    let start = at-check.before.before.before.before.before in
+    is_refused start.args.points.now start.args.faces.now start.args.file.now start.args.work.now at-check.write_ply_refusal.result at-check.write_ply_refusal.ensures _ _ c.in-Refused.is
+
+pub put_header-a-requires : goal.put_header-a-requires
+put_header-a-requires c = let told = c.before in
+    let at-check = told.before.before in
+    let start = at-check.before.before.before.before.before in
+    header_asks start.args.points.now start.args.faces.now start.args.file.now start.args.work.now at-check.write_ply_refusal.result at-check.write_ply_refusal.ensures told.in-Fine.is
+
+pub put_reals-b-requires : goal.put_reals-b-requires
+put_reals-b-requires c = let told = c.before.before.before.before.before in
+    let at-check = told.before.before in
+    let start = at-check.before.before.before.before.before in
+    reals_ask start.args.points.now start.args.faces.now start.args.file.now start.args.work.now at-check.write_ply_refusal.result at-check.write_ply_refusal.ensures told.in-Fine.is c.put_header-a.ensures
+
+pub put_triples-c-requires : goal.put_triples-c-requires
+put_triples-c-requires c = let told = c.before.before.before.before.before.before.before.before.before in
+    let at-check = told.before.before in
+    let start = at-check.before.before.before.before.before in
+    triples_ask start.args.points.now start.args.faces.now start.args.file.now start.args.work.now at-check.write_ply_refusal.result at-check.write_ply_refusal.ensures told.in-Fine.is c.put_header-a.ensures c.put_reals-b.ensures
+
+pub stated_work-requires : goal.stated_work-requires
+stated_work-requires c = let told = c.before.before.before.before.before.before.before.before.before.before.before.before.before in
+    let at-check = told.before.before in
+    let start = at-check.before.before.before.before.before in
+    limits start.args.points.now start.args.faces.now start.args.file.now start.args.work.now at-check.write_ply_refusal.result at-check.write_ply_refusal.ensures told.in-Fine.is
+
+pub wipe-requires : goal.wipe-requires
+wipe-requires c = let told = c.before.before.before.before.before.before.before.before.before.before.before.before.before.before in
+    let at-check = told.before.before in
+    let start = at-check.before.before.before.before.before in
+    wipe_ask start.args.points.now start.args.faces.now start.args.file.now start.args.work.now at-check.write_ply_refusal.result at-check.write_ply_refusal.ensures told.in-Fine.is c.stated_work.ensures
+
+pub returns : goal.returns
+returns c = let told = c.before.before.before.before.before.before.before.before.before.before.before.before.before.before.before.before.before in
+    let at-check = told.before.before in
+    let start = at-check.before.before.before.before.before in
+    is_done start.args.points.now start.args.faces.now start.args.file.now start.args.work.now at-check.write_ply_refusal.result at-check.write_ply_refusal.ensures told.in-Fine.is c.put_header-a.ensures c.put_reals-b.ensures c.put_triples-c.ensures
+    c.stated_work.ensures c.wipe.ensures.0 c.wipe.ensures.1

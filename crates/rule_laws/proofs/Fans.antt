@@ -189,6 +189,7 @@ module _ (m : State) (v : ℕ) (inside : Inside (length m.points) m.faces) (hv :
       three_of f b (Memᴰ.head e) = rw e b.0
       three_of f b (Memᴰ.tail (Memᴰ.head e)) = rw e b.1
       three_of f b (Memᴰ.tail (Memᴰ.tail (Memᴰ.head e))) = rw e b.2
+      three_of f b (Memᴰ.tail (Memᴰ.tail (Memᴰ.tail x13))) = elim x13 [ ]
 
   -- a corner beside v stays
   keep_corner : (i x : ℕ) → i < length m.faces → x ≢ v → Memᴰ x (corners (face m.faces i)) → Memᴰ x (corners (face out i))

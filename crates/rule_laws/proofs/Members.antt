@@ -28,6 +28,7 @@ module _ {A : Type 0} where
   pub all_in : (Q : A → Type 0) (x : A) (xs : List A) → All Q xs → Memᴰ x xs → Q x
   all_in Q x (y ∷ ys) h (Memᴰ.head e) = subst Q (sym e) h.0
   all_in Q x (y ∷ ys) h (Memᴰ.tail m) = all_in Q x ys h.1 m
+  all_in Q x [] h x3 = elim x3 [ ]
 
   -- every element is a member
   pub all_members : (xs : List A) → All (λ x. Memᴰ x xs) xs
@@ -43,6 +44,7 @@ module _ {A : Type 0} where
   pub mem_index : (d x : A) (xs : List A) → Memᴰ x xs → (k : ℕ) × (k < length xs) × (get_or xs k d ≡ x)
   mem_index d x (y ∷ ys) (Memᴰ.head e) = (0, suc-le-suc zero-le, sym e)
   mem_index d x (y ∷ ys) (Memᴰ.tail m) = let w = mem_index d x ys m in (suc w.0, suc-le-suc w.1, w.2)
+  mem_index d x [] x'' = elim x'' [ ]
 
   -- a list with a member is not empty
   pub some_length : (x : A) (xs : List A) → Memᴰ x xs → 0 < length xs
@@ -76,6 +78,7 @@ module _ {A : Type 0} where
       go : (b : Bool) → Memᴰ x (filter p ys) → Memᴰ x (cond b (y ∷ filter p ys) (filter p ys))
       go true r = Memᴰ.tail r
       go false r = r
+  mem_filter p x [] x3 t = elim x3 [ ]
 
   -- what is left is a member, and passes
   pub mem_left : (p : A → Bool) (x : A) (xs : List A) → Memᴰ x (filter p xs) → Memᴰ x xs × T (p x)
@@ -98,6 +101,7 @@ module _ {A : Type 0} where
   unfolding any
   any_intro p x (y ∷ ys) (Memᴰ.head e) t = or_left (p y) (any p ys) (subst (λ z. T (p z)) e t)
   any_intro p x (y ∷ ys) (Memᴰ.tail m) t = or_right (p y) (any p ys) (any_intro p x ys m t)
+  any_intro p x [] x3 t = elim x3 [ ]
 
   -- where some passes, which
   pub any_mem : (p : A → Bool) (xs : List A) → T (any p xs) → (x : A) × Memᴰ x xs × T (p x)
@@ -143,6 +147,7 @@ module _ {A B : Type 0} where
   unfolding each
   mem_each f x y (z ∷ zs) (Memᴰ.head e) m = Memᴰ.append_left (each f zs) (subst (λ w. Memᴰ y (f w)) e m)
   mem_each f x y (z ∷ zs) (Memᴰ.tail k) m = Memᴰ.append_right (f z) (mem_each f x y zs k m)
+  mem_each f x y [] x3 m = elim x3 [ ]
 
   -- what is in all the lists together is in the list of some member
   pub mem_each_of : (f : A → List B) (y : B) (xs : List A) → Memᴰ y (each f xs) → (x : A) × Memᴰ x xs × Memᴰ y (f x)

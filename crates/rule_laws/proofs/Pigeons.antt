@@ -30,6 +30,7 @@ module _ {A : Type 0} where
           go : (z : A) → z ≢ x → (z ≡ y) ⊎ Memᴰ z ys → Memᴰ z (y ∷ r.0)
           go z ne (inl q) = Memᴰ.head q
           go z ne (inr m) = Memᴰ.tail (r.2 z m ne)
+  remove x mathlib.Core.List.[] x'' = elim x'' [ ]
 
   -- n different members make a list of at least n
   pub fewer :

@@ -28,14 +28,18 @@ module _ {joined : ℕ → ℕ → Bool} {n : ℕ} {joined' : ℕ → ℕ → Bo
   chain_out h stay = (h, stay)
   chain_out h (link {j = j} {k = l} d t b) = let r = chain_out h d in (b, link r.1 (c.out j l r.0 b t) (c.inside l b))
 
-  -- a chain among all that begins in the class stays in it
-  chain_into : {k y : ℕ} → k < n' → Chain joined n (ι k) y → (l : ℕ) × (l < n') × (y ≡ ι l) × Chain joined' n' k l
-  chain_into {k} h stay = (k, h, refl, stay)
-  chain_into {k} h (link {j = j} {k = y} d t b) =
-      let r = chain_into h d in
+  -- a chain among all from a thing s of the class stays in it
+  chain_from : {s k y : ℕ} → s ≡ ι k → k < n' → Chain joined n s y → (l : ℕ) × (l < n') × (y ≡ ι l) × Chain joined' n' k l
+  chain_from {k = k} e h stay = (k, h, e, stay)
+  chain_from {k = k} e h (link {j = j} {k = y} d t b) =
+      let r = chain_from e h d in
       let s = subst (λ (z : ℕ). T (joined z y)) r.2 t in
       let m = c.closed r.0 y r.1 b s in
       (m.0, m.1, m.2, link r.3 (c.into r.0 m.0 r.1 m.1 (subst (λ (z : ℕ). T (joined (ι r.0) z)) m.2 s)) m.1)
+
+  -- a chain among all that begins in the class stays in it
+  chain_into : {k y : ℕ} → k < n' → Chain joined n (ι k) y → (l : ℕ) × (l < n') × (y ≡ ι l) × Chain joined' n' k l
+  chain_into h d = chain_from refl h d
 
   -- a thing has one place in the class
   one_place : (k l : ℕ) → k < n' → l < n' → ι k ≡ ι l → k ≡ l

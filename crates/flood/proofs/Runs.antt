@@ -99,6 +99,7 @@ meets_turns rs =
 of_map : {B : Type 0} (P : ℕ → Type 0) (f : ℕ → B) (b : B) (xs : List ℕ) → All P xs → Memᴰ b (map f xs) → (r : ℕ) × P r × (b ≡ f r)
 of_map P f b (x ∷ xs) a (Memᴰ.head e) = (x, a.0, e)
 of_map P f b (x ∷ xs) a (Memᴰ.tail m) = of_map P f b xs a.1 m
+of_map {B = B} P f b mathlib.Core.List.[] a x'' = elim x'' [ ]
 
 module _ {w : List ℕ} {g : Plan} (q : FloodAsks w g) where
   -- x stands at a place of the run r

@@ -24,7 +24,7 @@ abbrev put_number_below : ℕ → In 1 put-number-kinds.ps
 put_number_below t =
     and 1 put-number-kinds.ps (falls 1 put-number-kinds.ps ◌<◌ μ_put_number t) put-number.Pre
 
-put_number_put_digit_requires : (t : ℕ) → put-number-lts.Need-put-digit-requires (
+put_number_put_digit_requires : (t : ℕ) → put-number-lts.Need-put_digit-requires (
   put-digit-reads.Asked,
   put-digit-reads.Learnt,
   put_number_below t,
@@ -56,7 +56,7 @@ put_number_put_number_requires : (t : ℕ) → put-number-lts.Need-put-number-re
 ) (put_number_at t) put-number.Post
 put_number_put_number_requires t c κs = (omega (arith, c.before.before.before.requires.0), tenth_asks c.before.before.before.requires.1 c.before.if1.false)
 
-put_number_put_digit_requires_2 : (t : ℕ) → put-number-lts.Need-put-digit-requires-2 (
+put_number_put_digit_requires_2 : (t : ℕ) → put-number-lts.Need-put_digit-requires-2 (
   put-digit-reads.Asked,
   put-digit-reads.Learnt,
   put_number_below t,

@@ -20,7 +20,7 @@ pub returns-then-t-ge1024 : goal.returns-then-t-ge1024
 returns-then-t-ge1024 c = silent
 
 pub returns : goal.returns
-returns c = let at_b = c.before.before.before in
+returns c w = let at_b = c.before.before.before in
     let at_a = at_b.before.before in
     let at_c = at_a.before.before.before in
     let start = at_c.before in

@@ -5,7 +5,7 @@ use mathlib.Core.List.{List}
 use Prim.Native.Nat.{ℕ, ◌+◌, ◌*◌, ◌≤◌, ◌<◌}
 use native.Mathlib.Omega.{arith}
 use lib.ListN.{length, get_or}
-use Rattle.rows.specs.Region.{CopyAsks, CopyGives}
+use Rattle.rows.specs.Region.{Apart.before, CopyAsks, CopyGives}
 use Rattle.rows.proofs.Regions.{only_both, only_more, kept_at, holds_kept, get_d_part}
 use Rattle.rules.specs.Lists.{below}
 use Rattle.rules.specs.Mesh.{faces_of}

@@ -4,7 +4,7 @@ use mathlib.Core.List.{List}
 use Prim.Native.Nat.{ℕ, ◌+◌, ◌-◌, ◌≤◌, ◌<◌}
 use native.Mathlib.Omega.{arith}
 use lib.ListN.{length, get_or, set, length-set}
-use Rattle.rows.specs.Region.{Only}
+use Rattle.rows.specs.Region.{Apart.before, Apart.after, Only}
 use Rattle.rows.proofs.Regions.{only_none, only_both, only_set, kept_at, holds_none, holds_next, holds_kept}
 use Rattle.corner_groups.specs.Sides.{lower_of, higher_of, SideAsks, SidesAsks, SidesGives}
 use Rattle.corner_groups.proofs.Ends.{lower_in, higher_in}

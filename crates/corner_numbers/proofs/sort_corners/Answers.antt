@@ -5,7 +5,7 @@ use Prim.Native.Nat.{ℕ, ◌+◌, ◌*◌, ◌≤◌, ◌<◌}
 use native.Mathlib.Omega.{arith}
 use lib.ListN.{length, get_or}
 use lib.Seq.{take_all}
-use Rattle.rows.specs.Region.{part, RowAsks, RowGives}
+use Rattle.rows.specs.Region.{part, Apart.before, RowAsks, RowGives}
 use Rattle.sorting.specs.Groups.{sorted_by, key_in}
 use Rattle.sorting.specs.Order.{OrderAsks, OrderGives}
 use Rattle.rows.proofs.Regions.{only_both, only_more, kept_at, kept, get_d_part}

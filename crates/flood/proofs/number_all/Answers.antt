@@ -5,6 +5,7 @@ use Prim.Native.Nat.{ℕ, suc, ◌+◌, ◌-◌, ◌^◌, ◌≤◌, ◌<◌}
 use native.Mathlib.Numerals.{add-one}
 use native.Mathlib.Omega.{arith}
 use lib.ListN.{length, set}
+use Rattle.rows.specs.Region.{Out.above}
 use Rattle.rows.proofs.Regions.{only_none, only_next, holds_none, holds_next}
 use Rattle.rules.specs.Lists.{below, count}
 use Rattle.rules.specs.Groups.{leads}
@@ -154,7 +155,7 @@ pub loop-i-preserved : goal.loop-i-preserved
 loop-i-preserved c = let t = c.before.before in
     let a = t.before in
     λ q.
-    elim c.if-parent-i.branch [ then-parent-i w ↦ rw (w.work-is, w.count-is) (leader q a.loop-i.invariant t.loop-i-test.true w.if-parent-i.true) | else-parent-i w ↦ rw (w.2, w.3) (child q a.loop-i.invariant t.loop-i-test.true w.if-parent-i.false) ]
+    elim c.if-parent-i.branch [ then-parent-i w ↦ rw (w.1, w.2) (leader q a.loop-i.invariant t.loop-i-test.true w.if-parent-i.true) | else-parent-i w ↦ rw (w.2, w.3) (child q a.loop-i.invariant t.loop-i-test.true w.if-parent-i.false) ]
 
 pub shape_of-work : goal.shape_of-work
 shape_of-work c = (c.loop-i.invariant c.requires).only.long

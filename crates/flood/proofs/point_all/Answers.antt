@@ -5,6 +5,7 @@ use Prim.Native.Nat.{ℕ, ◌+◌, ◌-◌, ◌^◌, ◌≤◌, ◌<◌}
 use native.Mathlib.Omega.{arith}
 use native.Mathlib.Decide.{ℕ_discrete}
 use lib.ListN.{length, set}
+use Rattle.rows.specs.Region.{Out.above}
 use Rattle.rows.proofs.Regions.{only_none, only_next, holds_none, holds_next}
 use Rattle.flood.specs.Parents.{parent, PointAsks, PointGives}
 use Rattle.flood.proofs.point_all.Invariants.{Inv}

@@ -8,7 +8,7 @@ use native.Mathlib.Nat.{add-zero}
 use lib.ListN.{take}
 use lib.Seq.{take-add}
 use lib.Ieee.{Float, nan}
-use Rattle.rows.specs.Region.{part}
+use Rattle.rows.specs.Region.{part, Apart.before}
 use Rattle.rows.specs.Retain.{MoveAsks, MoveGives}
 use Rattle.rows.proofs.Regions.{only_none, only_both, only_more, kept}
 use Rattle.rules.specs.Lists.{below, each}

@@ -6,7 +6,7 @@ use native.Mathlib.Nat.{zero-add}
 use native.Mathlib.Omega.{arith}
 use lib.ListN.{get_or, take}
 use lib.Seq.{get_or-take}
-use Rattle.rows.specs.Region.{Only, Filled, RowGives}
+use Rattle.rows.specs.Region.{Only, Filled, RowGives, Apart.before}
 use Rattle.rows.proofs.Regions.{kept, only_both, only_more}
 use Rattle.rows.specs.Retain.{up_to}
 use Rattle.sorting.specs.Groups.{sorted_by, key_in}

@@ -6,7 +6,7 @@ use mathlib.Core.List.{List}
 use Prim.Native.Nat.{ℕ, ◌+◌, ◌*◌, ◌<◌}
 use native.Mathlib.Omega.{arith}
 use lib.ListN.{length}
-use Rattle.rows.specs.Region.{Only, Holds, Filled}
+use Rattle.rows.specs.Region.{Apart.before, Apart.after, Only, Holds, Filled}
 use Rattle.sorting.specs.Sort.{key_by}
 use Rattle.sorting.specs.Order.{OrderPairsAsks, OrderPairsGives}
 use Rattle.rows.proofs.Regions.{only_both, only_more, holds_kept, get_d_part, holds_kept2}

@@ -9,7 +9,7 @@ use native.Mathlib.Numerals.{add-one}
 use native.Mathlib.Decide.{ℕ_discrete}
 use lib.ListN.{length, get_or, set}
 use lib.Seq.{get_or-set_same, get_or-set_other}
-use Rattle.rows.specs.Region.{part, Only, Only2}
+use Rattle.rows.specs.Region.{part, Apart.before, Apart.after, Only, Only2}
 use Rattle.rows.proofs.Regions.{only_set, only2_none, only2_left, only2_right, only2_both, kept, kept_at}
 use Rattle.rules.specs.Lists.{below, filter, count}
 use Rattle.rule_laws.proofs.Lists.{count_below}

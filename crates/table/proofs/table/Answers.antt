@@ -7,6 +7,7 @@ use Prim.Native.Nat.{ℕ, ◌+◌, ◌*◌, ◌<◌}
 use native.Mathlib.Omega.{arith}
 use lib.ListN.{length, get_or, length-map}
 use borrow.Author.Count.{below_more}
+use Rattle.rows.specs.Region.{Apart.before, Apart.after}
 use Rattle.rows.proofs.Regions.{only_both, get_d_part, kept2, holds_kept2}
 use Rattle.rules.specs.Lists.{below, count}
 use Rattle.rules.specs.Mesh.{faces_of}

@@ -8,4 +8,4 @@ returns c = let at-wide4 = c in
     let at-wide2 = at-wide3.before.before in
     let at_wide = at-wide2.before.before in
     let start = at_wide.before.before.before in
-    four_bytes start.args.file.now start.args.i _ _ _ _ at_wide.wide-a.ensures.0 at-wide2.wide-b.ensures.0 at-wide3.wide-c.ensures.0 at-wide4.wide-d.ensures.0
+    four_bytes start.args.file.now start.args.i _ _ _ _ at_wide.wide-a.ensures.value at-wide2.wide-b.ensures.value at-wide3.wide-c.ensures.value at-wide4.wide-d.ensures.value

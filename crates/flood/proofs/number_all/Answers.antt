@@ -155,7 +155,7 @@ pub loop-i-preserved : goal.loop-i-preserved
 loop-i-preserved c = let t = c.before.before in
     let a = t.before in
     λ q.
-    elim c.if-parent-i.branch [ then-parent-i w ↦ rw (w.1, w.2) (leader q a.loop-i.invariant t.loop-i-test.true w.if-parent-i.true) | else-parent-i w ↦ rw (w.2, w.3) (child q a.loop-i.invariant t.loop-i-test.true w.if-parent-i.false) ]
+    elim c.if-parent-i.branch [ then-parent-i w ↦ rw (w.work-is, w.count-is) (leader q a.loop-i.invariant t.loop-i-test.true w.if-parent-i.true) | else-parent-i w ↦ rw (w.work-is, w.count-is) (child q a.loop-i.invariant t.loop-i-test.true w.if-parent-i.false) ]
 
 pub shape_of-work : goal.shape_of-work
 shape_of-work c = (c.loop-i.invariant c.requires).only.long

@@ -41,10 +41,10 @@ module _ {w : List ℕ} {n at m i : ℕ} (p : NoteAsks w n at m i) where
 
 pub returns-then-b : goal.returns-then-b
 returns-then-b c = let at-begins = c.before in
-    let start = at-begins.before.before.before in
+    let start = at-begins.before.before in
     one_more start.requires (sym at-begins.begins-b.ensures ∙ c.if-b.true)
 
 pub returns-else-b : goal.returns-else-b
 returns-else-b c = let at-begins = c.before in
-    let start = at-begins.before.before.before in
+    let start = at-begins.before.before in
     no_more start.requires (sym at-begins.begins-b.ensures ∙ c.if-b.false)

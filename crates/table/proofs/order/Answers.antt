@@ -82,11 +82,11 @@ pub order_pairs-requires : goal.order_pairs-requires
 order_pairs-requires c = let at_clear = c.before.before.before in
     let at-keys = at_clear.before.before.before.before in
     let start = at-keys.before.before.before.before in
-    pairs_ok start.requires at-keys.keys.ensures at_clear.clear.ensures.0 at_clear.clear.ensures.1
+    pairs_ok start.requires at-keys.keys.ensures at_clear.clear.ensures.only at_clear.clear.ensures.filled
 
 pub returns : goal.returns
 returns c = let at-order-pairs = c.before.before in
     let at_clear = at-order-pairs.before.before.before.before in
     let at-keys = at_clear.before.before.before.before in
     let start = at-keys.before.before.before.before in
-    done start.requires at-keys.keys.ensures at_clear.clear.ensures.0 at_clear.clear.ensures.1 at-order-pairs.order_pairs.ensures
+    done start.requires at-keys.keys.ensures at_clear.clear.ensures.only at_clear.clear.ensures.filled at-order-pairs.order_pairs.ensures

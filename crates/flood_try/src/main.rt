@@ -1,20 +1,43 @@
 // Writes what each function of `flood` makes of small tables of runs. The file stdout says what it must be.
+#![tactic(auto)]
+
 ghost use Rattle.flood.specs.Plan.{plan, FloodAsks};
 
+use std::io;
+
 // Writes the number of groups, and the row with the labels.
-fn label(work: &mut [u32], things: usize, runs: usize, starts: usize, order: usize, labels: usize)
+fn label(
+    rt: &impl Print,
+    work: &mut [u32],
+    things: usize,
+    runs: usize,
+    starts: usize,
+    order: usize,
+    labels: usize,
+) -> io::Result<()>
     requires { FloodAsks work.old (plan things runs starts order labels) }
 {
-    show::number(flood::label_all(work, things, runs, starts, order, labels) as u64);
-    show::row(work, work.len());
+    show::number(
+        rt,
+        flood::label_all(work, things, runs, starts, order, labels) as u64,
+    )?;
+    show::row(rt, work, work.len())
 }
 
 // Writes the row with the first members.
-fn lead(work: &mut [u32], things: usize, runs: usize, starts: usize, order: usize, labels: usize)
+fn lead(
+    rt: &impl Print,
+    work: &mut [u32],
+    things: usize,
+    runs: usize,
+    starts: usize,
+    order: usize,
+    labels: usize,
+) -> io::Result<()>
     requires { FloodAsks work.old (plan things runs starts order labels) }
 {
     flood::lead_all(work, things, runs, starts, order, labels);
-    show::row(work, work.len());
+    show::row(rt, work, work.len())
 }
 
 // Six things in the runs 4 2, 5 0, none, 2 1 1 and 3.
@@ -57,34 +80,34 @@ fn nothing() -> [u32; 2]
 }
 
 // The labels of each table.
-fn labels() {
+fn labels(rt: &impl Print) -> io::Result<()> {
     let mut a = some();
-    label(&mut a, 6, 5, 1, 7, 16);
+    label(rt, &mut a, 6, 5, 1, 7, 16)?;
     let mut b = chain();
-    label(&mut b, 8, 7, 0, 8, 22);
+    label(rt, &mut b, 8, 7, 0, 8, 22)?;
     let mut c = one();
-    label(&mut c, 5, 1, 0, 2, 10);
+    label(rt, &mut c, 5, 1, 0, 2, 10)?;
     let mut d = apart();
-    label(&mut d, 3, 0, 0, 1, 1);
+    label(rt, &mut d, 3, 0, 0, 1, 1)?;
     let mut e = nothing();
-    label(&mut e, 0, 1, 0, 2, 2);
+    label(rt, &mut e, 0, 1, 0, 2, 2)
 }
 
 // The first members of each table.
-fn leaders() {
+fn leaders(rt: &impl Print) -> io::Result<()> {
     let mut a = some();
-    lead(&mut a, 6, 5, 1, 7, 16);
+    lead(rt, &mut a, 6, 5, 1, 7, 16)?;
     let mut b = chain();
-    lead(&mut b, 8, 7, 0, 8, 22);
+    lead(rt, &mut b, 8, 7, 0, 8, 22)?;
     let mut c = one();
-    lead(&mut c, 5, 1, 0, 2, 10);
+    lead(rt, &mut c, 5, 1, 0, 2, 10)?;
     let mut d = apart();
-    lead(&mut d, 3, 0, 0, 1, 1);
+    lead(rt, &mut d, 3, 0, 0, 1, 1)?;
     let mut e = nothing();
-    lead(&mut e, 0, 1, 0, 2, 2);
+    lead(rt, &mut e, 0, 1, 0, 2, 2)
 }
 
-fn main() {
-    labels();
-    leaders();
+fn main(rt: HostRuntime) -> io::Result<()> {
+    labels(&rt)?;
+    leaders(&rt)
 }

@@ -1,26 +1,29 @@
 // Writes the mending lists that some rows tell: how long each is, and its text. The file stdout says what they must be.
+#![tactic(auto)]
+
 ghost use Rattle.list_text.specs.Written.{ListAsks};
 
 use list_text::Rows;
+use std::io;
 
 // The length of the list, and the list, which fits.
-fn show_list(work: &[u32], origins: &[u32], rows: Rows)
+fn show_list(rt: &impl Print, work: &[u32], origins: &[u32], rows: Rows) -> io::Result<()>
     requires { ListAsks work.now origins.now rows }
 {
     let mut text = [0; 200];
     let n = list_text::list_length(work, origins, rows);
-    show::number(n as u64);
-    show::end_line();
+    show::number(rt, n as u64)?;
+    show::end_line(rt)?;
     if n > 200 {
-        return;
+        return Ok(());
     }
     let end = list_text::list_text(work, origins, rows, &mut text);
-    io::write_all(1, &text[..end]);
+    rt.write_all(&text[..end])
 }
 
 // A line of every kind: of eight faces 1 to 4 leave, 5 is exchanged and leaves, 6 is exchanged. The first new point stands at two corners of face 6, which is
 // named once, the second at none.
-fn every_kind() {
+fn every_kind(rt: &impl Print) -> io::Result<()> {
     let work = [
         0, 1, 2, 3, 4, 13, 8, 0, 0, 0, 2, 4, 1, 2, 4, 4, 1, 6, 1, 4, 1, 5, 7, 2, 0, 3, 4, 8, 6, 1,
         0, 0, 1, 0, 1, 0,
@@ -36,11 +39,11 @@ fn every_kind() {
         sorted: 20,
         unused: 29,
     };
-    show_list(&work, &[0, 6, 7], rows);
+    show_list(rt, &work, &[0, 6, 7], rows)
 }
 
 // A face with one point at all corners, in passes 5 and 6: the first new point takes the face, and the second is unused.
-fn one_point() {
+fn one_point(rt: &impl Print) -> io::Result<()> {
     let work = [0, 0, 0, 1, 1, 1, 0, 1, 2, 1, 0, 1];
     let rows = Rows {
         points: 1,
@@ -53,11 +56,11 @@ fn one_point() {
         sorted: 6,
         unused: 9,
     };
-    show_list(&work, &[0], rows);
+    show_list(rt, &work, &[0], rows)
 }
 
 // Nothing was done.
-fn nothing() {
+fn nothing(rt: &impl Print) -> io::Result<()> {
     let work = [0, 0, 1, 2, 0, 1, 2, 0, 0, 0];
     let rows = Rows {
         points: 3,
@@ -70,11 +73,11 @@ fn nothing() {
         sorted: 4,
         unused: 7,
     };
-    show_list(&work, &[0], rows);
+    show_list(rt, &work, &[0], rows)
 }
 
-fn main() {
-    every_kind();
-    one_point();
-    nothing();
+fn main(rt: HostRuntime) -> io::Result<()> {
+    every_kind(&rt)?;
+    one_point(&rt)?;
+    nothing(&rt)
 }

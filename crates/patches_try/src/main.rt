@@ -1,15 +1,18 @@
 // Runs real values through the patch call: patch 0 has two faces of area 1, patch 1 one face of area 3, patch 2 none, and a face is in no patch. A line
 // has the answer, and then the entries of face counts, flags and work, which all were 7 before the call.
+#![tactic(auto)]
+
 use patches::{Filter, Limit, Patched, Whole};
+use std::io;
 
 // Writes the entries of a row.
-fn show_row(row: &[u32]) {
-    show::numbers(row, row.len());
-    io::write_all(1, b"| ");
+fn show_row(rt: &impl Print, row: &[u32]) -> io::Result<()> {
+    show::numbers(rt, row, row.len())?;
+    print!(rt; "| ")
 }
 
 // Runs the call with these labels for the four faces and this filter, in rooms for three patches and a flag more, and writes what comes of it.
-fn run(labels: &[u32], by: Filter) {
+fn run(rt: &impl Print, labels: &[u32], by: Filter) -> io::Result<()> {
     let points = [0.0, 0.0, 0.0, 2.0, 0.0, 0.0, 0.0, 1.0, 0.0, 0.0, 3.0, 0.0];
     let faces = [0, 1, 2, 2, 1, 0, 0, 1, 3, 3, 1, 0];
     let mut counts = [7u32; 3];
@@ -28,22 +31,22 @@ fn run(labels: &[u32], by: Filter) {
         &mut work,
     ) {
         Patched::Done(a, b, c) => {
-            io::write_all(1, b"done ");
-            show::number(a as u64);
-            show::number(b as u64);
-            show::number(c as u64);
+            print!(rt; "done ")?;
+            show::number(rt, a as u64)?;
+            show::number(rt, b as u64)?;
+            show::number(rt, c as u64)?;
         }
         Patched::Refused(number, place) => {
-            io::write_all(1, b"refused ");
-            show::number(number as u64);
-            show::number(place as u64);
+            print!(rt; "refused ")?;
+            show::number(rt, number as u64)?;
+            show::number(rt, place as u64)?;
         }
     }
-    io::write_all(1, b"| ");
-    show_row(&counts);
-    show_row(&flags);
-    show_row(&work);
-    show::end_line();
+    print!(rt; "| ")?;
+    show_row(rt, &counts)?;
+    show_row(rt, &flags)?;
+    show_row(rt, &work)?;
+    show::end_line(rt)
 }
 
 // A filter by the two whole numbers and the fraction; the others are absent.
@@ -58,27 +61,36 @@ fn filter(min_faces: Whole, fraction: Limit, keep_largest_n: Whole) -> Filter {
 }
 
 // Nothing set; the largest; the largest where it has too few faces, which ranks all patches and so keeps none; half of the largest; and refusals.
-fn main() {
+fn main(rt: HostRuntime) -> io::Result<()> {
     let labels = [0, 0, 1, 4294967295];
-    run(&labels, filter(Whole::Absent, Limit::Absent, Whole::Absent));
     run(
+        &rt,
+        &labels,
+        filter(Whole::Absent, Limit::Absent, Whole::Absent),
+    )?;
+    run(
+        &rt,
         &labels,
         filter(Whole::Absent, Limit::Absent, Whole::Limit(1)),
-    );
+    )?;
     run(
+        &rt,
         &labels,
         filter(Whole::Limit(2), Limit::Absent, Whole::Limit(1)),
-    );
+    )?;
     run(
+        &rt,
         &labels,
         filter(Whole::Absent, Limit::Limit(0.5), Whole::Absent),
-    );
+    )?;
     run(
+        &rt,
         &labels[..3],
         filter(Whole::Absent, Limit::Absent, Whole::Absent),
-    );
+    )?;
     run(
+        &rt,
         &[0, 3, 1, 2],
         filter(Whole::Absent, Limit::Absent, Whole::Absent),
-    );
+    )
 }

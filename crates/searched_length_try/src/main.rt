@@ -1,30 +1,36 @@
 // The lengths of mending lists: a line for each small mesh with one number for each of the options 0 to 63, at the threshold 2^-10; then those of a long strip at
 // points that are all equal, in whose lists every line is known. The file stdout says what they must be.
+#![tactic(auto)]
+
 ghost use Rattle.std.specs.Prelude.{◌≤◌, length};
 
 use refuse::Verdict;
+use std::io;
 
 // Writes how long the list of a mesh is, if the mesh is accepted.
-fn tell(points: &[f64], faces: &[u32], options: u32) {
+fn tell(rt: &impl Print, points: &[f64], faces: &[u32], options: u32) -> io::Result<()> {
     let found = refuse::sizes(points.len(), faces.len());
     let Verdict::Fine = found else {
-        return;
+        return Ok(());
     };
     let held = refuse::contents(points, faces);
     let Verdict::Fine = held else {
-        return;
+        return Ok(());
     };
-    show::number(searched_length::searched_length(points, faces, 0.0009765625, options));
+    show::number(
+        rt,
+        searched_length::searched_length(points, faces, 0.0009765625, options),
+    )
 }
 
 // The same for each of the options, on a line.
-fn tell_all(points: &[f64], faces: &[u32]) {
+fn tell_all(rt: &impl Print, points: &[f64], faces: &[u32]) -> io::Result<()> {
     let mut options = 0;
     while options < 64 {
-        tell(points, faces, options);
+        tell(rt, points, faces, options)?;
         options += 1;
     }
-    show::end_line();
+    show::end_line(rt)
 }
 
 // A strip: face i has the points i, i + 1 and i + 2.
@@ -39,41 +45,42 @@ fn strip(faces: &mut [u32])
 }
 
 // A face with one point three times; a third face on an edge; two faces that meet in a point; faces that repeat corners, that are thin and that are there twice.
-fn legs() {
+fn legs(rt: &impl Print) -> io::Result<()> {
     let points = [
         0.0, 0.0, 0.0, 1.0, 0.0, 0.0, 0.0, 1.0, 0.0, 0.0, -1.0, 0.0, 0.0, 0.0, 1.0,
     ];
-    tell_all(&[0.0, 0.0, 0.0], &[0, 0, 0]);
-    tell_all(&points, &[0, 1, 2, 0, 1, 3, 0, 1, 4]);
-    tell_all(&points, &[0, 1, 2, 0, 3, 4]);
-    tell_all(&points, &[0, 0, 1, 0, 1, 2, 2, 1, 0, 0, 2, 3]);
+    tell_all(rt, &[0.0, 0.0, 0.0], &[0, 0, 0])?;
+    tell_all(rt, &points, &[0, 1, 2, 0, 1, 3, 0, 1, 4])?;
+    tell_all(rt, &points, &[0, 1, 2, 0, 3, 4])?;
+    tell_all(rt, &points, &[0, 0, 1, 0, 1, 2, 2, 1, 0, 0, 2, 3])
 }
 
 // A band that closes the wrong way, at points that are all equal; and many faces of one point, so that some points that are split off have two digits.
-fn bands() {
+fn bands(rt: &impl Print) -> io::Result<()> {
     let points = [0.0; 15];
-    tell_all(&points, &[0, 1, 2, 1, 2, 3, 2, 3, 4, 3, 4, 0, 4, 0, 1]);
+    tell_all(rt, &points, &[0, 1, 2, 1, 2, 3, 2, 3, 4, 3, 4, 0, 4, 0, 1])?;
     tell_all(
+        rt,
         &points,
         &[
             1, 1, 1, 0, 1, 2, 1, 1, 1, 3, 3, 3, 1, 4, 4, 3, 3, 3, 0, 2, 1,
         ],
-    );
+    )
 }
 
 // A strip that has more faces than the small rows: in turn every second face is exchanged, each face is thin, and then each point is isolated too.
-fn long_strip() {
+fn long_strip(rt: &impl Print) -> io::Result<()> {
     let points = [0.0; 12306];
     let mut faces = [0u32; 12300];
     strip(&mut faces);
-    tell(&points, &faces, 62);
-    tell(&points, &faces, 1);
-    tell(&points, &faces, 33);
-    show::end_line();
+    tell(rt, &points, &faces, 62)?;
+    tell(rt, &points, &faces, 1)?;
+    tell(rt, &points, &faces, 33)?;
+    show::end_line(rt)
 }
 
-fn main() {
-    legs();
-    bands();
-    long_strip();
+fn main(rt: HostRuntime) -> io::Result<()> {
+    legs(&rt)?;
+    bands(&rt)?;
+    long_strip(&rt)
 }

@@ -1,11 +1,14 @@
 // Mending lists through the calls for C, of a face that has one point three times: each text that was written is applied, and so are two others. All rooms hold 7
 // before a call. The file stdout says what it must be.
+#![tactic(auto)]
+
 ghost use Rattle.std.specs.Prelude.{◌≤◌, length};
 
 use shell::ShellList;
+use std::io;
 
 // What applying a list gives back, and its rooms.
-fn apply(list: &[u8]) {
+fn apply(rt: &impl Print, list: &[u8]) -> io::Result<()> {
     let mut points = [7.0; 13];
     let mut faces = [7u32; 4];
     let mut work = [7u32; 145];
@@ -17,36 +20,37 @@ fn apply(list: &[u8]) {
         &mut faces,
         &mut work,
     );
-    io::write_all(1, b"apply ");
-    show::numbers(&[r.number, r.place], 2);
-    show::number(r.points);
-    show::number(r.faces);
-    show::end_line();
-    show::bits(&points);
-    show::row(&faces, faces.len());
-    show::runs(&work);
+    print!(rt; "apply ")?;
+    show::numbers(rt, &[r.number, r.place], 2)?;
+    show::number(rt, r.points)?;
+    show::number(rt, r.faces)?;
+    show::end_line(rt)?;
+    show::bits(rt, &points)?;
+    show::row(rt, &faces, faces.len())?;
+    show::runs(rt, &work)
 }
 
 // The first n bytes of a room, and what applying them gives.
-fn apply_front(text: &[u8], n: usize)
+fn apply_front(rt: &impl Print, text: &[u8], n: usize) -> io::Result<()>
     requires { n ≤ length text.now }
 {
-    io::write_all(1, &text[..n]);
-    apply(&text[..n]);
+    rt.write_all(&text[..n])?;
+    apply(rt, &text[..n])
 }
 
 // What writing a list gave back; where it was written it is applied.
-fn told(r: ShellList, text: &[u8]) {
-    io::write_all(1, b"list ");
-    show::numbers(&[r.number, r.place], 2);
-    show::number(r.bytes);
-    show::end_line();
+fn told(rt: &impl Print, r: ShellList, text: &[u8]) -> io::Result<()> {
+    print!(rt; "list ")?;
+    show::numbers(rt, &[r.number, r.place], 2)?;
+    show::number(rt, r.bytes)?;
+    show::end_line(rt)?;
     let n = r.bytes as usize;
     if r.number == 0 {
         if n <= text.len() {
-            apply_front(text, n);
+            apply_front(rt, text, n)?;
         }
     }
+    Ok(())
 }
 
 // How long the rooms are that are lent.
@@ -83,7 +87,7 @@ fn lend(
 }
 
 // The rooms of a list, with what it gave back.
-fn list(options: u32, lent: Lent)
+fn list(rt: &impl Print, options: u32, lent: Lent) -> io::Result<()>
     requires { (lent.text ≤ 24) × (lent.corners ≤ 3) × (lent.rest ≤ 141) }
 {
     let mut text = [7u8; 24];
@@ -100,15 +104,15 @@ fn list(options: u32, lent: Lent)
         &mut origins,
         &mut rest,
     );
-    show::hex(&text);
-    show::runs(&corners);
-    show::runs(&origins);
-    show::runs(&rest);
-    told(r, &text);
+    show::hex(rt, &text)?;
+    show::runs(rt, &corners)?;
+    show::runs(rt, &origins)?;
+    show::runs(rt, &rest)?;
+    told(rt, r, &text)
 }
 
 // In a text room, a first and a third part of the work room of these lengths.
-fn stated(options: u32, text: usize, corners: usize, rest: usize)
+fn stated(rt: &impl Print, options: u32, text: usize, corners: usize, rest: usize) -> io::Result<()>
     requires { (text ≤ 24) × (corners ≤ 3) × (rest ≤ 141) }
 {
     let lent = Lent {
@@ -116,17 +120,17 @@ fn stated(options: u32, text: usize, corners: usize, rest: usize)
         corners: corners,
         rest: rest,
     };
-    list(options, lent);
+    list(rt, options, lent)
 }
 
-fn main() {
-    stated(40, 24, 3, 141);
-    stated(8, 14, 3, 140);
-    stated(0, 0, 3, 140);
-    stated(40, 21, 3, 140);
-    stated(40, 22, 3, 139);
-    stated(40, 22, 2, 140);
-    stated(64, 22, 3, 140);
-    apply(b"o\t0\no\t0\n");
-    apply(b"u\t0\n");
+fn main(rt: HostRuntime) -> io::Result<()> {
+    stated(&rt, 40, 24, 3, 141)?;
+    stated(&rt, 8, 14, 3, 140)?;
+    stated(&rt, 0, 0, 3, 140)?;
+    stated(&rt, 40, 21, 3, 140)?;
+    stated(&rt, 40, 22, 3, 139)?;
+    stated(&rt, 40, 22, 2, 140)?;
+    stated(&rt, 64, 22, 3, 140)?;
+    apply(&rt, b"o\t0\no\t0\n")?;
+    apply(&rt, b"u\t0\n")
 }

@@ -1,39 +1,43 @@
 // What the programs that run real values write by: numbers, rows of them, floats by their bits, bytes, how far two rows of floats are equal, and the end of
-// a line, on standard output.
-ghost use Rattle.std.specs.Prelude.{◌≤◌, ◌<◌, length};
+// a line, on standard output. An error is that of a write, and what stands behind it is not written.
+#![tactic(auto)]
+
+ghost use Rattle.std.specs.Prelude.{◌≤◌, ◌<◌, length, IfOk};
+
+use std::io;
 
 // Writes a number and a space.
-pub fn number(n: u64) {
-    io::print_decimal(1, n);
-    io::write_all(1, b" ");
+pub fn number(rt: &impl Print, n: u64) -> io::Result<()> {
+    print!(rt; "{n} ")
 }
 
 // Ends the line.
-pub fn end_line() {
-    io::write_all(1, b"\n");
+pub fn end_line(rt: &impl Print) -> io::Result<()> {
+    println!(rt)
 }
 
 // Writes the first n numbers of a row, a space behind each.
-pub fn numbers(row: &[u32], n: usize)
+pub fn numbers(rt: &impl Print, row: &[u32], n: usize) -> io::Result<()>
     requires { n ≤ length row.now }
 {
     let mut i = 0;
     while i < n {
-        number(row[i] as u64);
+        number(rt, row[i] as u64)?;
         i += 1;
     }
+    Ok(())
 }
 
 // Writes the first n numbers of a row, and ends the line.
-pub fn row(row: &[u32], n: usize)
+pub fn row(rt: &impl Print, row: &[u32], n: usize) -> io::Result<()>
     requires { n ≤ length row.now }
 {
-    numbers(row, n);
-    end_line();
+    numbers(rt, row, n)?;
+    end_line(rt)
 }
 
 // Writes how many entries of two rows of floats are equal, from the front on, and ends the line.
-pub fn equal(row: &[f64], other: &[f64]) {
+pub fn equal(rt: &impl Print, row: &[f64], other: &[f64]) -> io::Result<()> {
     let mut i = 0;
     while i < row.len() {
         if i >= other.len() {
@@ -44,74 +48,72 @@ pub fn equal(row: &[f64], other: &[f64]) {
         }
         i += 1;
     }
-    number(i as u64);
-    end_line();
+    number(rt, i as u64)?;
+    end_line(rt)
 }
 
 // ---- runs of a row
 
 // Writes a run.
-fn run(n: usize, x: u32) {
-    io::print_decimal(1, n as u64);
-    io::write_all(1, b"x");
-    number(x as u64);
+fn run(rt: &impl Print, n: usize, x: u32) -> io::Result<()> {
+    print!(rt; "{n}x{x} ")
 }
 
 // Writes the run that ends before entry i, if one does. Returns where the run of entry i begins.
-fn passed(row: &[u32], begin: usize, i: usize) -> usize
+fn passed(rt: &impl Print, row: &[u32], begin: usize, i: usize) -> io::Result<usize>
     requires begin_le_i { begin ≤ i }
     requires i_in_bounds { i < length row.now }
-    ensures { result ≤ i }
+    ensures { IfOk result (λ next. next ≤ i) }
 {
     if row[i] == row[begin] {
-        return begin;
+        return Ok(begin);
     }
-    run(i - begin, row[begin]);
-    i
+    run(rt, i - begin, row[begin])?;
+    Ok(i)
 }
 
 // Writes a row by its runs: how many entries, and the number that they all hold.
-pub fn runs(row: &[u32]) {
+pub fn runs(rt: &impl Print, row: &[u32]) -> io::Result<()> {
     let mut begin = 0;
     let mut i = 0;
     while i < row.len() {
-        begin = passed(row, begin, i);
+        begin = passed(rt, row, begin, i)?;
         i += 1;
     }
     if begin < row.len() {
-        run(i - begin, row[begin]);
+        run(rt, i - begin, row[begin])?;
     }
-    end_line();
+    end_line(rt)
 }
 
 // ---- bits and bytes
 
 // Writes the bits of a float in hex, and a space; of a NaN a dash.
-fn float(x: f64) {
+fn float(rt: &impl Print, x: f64) -> io::Result<()> {
     if x != x {
-        io::write_all(1, b"- ");
-        return;
+        return print!(rt; "- ");
     }
-    io::print_hex(1, f64::to_bits(x), 16);
-    io::write_all(1, b" ");
+    let bits = f64::to_bits(x);
+    print!(rt; "{bits:016x} ")
 }
 
 // Writes a row of floats by their bits, and ends the line.
-pub fn bits(row: &[f64]) {
+pub fn bits(rt: &impl Print, row: &[f64]) -> io::Result<()> {
     let mut i = 0;
     while i < row.len() {
-        float(row[i]);
+        float(rt, row[i])?;
         i += 1;
     }
-    end_line();
+    end_line(rt)
 }
 
 // Writes a row of bytes in hex, and ends the line.
-pub fn hex(row: &[u8]) {
+pub fn hex(rt: &impl Print, row: &[u8]) -> io::Result<()> {
     let mut i = 0;
     while i < row.len() {
-        io::print_hex(1, row[i] as u64, 2);
+        let byte = row[i];
+        print!(rt; "{byte:02x}")?;
         i += 1;
     }
-    end_line();
+    end_line(rt)
 }

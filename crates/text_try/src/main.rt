@@ -1,5 +1,8 @@
 // Reads a text as `meshfix` does, and writes what it asks for: options, how many entries stand in the rooms, and one of each
 // room; or the refusal's line. The file stdout says what it must be.
+#![tactic(auto)]
+
+use std::io;
 use text_in::Told;
 
 // A u32 as a u64.
@@ -8,63 +11,67 @@ fn wide(x: u32) -> u64 {
 }
 
 // Writes the line of refusal 11.
-fn refuse() {
+fn refuse(rt: &impl Print) -> io::Result<()> {
     let mut out = [0; 16];
     let end = text_out::put_refusal(&mut out, 11);
     if end <= 16 {
-        io::write_all(1, &out[..end]);
+        rt.write_all(&out[..end])?;
     }
+    Ok(())
 }
 
 // Reads a text into the rooms, and writes what it asks for.
-fn show(text: &[u8]) {
+fn show(rt: &impl Print, text: &[u8]) -> io::Result<()> {
     let mut points = [0.0; 192];
     let mut faces = [0; 192];
     match text_in::read(text, &mut points, &mut faces) {
         Told::Bad => {
-            refuse();
+            refuse(rt)?;
         }
         Told::Job(options, threshold, p, f) => {
-            show::number(options as u64);
+            show::number(rt, options as u64)?;
             if threshold < 1.0 {
-                io::write_all(1, b"small ");
+                print!(rt; "small ")?;
             }
-            show::number(p as u64);
-            show::number(f as u64);
-            show::number(wide(faces[2]));
+            show::number(rt, p as u64)?;
+            show::number(rt, f as u64)?;
+            show::number(rt, wide(faces[2]))?;
             if points[1] != points[1] {
-                io::write_all(1, b"no number");
+                print!(rt; "no number")?;
             }
-            show::end_line();
+            show::end_line(rt)?;
         }
     }
+    Ok(())
 }
 
 // The text on standard input, whose last line is a 65th point, and the same without that line.
-fn show_input() {
+fn show_input(rt: &(impl Print + Input)) -> io::Result<()> {
     let mut text = [0; 8193];
-    let n = io::read_full(0, &mut text);
-    show(&text[..n]);
+    let n = input::read_full(&mut rt.reader(), &mut text)?;
+    show(rt, &text[..n])?;
     if n >= 53 {
-        show(&text[..n - 53]);
+        show(rt, &text[..n - 53])?;
     }
+    Ok(())
 }
 
-fn main() {
-    show(b"");
-    show(b"o\t63\t3f50000000000000\n");
+fn main(rt: HostRuntime) -> io::Result<()> {
+    show(&rt, b"")?;
+    show(&rt, b"o\t63\t3f50000000000000\n")?;
     show(
+        &rt,
         b"o\t63\t3f50000000000000\nf\t0\t1\t4294967295\np\t0000000000000000\t7ff8000000000001\tbff0000000000000\n",
-    );
-    show(b"o\t63\t3f50000000000000\nf\t0\t1\t4294967296\n");
-    show(b"o\t063\t3f50000000000000\n");
-    show(b"o\t63\t3F50000000000000\n");
-    show(b"o\t63\t3f50000000000000\nf\t0\t1\n");
-    show(b"o\t63\t3f50000000000000\nf\t0\t1\t2\t3\n");
-    show(b"o\t63\t3f50000000000000\nf\t0\t1\t2");
-    show(b"o\t63\t3f50000000000000\n\n");
-    show(b"f\t0\t1\t2\no\t63\t3f50000000000000\n");
-    show(b"o\t63\t3f50000000000000\nf\t00\t1\t2\n");
-    show(b"o\t0\t3f50000000000000\n");
-    show_input();
+    )?;
+    show(&rt, b"o\t63\t3f50000000000000\nf\t0\t1\t4294967296\n")?;
+    show(&rt, b"o\t063\t3f50000000000000\n")?;
+    show(&rt, b"o\t63\t3F50000000000000\n")?;
+    show(&rt, b"o\t63\t3f50000000000000\nf\t0\t1\n")?;
+    show(&rt, b"o\t63\t3f50000000000000\nf\t0\t1\t2\t3\n")?;
+    show(&rt, b"o\t63\t3f50000000000000\nf\t0\t1\t2")?;
+    show(&rt, b"o\t63\t3f50000000000000\n\n")?;
+    show(&rt, b"f\t0\t1\t2\no\t63\t3f50000000000000\n")?;
+    show(&rt, b"o\t63\t3f50000000000000\nf\t00\t1\t2\n")?;
+    show(&rt, b"o\t0\t3f50000000000000\n")?;
+    show_input(&rt)
 }

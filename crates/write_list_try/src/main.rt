@@ -1,7 +1,10 @@
 // Writes the mending lists of small meshes, and what is refused: the answer, the text, its room, and the three parts of the work room by their runs. All rooms
 // hold 7 before a call; entry 3 of the last part may hold another number. The file stdout says what it must be.
+#![tactic(auto)]
+
 ghost use Rattle.std.specs.Prelude.{◌≤◌, length};
 
+use std::io;
 use write_list::Listed;
 
 // How long the rooms are that are lent, and what entry 3 of the last part holds.
@@ -15,37 +18,38 @@ struct Lent {
 }
 
 // Writes the first n bytes of a room.
-fn show_front(text: &[u8], n: usize)
+fn show_front(rt: &impl Print, text: &[u8], n: usize) -> io::Result<()>
     requires { n ≤ length text.now }
 {
-    io::write_all(1, &text[..n]);
+    rt.write_all(&text[..n])
 }
 
 // Writes the first n bytes of a room in hex.
-fn show_hex(text: &[u8], n: usize)
+fn show_hex(rt: &impl Print, text: &[u8], n: usize) -> io::Result<()>
     requires { n ≤ length text.now }
 {
-    show::hex(&text[..n]);
+    show::hex(rt, &text[..n])
 }
 
 // What the call gives back, and the text, if there is one.
-fn show_answer(answer: Listed, text: &[u8]) {
+fn show_answer(rt: &impl Print, answer: Listed, text: &[u8]) -> io::Result<()> {
     match answer {
         Listed::Done(n) => {
-            io::write_all(1, b"done ");
-            show::number(n as u64);
-            show::end_line();
+            print!(rt; "done ")?;
+            show::number(rt, n as u64)?;
+            show::end_line(rt)?;
             if n <= text.len() {
-                show_front(text, n);
+                show_front(rt, text, n)?;
             }
         }
         Listed::Refused(number, place) => {
-            io::write_all(1, b"refused ");
-            show::number(number as u64);
-            show::number(place as u64);
-            show::end_line();
+            print!(rt; "refused ")?;
+            show::number(rt, number as u64)?;
+            show::number(rt, place as u64)?;
+            show::end_line(rt)?;
         }
     }
+    Ok(())
 }
 
 // Runs the call in the fronts of these rooms.
@@ -74,7 +78,7 @@ fn lend(
 }
 
 // Runs the call in rooms of these lengths.
-fn run(points: &[f64], faces: &[u32], options: u32, lent: Lent)
+fn run(rt: &impl Print, points: &[f64], faces: &[u32], options: u32, lent: Lent) -> io::Result<()>
     requires { (lent.text ≤ 700) × (lent.corners ≤ 16) × (lent.origins ≤ 16) × (lent.rest ≤ 460) }
 {
     let mut text = [7u8; 700];
@@ -92,15 +96,22 @@ fn run(points: &[f64], faces: &[u32], options: u32, lent: Lent)
         &mut origins,
         &mut rest,
     );
-    show_answer(answer, &text);
-    show_hex(&text, 48);
-    show::runs(&corners);
-    show::runs(&origins);
-    show::runs(&rest);
+    show_answer(rt, answer, &text)?;
+    show_hex(rt, &text, 48)?;
+    show::runs(rt, &corners)?;
+    show::runs(rt, &origins)?;
+    show::runs(rt, &rest)
 }
 
 // Runs the call for p points and f faces in a text room of this length and a work room that is one entry longer than stated.
-fn stated(points: &[f64], faces: &[u32], options: u32, text: usize, spot: u32)
+fn stated(
+    rt: &impl Print,
+    points: &[f64],
+    faces: &[u32],
+    options: u32,
+    text: usize,
+    spot: u32,
+) -> io::Result<()>
     requires { text ≤ 700 }
 {
     let p = points.len() / 3;
@@ -114,72 +125,101 @@ fn stated(points: &[f64], faces: &[u32], options: u32, text: usize, spot: u32)
                 rest: 16 * p + 60 * f + 65,
                 spot: spot,
             };
-            run(points, faces, options, lent);
+            run(rt, points, faces, options, lent)?;
         }
     }
+    Ok(())
 }
 
 // The same in a text room that is a byte longer than the text, in one as long, in one a byte shorter, and in one that is ample.
-fn list(points: &[f64], faces: &[u32], options: u32, bytes: usize)
+fn list(
+    rt: &impl Print,
+    points: &[f64],
+    faces: &[u32],
+    options: u32,
+    bytes: usize,
+) -> io::Result<()>
     requires { bytes ≤ 600 }
 {
-    stated(points, faces, options, bytes + 1, 7);
-    stated(points, faces, options, bytes, 7);
-    stated(points, faces, options, 690, 9);
+    stated(rt, points, faces, options, bytes + 1, 7)?;
+    stated(rt, points, faces, options, bytes, 7)?;
+    stated(rt, points, faces, options, 690, 9)?;
     if bytes > 0 {
-        stated(points, faces, options, bytes - 1, 7);
+        stated(rt, points, faces, options, bytes - 1, 7)?;
     }
+    Ok(())
 }
 
 // The same in a work room that is not all one number, in a text room that is a byte longer than the text, in one as long and in one a byte shorter.
-fn searched(points: &[f64], faces: &[u32], options: u32, bytes: usize)
+fn searched(
+    rt: &impl Print,
+    points: &[f64],
+    faces: &[u32],
+    options: u32,
+    bytes: usize,
+) -> io::Result<()>
     requires { bytes ≤ 600 }
 {
-    stated(points, faces, options, bytes + 1, 9);
-    stated(points, faces, options, bytes, 9);
+    stated(rt, points, faces, options, bytes + 1, 9)?;
+    stated(rt, points, faces, options, bytes, 9)?;
     if bytes > 0 {
-        stated(points, faces, options, bytes - 1, 9);
+        stated(rt, points, faces, options, bytes - 1, 9)?;
     }
+    Ok(())
 }
 
 // Both.
-fn both(points: &[f64], faces: &[u32], options: u32, bytes: usize)
+fn both(
+    rt: &impl Print,
+    points: &[f64],
+    faces: &[u32],
+    options: u32,
+    bytes: usize,
+) -> io::Result<()>
     requires { bytes ≤ 600 }
 {
-    list(points, faces, options, bytes);
-    searched(points, faces, options, bytes);
+    list(rt, points, faces, options, bytes)?;
+    searched(rt, points, faces, options, bytes)
 }
 
 // A face that has one point three times.
-fn alone() {
-    both(&[0.0, 0.0, 0.0], &[0, 0, 0], 40, 22);
-    both(&[0.0, 0.0, 0.0], &[0, 0, 0], 0, 0);
+fn alone(rt: &impl Print) -> io::Result<()> {
+    both(rt, &[0.0, 0.0, 0.0], &[0, 0, 0], 40, 22)?;
+    both(rt, &[0.0, 0.0, 0.0], &[0, 0, 0], 0, 0)
 }
 
 // Faces over the unit legs: a third face on an edge, an exchange and an unused point; two faces that meet in a point; both reasons of pass 1, and a
 // duplicate.
-fn legs() {
+fn legs(rt: &impl Print) -> io::Result<()> {
     let points = [
         0.0, 0.0, 0.0, 1.0, 0.0, 0.0, 0.0, 1.0, 0.0, 0.0, -1.0, 0.0, 0.0, 0.0, 1.0,
     ];
-    both(&points, &[0, 1, 2, 0, 1, 3, 0, 1, 4], 63, 19);
-    both(&points, &[0, 1, 2, 0, 3, 4], 63, 8);
-    both(&points, &[0, 0, 1, 0, 1, 2, 2, 1, 0, 0, 2, 3], 3, 42);
+    both(rt, &points, &[0, 1, 2, 0, 1, 3, 0, 1, 4], 63, 19)?;
+    both(rt, &points, &[0, 1, 2, 0, 3, 4], 63, 8)?;
+    both(rt, &points, &[0, 0, 1, 0, 1, 2, 2, 1, 0, 0, 2, 3], 3, 42)
 }
 
 // Five faces around a band that closes the wrong way.
-fn band() {
+fn band(rt: &impl Print) -> io::Result<()> {
     let points = [0.0; 15];
     both(
+        rt,
         &points,
         &[0, 1, 2, 1, 2, 3, 2, 3, 4, 3, 4, 0, 4, 0, 1],
         16,
         28,
-    );
+    )
 }
 
 // A room for one point and no face: `u 0` in four bytes.
-fn point(text: usize, corners: usize, origins: usize, rest: usize, spot: u32)
+fn point(
+    rt: &impl Print,
+    text: usize,
+    corners: usize,
+    origins: usize,
+    rest: usize,
+    spot: u32,
+) -> io::Result<()>
     requires { (text ≤ 700) × (corners ≤ 16) × (origins ≤ 16) × (rest ≤ 460) }
 {
     let lent = Lent {
@@ -189,23 +229,23 @@ fn point(text: usize, corners: usize, origins: usize, rest: usize, spot: u32)
         rest: rest,
         spot: spot,
     };
-    run(&[0.0, 0.0, 0.0], &[], 32, lent);
+    run(rt, &[0.0, 0.0, 0.0], &[], 32, lent)
 }
 
 // Rooms that are too short, a byte or an entry; of two short rooms the first; parts that are not those of one room.
-fn rooms() {
-    point(4, 0, 0, 80, 7);
-    point(3, 0, 0, 80, 7);
-    point(3, 0, 0, 80, 9);
-    point(4, 0, 0, 79, 9);
-    point(3, 0, 0, 79, 9);
-    point(10, 1, 0, 80, 7);
-    point(4, 0, 1, 80, 9);
-    point(3, 1, 1, 80, 9);
+fn rooms(rt: &impl Print) -> io::Result<()> {
+    point(rt, 4, 0, 0, 80, 7)?;
+    point(rt, 3, 0, 0, 80, 7)?;
+    point(rt, 3, 0, 0, 80, 9)?;
+    point(rt, 4, 0, 0, 79, 9)?;
+    point(rt, 3, 0, 0, 79, 9)?;
+    point(rt, 10, 1, 0, 80, 7)?;
+    point(rt, 4, 0, 1, 80, 9)?;
+    point(rt, 3, 1, 1, 80, 9)
 }
 
 // Faults of the input before those of the rooms.
-fn faults() {
+fn faults(rt: &impl Print) -> io::Result<()> {
     let none = Lent {
         text: 0,
         corners: 0,
@@ -213,18 +253,18 @@ fn faults() {
         rest: 0,
         spot: 7,
     };
-    run(&[0.0, 0.0], &[0], 0, none);
-    run(&[], &[0], 64, none);
-    run(&[0.0 / 0.0, 0.0, 0.0], &[], 64, none);
-    run(&[0.0 / 0.0, 0.0, 0.0], &[0, 0, 1], 0, none);
-    run(&[0.0, 0.0, 0.0], &[0, 0, 1], 0, none);
-    run(&[0.0, 0.0, 0.0], &[], 0, none);
+    run(rt, &[0.0, 0.0], &[0], 0, none)?;
+    run(rt, &[], &[0], 64, none)?;
+    run(rt, &[0.0 / 0.0, 0.0, 0.0], &[], 64, none)?;
+    run(rt, &[0.0 / 0.0, 0.0, 0.0], &[0, 0, 1], 0, none)?;
+    run(rt, &[0.0, 0.0, 0.0], &[0, 0, 1], 0, none)?;
+    run(rt, &[0.0, 0.0, 0.0], &[], 0, none)
 }
 
-fn main() {
-    alone();
-    legs();
-    band();
-    rooms();
-    faults();
+fn main(rt: HostRuntime) -> io::Result<()> {
+    alone(&rt)?;
+    legs(&rt)?;
+    band(&rt)?;
+    rooms(&rt)?;
+    faults(&rt)
 }

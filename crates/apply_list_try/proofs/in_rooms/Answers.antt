@@ -4,4 +4,4 @@ use lib.ListN.{length-take}
 use Rattle.apply_list_try.proofs.in_rooms.Goals as goal
 
 pub slice_bounds-run-end-5 : goal.slice_bounds-run-end-5
-slice_bounds-run-end-5 c = simp length-take (omega arith)
+slice_bounds-run-end-5 g c = simp length-take (omega arith)

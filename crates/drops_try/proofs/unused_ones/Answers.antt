@@ -4,4 +4,4 @@ use Rattle.drops_try.proofs.Ready.{unused}
 use Rattle.drops_try.proofs.unused_ones.Goals as goal
 
 pub isolated-requires : goal.isolated-requires
-isolated-requires c = unused _ _ _ _ _ refl refl refl refl refl
+isolated-requires g c = unused _ _ _ _ _ refl refl refl refl refl

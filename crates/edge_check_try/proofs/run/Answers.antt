@@ -4,4 +4,4 @@ use lib.Seq.{length-take-le}
 use Rattle.edge_check_try.proofs.run.Goals as goal
 
 pub slice_bounds-work-end : goal.slice_bounds-work-end
-slice_bounds-work-end c = sym (length-take-le _ _ c.requires)
+slice_bounds-work-end g c = sym (length-take-le _ _ c.requires)

@@ -4,4 +4,4 @@ use Rattle.fates_try.proofs.Ready.{ready}
 use Rattle.fates_try.proofs.dropped_ones.Goals as goal
 
 pub told-requires : goal.told-requires
-told-requires c = ready _ _ _ _ _ _ refl refl refl refl refl refl refl refl
+told-requires g c = ready _ _ _ _ _ _ refl refl refl refl refl refl refl refl

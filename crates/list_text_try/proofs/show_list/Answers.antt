@@ -5,4 +5,4 @@ use lib.Seq.{length-take-le}
 use Rattle.list_text_try.proofs.show_list.Goals as goal
 
 pub slice_bounds-write_all-end : goal.slice_bounds-write_all-end
-slice_bounds-write_all-end c = sym (length-take-le c.list_text-end.result c.list_text-end.new.1.1.1.0 (omega (arith, c.list_text-end.ensures.ends, c.list_text-end.ensures.fits, c.list_text-end.ensures.only.long)))
+slice_bounds-write_all-end g c = sym (length-take-le c.list_text-end.result c.list_text-end.new.1.1.1.0 (omega (arith, c.list_text-end.ensures.ends, c.list_text-end.ensures.fits, c.list_text-end.ensures.only.long)))

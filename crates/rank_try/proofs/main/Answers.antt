@@ -20,17 +20,16 @@ ready ps xs run l k e f t = (
     ids = λ i h. rw k (bounded run (length run) 15 f i h);
   },
   ltb-true 1 (length run) t,
-
 )
 
 pub ranked-requires : goal.ranked-requires
-ranked-requires c = ready _ _ _ refl refl refl refl refl
+ranked-requires g c = ready _ _ _ refl refl refl refl refl
 
 pub ranked-requires-2 : goal.ranked-requires-2
-ranked-requires-2 c = ready _ _ _ refl refl refl refl refl
+ranked-requires-2 g c = ready _ _ _ refl refl refl refl refl
 
 pub ranked-requires-3 : goal.ranked-requires-3
-ranked-requires-3 c = ready _ _ _ refl refl refl refl refl
+ranked-requires-3 g c = ready _ _ _ refl refl refl refl refl
 
 pub ranked-requires-4 : goal.ranked-requires-4
-ranked-requires-4 c = ready _ _ _ refl refl refl refl refl
+ranked-requires-4 g c = ready _ _ _ refl refl refl refl refl

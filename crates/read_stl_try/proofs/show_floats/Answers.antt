@@ -3,7 +3,7 @@ use Prim.Native.Nat.{◌-◌}
 use Rattle.read_stl_try.proofs.show_floats.Goals as goal
 
 pub show_float-requires : goal.show_float-requires
-show_float-requires c = tt
+show_float-requires g c = tt
 
 pub returns : goal.returns
-returns c = tt
+returns g c = tt

@@ -4,7 +4,7 @@ use lib.ListN.{length}
 use Rattle.read_stl_try.proofs.show_floats.Given as goal
 
 abbrev pub invariant-loop-i : goal.invariant-loop-i
-invariant-loop-i l = l.i ≤ length l.xs
+invariant-loop-i g l = l.i ≤ length l.xs
 
 abbrev pub decreases-loop-i : goal.decreases-loop-i
-decreases-loop-i l = length l.xs - l.i
+decreases-loop-i g l = length l.xs - l.i

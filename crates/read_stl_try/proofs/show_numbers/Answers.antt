@@ -3,7 +3,7 @@ use Prim.Native.Nat.{◌-◌}
 use Rattle.read_stl_try.proofs.show_numbers.Goals as goal
 
 pub show_number-requires : goal.show_number-requires
-show_number-requires c = tt
+show_number-requires g c = tt
 
 pub returns : goal.returns
-returns c = tt
+returns g c = tt

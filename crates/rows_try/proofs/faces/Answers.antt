@@ -3,4 +3,4 @@ use native.Mathlib.Omega.{arith}
 use Rattle.rows_try.proofs.faces.Goals as goal
 
 pub number_kept-requires : goal.number_kept-requires
-number_kept-requires c = record { flags_fit = omega arith; to_fit = omega arith; apart = before (omega arith); few = omega arith }
+number_kept-requires g c = record { flags_fit = omega arith; to_fit = omega arith; apart = before (omega arith); few = omega arith }

@@ -4,4 +4,4 @@ use borrow.Author.Rules.{rules}
 use Rattle.rows_try.proofs.regions.Goals as goal
 
 pub copy-requires : goal.copy-requires
-copy-requires c = record { from_fit = search rules; to_fit = search rules; apart = before (omega arith) }
+copy-requires g c = record { from_fit = search rules; to_fit = search rules; apart = before (omega arith) }

@@ -4,7 +4,7 @@ use lib.ListN.{length}
 use Rattle.rows_try.proofs.show_points.Given as goal
 
 abbrev pub invariant-loop-i : goal.invariant-loop-i
-invariant-loop-i l = l.i ≤ length l.row
+invariant-loop-i g l = l.i ≤ length l.row
 
 abbrev pub decreases-loop-i : goal.decreases-loop-i
-decreases-loop-i l = length l.row - l.i
+decreases-loop-i g l = length l.row - l.i

@@ -4,7 +4,7 @@ use lib.Seq.{length-take-le}
 use Rattle.shell_list_try.proofs.apply_front.Goals as goal
 
 pub slice_bounds-write_all-end : goal.slice_bounds-write_all-end
-slice_bounds-write_all-end c = let start = c.before.before in sym (length-take-le start.args.n start.args.text.now start.requires)
+slice_bounds-write_all-end g c = let start = c.before.before in sym (length-take-le start.args.n start.args.text.now start.requires)
 
 pub slice_bounds-apply-end : goal.slice_bounds-apply-end
-slice_bounds-apply-end c = let start = c.before.before.before.before in sym (length-take-le start.args.n start.args.text.now start.requires)
+slice_bounds-apply-end g c = let start = c.before.before.before.before in sym (length-take-le start.args.n start.args.text.now start.requires)

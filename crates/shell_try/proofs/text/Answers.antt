@@ -4,4 +4,4 @@ use lib.ListN.{length-take}
 use Rattle.shell_try.proofs.text.Goals as goal
 
 pub slice_bounds-write_all-end : goal.slice_bounds-write_all-end
-slice_bounds-write_all-end c = simp length-take (omega arith)
+slice_bounds-write_all-end g c = simp length-take (omega arith)

@@ -4,4 +4,4 @@ use Rattle.split_bowtie_vertices_try.proofs.Ready.{ready}
 use Rattle.split_bowtie_vertices_try.proofs.bowtie.Goals as goal
 
 pub run-requires : goal.run-requires
-run-requires c = ready _ _ _ _ _ refl
+run-requires g c = ready _ _ _ _ _ refl

@@ -4,4 +4,4 @@ use Rattle.split_rows_try.proofs.Ready.{ready}
 use Rattle.split_rows_try.proofs.alone.Goals as goal
 
 pub run-requires : goal.run-requires
-run-requires c = ready _ _ _ _ _ refl
+run-requires g c = ready _ _ _ _ _ refl

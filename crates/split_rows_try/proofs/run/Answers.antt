@@ -28,7 +28,7 @@ module _ {xs : List ℕ} {n P : ℕ} {w : List ℕ} (p : SplitAsks xs n P w (tak
       record { fit = omega (arith, p.stand.fit); inside = g.inside; room = omega (arith, p.room, g.most) }
 
 pub sort_takers-requires : goal.sort_takers-requires
-sort_takers-requires c = let at-row2 = c.before.before in
+sort_takers-requires g c = let at-row2 = c.before.before in
     let at_row = at-row2.before.before in
     let at_number = at_row.before.before.before in
     let at-split-rows = at_number.before.before.before.before.before in
@@ -36,7 +36,7 @@ sort_takers-requires c = let at-row2 = c.before.before in
     takers_ok start.requires at-split-rows.split_rows-k.ensures
 
 pub mark_unused-requires : goal.mark_unused-requires
-mark_unused-requires c = let at-row3 = c.before.before in
+mark_unused-requires g c = let at-row3 = c.before.before in
     let at-sort-takers = at-row3.before.before.before.before.before in
     let at-row2 = at-sort-takers.before.before.before in
     let at_row = at-row2.before.before in
@@ -46,7 +46,7 @@ mark_unused-requires c = let at-row3 = c.before.before in
     flags_ok start.requires at-split-rows.split_rows-k.ensures at-sort-takers.sort_takers.ensures
 
 pub offset_bounds-work-m : goal.offset_bounds-work-m
-offset_bounds-work-m c = let at-mark-unused = c.before.before in
+offset_bounds-work-m g c = let at-mark-unused = c.before.before in
     let at-row3 = at-mark-unused.before.before.before in
     let at-sort-takers = at-row3.before.before.before.before.before in
     let at-row2 = at-sort-takers.before.before.before in

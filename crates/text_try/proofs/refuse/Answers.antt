@@ -4,4 +4,4 @@ use lib.ListN.{length-take}
 use Rattle.text_try.proofs.refuse.Goals as goal
 
 pub slice_bounds-write_all-end : goal.slice_bounds-write_all-end
-slice_bounds-write_all-end c = simp length-take (omega (arith, c.put_refusal-end.ensures.only.long))
+slice_bounds-write_all-end g c = simp length-take (omega (arith, c.put_refusal-end.ensures.only.long))

@@ -4,4 +4,4 @@ use lib.ListN.{length-take}
 use Rattle.text_try.proofs.show_input.Goals as goal
 
 pub slice_bounds-show-length : goal.slice_bounds-show-length
-slice_bounds-show-length c = simp length-take (omega arith)
+slice_bounds-show-length g c = simp length-take (omega arith)

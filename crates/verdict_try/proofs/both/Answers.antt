@@ -5,17 +5,17 @@ use Rattle.boundary.proofs.Calling.{table_asks, boundary_asks}
 use Rattle.verdict_try.proofs.both.Goals as goal
 
 pub table-m-requires : goal.table-m-requires
-table-m-requires c = let p = c.requires in table_asks p.input p.room_work
+table-m-requires g c = let p = c.requires in table_asks p.input p.room_work
 
 pub boundary-requires : goal.boundary-requires
-boundary-requires c = let p = c.requires in boundary_asks p.input p.room_work c.table-m.ensures
+boundary-requires g c = let p = c.requires in boundary_asks p.input p.room_work c.table-m.ensures
 
 pub slice_bounds-row-count : goal.slice_bounds-row-count
-slice_bounds-row-count c = let p = c.requires in
+slice_bounds-row-count g c = let p = c.requires in
     let asks = boundary_asks p.input p.room_work c.table-m.ensures in
     omega (arith, asks.fit, c.boundary.ensures.only.long)
 
 pub row-requires : goal.row-requires
-row-requires c = let p = c.requires in
+row-requires g c = let p = c.requires in
     let asks = boundary_asks p.input p.room_work c.table-m.ensures in
     simp (length-take, length-drop) (omega (arith, asks.fit, c.boundary.ensures.only.long))

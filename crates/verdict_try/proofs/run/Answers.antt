@@ -5,4 +5,4 @@ use Rattle.edge_check_refusal.proofs.Accept.{check_accepted}
 use Rattle.verdict_try.proofs.run.Goals as goal
 
 pub both-requires : goal.both-requires
-both-requires c = check_accepted _ _ 400 (sym c.edge_check_refusal.ensures ∙ ap check_of c.in-Fine.is)
+both-requires g c = check_accepted _ _ 400 (sym c.edge_check_refusal.ensures ∙ ap check_of c.in-Fine.is)

@@ -4,4 +4,4 @@ use lib.Seq.{length-take-le}
 use Rattle.write_list_try.proofs.show_hex.Goals as goal
 
 pub slice_bounds-hex-end : goal.slice_bounds-hex-end
-slice_bounds-hex-end c = let start = c.before.before in sym (length-take-le start.args.n start.args.text.now start.requires)
+slice_bounds-hex-end g c = let start = c.before.before in sym (length-take-le start.args.n start.args.text.now start.requires)

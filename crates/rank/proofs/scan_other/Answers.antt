@@ -69,7 +69,7 @@ pub loop-i-preserved : goal.loop-i-preserved
 loop-i-preserved c = let t = c.before.before.before in
     let a = c.before.before.before.before in
     let p = c.requires in
-    elim c.if-k-forward.branch [ then-k-forward w ↦ rw w.2 (keeps p a.loop-i.invariant t.loop-i-test.true c.walks-k.ensures w.if-k-forward.true w.1.ensures) | else-k-forward w ↦ rw w.1 (skips p a.loop-i.invariant t.loop-i-test.true c.walks-k.ensures w.if-k-forward.false) ]
+    elim c.if-k-forward.branch [ then-k-forward w ↦ rw w.b-is (keeps p a.loop-i.invariant t.loop-i-test.true c.walks-k.ensures w.if-k-forward.true w.better-b.ensures) | else-k-forward w ↦ rw w.b-is (skips p a.loop-i.invariant t.loop-i-test.true c.walks-k.ensures w.if-k-forward.false) ]
 
 pub returns : goal.returns
 returns c = done c.loop-i.invariant c.loop-i-test.false

@@ -19,6 +19,7 @@ use Rattle.table.specs.Runs.{entry, begins, RunsAsks, RunsGives, NoteAsks, NoteG
 use Rattle.table.proofs.Begun.{places_next, entry_kept, begins_kept, runs_asks_kept}
 use Rattle.table.proofs.runs.Invariants.{Inv}
 use Rattle.table.proofs.runs.Goals as goal
+use Rattle.table.proofs.runs.Invariants.{Turn}
 
 begin : {w : List ℕ} {n at : ℕ} → RunsAsks w n at → Inv w n at w 0 0
 begin p = record { most = omega arith; only = only2_none _ _ _ _ _; number = unfold count filter below in refl; starts = unfold filter below in refl; runs = λ g f j h. omega arith }

@@ -11,7 +11,7 @@ use Rattle.face_index.proofs.past.Reads as past-reads
 use Rattle.face_index.proofs.next_indexed.Goals as goal
 
 pub block_size-size-requires : goal.block_size-size-requires
-block_size-size-requires c = c.requires.0.asks
+block_size-size-requires c = c.requires.indexed.asks
 
 pub bucket-requires : goal.bucket-requires
 bucket-requires c = tt
@@ -29,40 +29,40 @@ pub loop-f-init : goal.loop-f-init
 loop-f-init c = begin c.block_size-size.ensures c.bucket.ensures c.bucket-2.ensures
 
 pub joins-requires : goal.joins-requires
-joins-requires c = record { whole = c.requires.1.whole; here = c.loop-f-test.true }
+joins-requires c = record { whole = c.requires.candidate_asks.whole; here = c.loop-f-test.true }
 
 pub returns-then-joins : goal.returns-then-joins
-returns-then-joins c = found c.requires.0 c.loop-f.invariant c.loop-f-test.true
+returns-then-joins c = found c.requires.indexed c.loop-f.invariant c.loop-f-test.true
 
 pub nonzero_div-word : goal.nonzero_div-word
-nonzero_div-word c = (turn c.requires.0 c.loop-f.invariant c.loop-f-test.true).some
+nonzero_div-word c = (turn c.requires.indexed c.loop-f.invariant c.loop-f-test.true).some
 
 pub overflow_add-row : goal.overflow_add-row
-overflow_add-row c = omega (arith, turn c.requires.0 c.loop-f.invariant c.loop-f-test.true)
+overflow_add-row c = omega (arith, turn c.requires.indexed c.loop-f.invariant c.loop-f-test.true)
 
 pub offset_bounds-index-row : goal.offset_bounds-index-row
-offset_bounds-index-row c = omega (arith, turn c.requires.0 c.loop-f.invariant c.loop-f-test.true)
+offset_bounds-index-row c = omega (arith, turn c.requires.indexed c.loop-f.invariant c.loop-f-test.true)
 
 pub bounds-index-row : goal.bounds-index-row
-bounds-index-row c = (turn c.requires.0 c.loop-f.invariant c.loop-f-test.true).row_in
+bounds-index-row c = (turn c.requires.indexed c.loop-f.invariant c.loop-f-test.true).row_in
 
 pub overflow_add-other : goal.overflow_add-other
-overflow_add-other c = omega (arith, turn c.requires.0 c.loop-f.invariant c.loop-f-test.true)
+overflow_add-other c = omega (arith, turn c.requires.indexed c.loop-f.invariant c.loop-f-test.true)
 
 pub offset_bounds-index-other : goal.offset_bounds-index-other
-offset_bounds-index-other c = omega (arith, turn c.requires.0 c.loop-f.invariant c.loop-f-test.true)
+offset_bounds-index-other c = omega (arith, turn c.requires.indexed c.loop-f.invariant c.loop-f-test.true)
 
 pub bounds-index-other : goal.bounds-index-other
-bounds-index-other c = (turn c.requires.0 c.loop-f.invariant c.loop-f-test.true).other_in
+bounds-index-other c = (turn c.requires.indexed c.loop-f.invariant c.loop-f-test.true).other_in
 
 pub past-f-requires : goal.past-f-requires
-past-f-requires c = past_ok c.requires.0 c.loop-f.invariant c.loop-f-test.true
+past-f-requires c = past_ok c.requires.indexed c.loop-f.invariant c.loop-f-test.true
 
 pub loop-f-smaller : goal.loop-f-smaller
 loop-f-smaller c = omega (arith, c.past-f.ensures.more)
 
 pub loop-f-preserved : goal.loop-f-preserved
-loop-f-preserved c = again c.requires.0 c.loop-f.invariant c.loop-f-test.true c.joins.ensures c.if-joins.false c.past-f.ensures
+loop-f-preserved c = again c.requires.indexed c.loop-f.invariant c.loop-f-test.true c.joins.ensures c.if-joins.false c.past-f.ensures
 
 pub returns : goal.returns
-returns c = done c.requires.0 c.loop-f.invariant c.requires.1 c.loop-f-test.false
+returns c = done c.requires.indexed c.loop-f.invariant c.requires.candidate_asks c.loop-f-test.false

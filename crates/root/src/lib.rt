@@ -1,5 +1,6 @@
 // The square root of an f64, correctly rounded: to the nearest f64, a tie (there is none) to the even one.
 // It is guessed in floats and settled with whole numbers, by comparing squares; where the guess is not near enough it is computed digit by digit.
+#![tactic(auto)]
 
 ghost use Rattle.std.specs.Prelude.{◌≡◌, ◌+◌, ◌*◌, ◌^◌, ◌≤◌, ◌<◌, false};
 ghost use Rattle.std.specs.Float.{binary64};

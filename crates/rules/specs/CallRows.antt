@@ -1,6 +1,6 @@
 -- What the tables of a call share: each call in rooms of one entry more than stated, that all hold something, and what must then stand in them.
 -- The sizes are written here as the documents have them, not taken from the rules.
-use Rattle.std.specs.Prelude.{List, [], ◌∷◌, ◌++◌, map, Bool, ℕ, ◌+◌, ◌-◌, ◌*◌, ◌/◌, length, replicate, Float}
+use Rattle.std.specs.Prelude.{List, [], ◌∷◌, ◌++◌, map, ℕ, ◌+◌, ◌-◌, ◌*◌, ◌/◌, length, replicate, Float}
 use Rattle.std.specs.Float.{binary64}
 use Rattle.std.specs.Float.Ieee.{of_bits, to_bits}
 use Rattle.rules.specs.Rooms.{Answer, accepted, refused, Outcome}

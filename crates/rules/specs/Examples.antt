@@ -6,11 +6,11 @@ use Rattle.std.specs.Float.Ieee.{to_bits}
 use Rattle.rules.specs.Mesh.{zero64}
 use Rattle.rules.specs.Float.{one64, half64}
 use Rattle.rules.specs.State.{report_counts}
-use Rattle.rules.specs.Refusal.{no2, no3_threshold, no4, no_patch, most_points, most_faces, most_patches}
-use Rattle.rules.specs.Rooms.{Answer, accepted, refused, Outcome, work_room}
+use Rattle.rules.specs.Refusal.{no2, no_patch, most_points, most_faces, most_patches}
+use Rattle.rules.specs.Rooms.{Answer, accepted, refused, work_room}
 use Rattle.rules.specs.Patches.{Limit, absent, limit, Filter}
 use Rattle.rules.specs.Line.{bytes}
-use Rattle.rules.specs.Calls.{RepairRooms, repair, EdgesRooms, find_edges, LoopsRooms, find_loops, check, PatchesRooms, find_patches, write_line}
+use Rattle.rules.specs.Calls.{repair, find_edges, find_loops, check, find_patches, write_line}
 use Rattle.rules.specs.Text.{meshfix}
 use Rattle.rules.specs.Open.{every_rule}
 use Rattle.rules.specs.Bench.{Row, legs, origins, mended, shown}

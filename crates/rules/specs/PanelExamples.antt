@@ -3,7 +3,6 @@
 use Rattle.std.specs.Prelude.{◌≡◌, refl, List, [], ◌∷◌, ◌++◌, ℕ, length, replicate}
 use Rattle.std.specs.Float.{binary64}
 use Rattle.std.specs.Float.Ieee.{of_bits}
-use Rattle.rules.specs.Rooms.{Outcome}
 use Rattle.rules.specs.Bench.{Row}
 use Rattle.rules.specs.Calls.{PanelRooms, repair_panel}
 use Rattle.rules.specs.CallRows.{row, faults, said, floats, bits_of, dirty, dirt, left, legs, every_word}

@@ -3,7 +3,7 @@ use Rattle.std.specs.Prelude.{◌≡◌, refl, List, [], ◌∷◌, ◌++◌, tr
 use Rattle.std.specs.Float.{binary64}
 use Rattle.std.specs.Float.Ieee.{of_bits}
 use Rattle.rules.specs.Refusal.{no, decided, unless, no1, no2}
-use Rattle.rules.specs.Patches.{absent, limit}
+use Rattle.rules.specs.Patches.{absent}
 use Rattle.rules.specs.Line.{bytes}
 use Rattle.rules.specs.Stl.{facets, no12}
 use Rattle.rules.specs.Calls.{RepairRooms, repair, repair_check, EdgesRooms, find_edges, edges_check, LoopsRooms, find_loops, loops_check, check, check_check, PatchesRooms, find_patches, patches_check, write_line, StlRooms, stl_check}

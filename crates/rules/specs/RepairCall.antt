@@ -1,7 +1,7 @@
 -- The repair: what it gives back and what each of its rooms then holds, for any input. Definitions only.
 use Rattle.std.specs.Prelude.{ℕ, ◌+◌, ◌*◌, ◌/◌, List, [], ◌∷◌, map, length, Float}
 use Rattle.rules.specs.Mesh.{points_of, faces_of, flat_points, flat_faces, zero64}
-use Rattle.rules.specs.State.{State, report_counts}
+use Rattle.rules.specs.State.{report_counts}
 use Rattle.rules.specs.Repair.{repaired}
 use Rattle.rules.specs.Refusal.{Check, decided, no1, no2, no3_threshold, no3_options, no4, no5, no6, most_points, most_faces}
 use Rattle.rules.specs.Rooms.{work_room, filled, cleared, Outcome, outcome}

@@ -1,13 +1,13 @@
 -- Request 1: files of a few facets, read, and refused; each computed.
-use Rattle.std.specs.Prelude.{◌≡◌, refl, List, [], ◌∷◌, ◌++◌, map, ℕ, ◌+◌, ◌-◌, ◌*◌, ◌/◌, ◌%◌, length, replicate, Float}
+use Rattle.std.specs.Prelude.{◌≡◌, refl, List, [], ◌∷◌, ◌++◌, map, ℕ, ◌+◌, ◌*◌, ◌/◌, ◌%◌, replicate}
 use Rattle.std.specs.Float.{binary64}
 use Rattle.std.specs.Float.Ieee.{to_bits}
 use Rattle.rules.specs.Lists.{each}
 use Rattle.rules.specs.Mesh.{zero64}
 use Rattle.rules.specs.Float.{one64}
-use Rattle.rules.specs.Rooms.{Answer, accepted, refused, Outcome}
+use Rattle.rules.specs.Rooms.{Answer, accepted, refused}
 use Rattle.rules.specs.Line.{bytes}
-use Rattle.rules.specs.Stl.{StlRooms, read_stl}
+use Rattle.rules.specs.Stl.{read_stl}
 use Rattle.rules.specs.Open.{every_rule}
 use Rattle.rules.specs.Bench.{Row}
 

@@ -1,6 +1,5 @@
 -- `root::near` meets its contract. The loop's invariant is `Kept` of `proofs/Floor.antt`. Assumes nothing.
 use mathlib.Core.Path.{sym, ◌∙◌}
-use Prim.Native.Nat.{◌-◌}
 use native.Mathlib.Omega.{arith}
 use borrow.Author.Tests.{lt-ltb, le-ltb}
 use Rattle.root.proofs.Floor.{root_lt, kept_start, kept_one, kept_none, kept_end}

@@ -1,4 +1,6 @@
 // Values of the float rules, checked against recorded bits: proved, by antt's own run of the rules, and run.
+#![tactic(auto)]
+
 ghost use Rattle.std.specs.Prelude.{◌≡◌, false};
 ghost use Rattle.std.specs.Float.{binary64};
 ghost use Rattle.std.specs.Float.Ieee.{to_bits, is_nan};

@@ -1,4 +1,6 @@
 // Refusals at the limits, checked against document 01's numbers and places: proved, by antt's own run of the rules, and run.
+#![tactic(auto)]
+
 ghost use Rattle.std.specs.Prelude.{◌≡◌};
 ghost use Rattle.rules.specs.Refusal.{ok, no, decided};
 ghost use Rattle.refuse.specs.Verdicts.{check_of};

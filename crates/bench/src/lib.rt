@@ -1,4 +1,6 @@
 // The leaves for C, as bench/ times them.
+#![tactic(auto)]
+
 ghost use Rattle.std.specs.Prelude.{◌≡◌};
 ghost use Rattle.root.specs.Root.{root_of};
 ghost use Rattle.rules.specs.Mesh.{points_of};

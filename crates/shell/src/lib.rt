@@ -1,4 +1,6 @@
-// The calls of document 01 and of the requests after it for C. Each gives back a number and a place (0 and 0 if it is accepted), and how many entries stand in each answer room.
+// The calls of document 01 and of the requests after it as C has them; the crate `shell_c` exports them. Each gives back a number and a place (0 and 0 if it is accepted), and how many entries stand in each answer room.
+#![tactic(auto)]
+
 ghost use Rattle.std.specs.Prelude.{◌≡◌, [], ◌∷◌};
 ghost use Rattle.rules.specs.Calls as rule;
 ghost use Rattle.repair.specs.Answers as repaired;
@@ -41,8 +43,7 @@ pub struct ShellRepaired {
 }
 
 // The repair: the mended points and faces, the counts of the report, and of each face the number that it had in the input.
-#[unsafe(no_mangle)]
-pub extern "C" fn shell_repair(
+pub fn shell_repair(
     points: &[f64],
     faces: &[u32],
     s: f64,
@@ -96,8 +97,7 @@ pub struct ShellPanel {
 }
 
 // The repair of many meshes: what each contributes, packed in order, and four entries a mesh.
-#[unsafe(no_mangle)]
-pub extern "C" fn shell_repair_panel(
+pub fn shell_repair_panel(
     points: &[f64],
     faces: &[u32],
     point_counts: &[u32],
@@ -167,8 +167,7 @@ pub struct ShellEdges {
 }
 
 // The edge call: unique edges, their lengths, and the edges of each face.
-#[unsafe(no_mangle)]
-pub extern "C" fn shell_edges(
+pub fn shell_edges(
     points: &[f64],
     faces: &[u32],
     edges: &mut [u32],
@@ -213,8 +212,7 @@ pub struct ShellLoops {
 }
 
 // The loop call: the boundary loops and their ends.
-#[unsafe(no_mangle)]
-pub extern "C" fn shell_loops(
+pub fn shell_loops(
     points: &[f64],
     faces: &[u32],
     loop_vertices: &mut [u32],
@@ -255,8 +253,7 @@ pub struct ShellCheck {
 }
 
 // The edge check: whether no face repeats a corner, every directed edge is used at most once, and the faces at each used point form one group.
-#[unsafe(no_mangle)]
-pub extern "C" fn shell_check(point_count: u64, faces: &[u32], work: &mut [u32]) -> ShellCheck
+pub fn shell_check(point_count: u64, faces: &[u32], work: &mut [u32]) -> ShellCheck
     ensures { Given result.number result.place (result.yes ∷ []) work.new (rule.check point_count faces.now work.old) }
 {
     match edge_check::check(point_count as usize, faces, work) {
@@ -286,8 +283,7 @@ pub struct ShellLine {
 }
 
 // The report line: from any counts of a report, the line of text in a room of 512 bytes.
-#[unsafe(no_mangle)]
-pub extern "C" fn shell_line(counts: &[u32], line: &mut [u8]) -> ShellLine
+pub fn shell_line(counts: &[u32], line: &mut [u8]) -> ShellLine
     ensures { Given result.number result.place (result.bytes ∷ []) line.new (rule.write_line counts.now line.old) }
 {
     match line::line(counts, line) {
@@ -331,8 +327,7 @@ fn place_of(at: usize) -> u32
 
 // The patch call: face counts, area and box of each patch, and 1 for each that the filter keeps. Limit k of the filter counts where bit k of `limits`
 // is 1; the other bits say nothing.
-#[unsafe(no_mangle)]
-pub extern "C" fn shell_patches(
+pub fn shell_patches(
     points: &[f64],
     faces: &[u32],
     labels: &[u32],
@@ -401,8 +396,7 @@ pub struct ShellStl {
 }
 
 // Reads a binary STL file in memory into points and triples.
-#[unsafe(no_mangle)]
-pub extern "C" fn shell_read_stl(
+pub fn shell_read_stl(
     file: &[u8],
     points: &mut [f64],
     faces: &mut [u32],
@@ -442,8 +436,7 @@ pub struct ShellPly {
 }
 
 // Reads a binary PLY file in memory into points and triples.
-#[unsafe(no_mangle)]
-pub extern "C" fn shell_read_ply(
+pub fn shell_read_ply(
     file: &[u8],
     points: &mut [f64],
     faces: &mut [u32],
@@ -482,8 +475,7 @@ pub struct ShellPlyFile {
 }
 
 // Writes points and triples as a binary PLY file into a lent room.
-#[unsafe(no_mangle)]
-pub extern "C" fn shell_write_ply(
+pub fn shell_write_ply(
     points: &[f64],
     faces: &[u32],
     file: &mut [u8],
@@ -521,8 +513,7 @@ pub struct ShellPlyCounts {
 }
 
 // Tells how many points and faces a binary PLY file in memory has, so that rooms can be lent to reading it.
-#[unsafe(no_mangle)]
-pub extern "C" fn shell_ply_counts(file: &[u8]) -> ShellPlyCounts
+pub fn shell_ply_counts(file: &[u8]) -> ShellPlyCounts
     ensures { Given result.number result.place (result.points ∷ result.faces ∷ []) tt (rule.ply_counts file.now) }
 {
     match ply_counts::ply_counts(file) {
@@ -555,8 +546,7 @@ pub struct ShellApplied {
 }
 
 // Applies a mending list to points and faces: the mended points and faces.
-#[unsafe(no_mangle)]
-pub extern "C" fn shell_apply(
+pub fn shell_apply(
     points: &[f64],
     faces: &[u32],
     text: &[u8],
@@ -598,8 +588,7 @@ pub struct ShellList {
 
 // Writes the mending list of a repair into a lent room. The one work room comes in three parts: the first 3F entries, the next F, and the others. Of a short one
 // each part is what is left.
-#[unsafe(no_mangle)]
-pub extern "C" fn shell_list_in_parts(
+pub fn shell_list_in_parts(
     points: &[f64],
     faces: &[u32],
     s: f64,

@@ -1,5 +1,7 @@
 // A mending list that applies, carried out in the rooms of the answer: points and faces are copied there, the lines are taken one after the other, and
 // what then stands is finished. The rows in the work room are those of crates/list_changes.
+#![tactic(auto)]
+
 ghost use Rattle.std.specs.Prelude.{◌≡◌};
 ghost use Rattle.list_lines.specs.Lines.{faces_from_row};
 ghost use Rattle.list_changes.specs.Changes.{TakenOver};

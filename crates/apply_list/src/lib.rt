@@ -1,4 +1,6 @@
 // The call that applies a mending list: its refusals, the list's lines, and every room after it.
+#![tactic(auto)]
+
 ghost use Rattle.std.specs.Prelude.{◌≡◌};
 ghost use Rattle.rules.specs.ApplyCall as rule;
 ghost use Rattle.apply_list.specs.Answers.{rooms_of, outcome_of};

@@ -1,4 +1,6 @@
 // The refusals of the call that applies a mending list, in their order: 1, 2, 4, 5, 15, 6; the rooms by their lengths.
+#![tactic(auto)]
+
 ghost use Rattle.std.specs.Prelude.{◌≡◌, ◌∷◌, []};
 ghost use Rattle.rules.specs.Refusal as refusal;
 ghost use Rattle.rules.specs.ApplyCall as rule;

@@ -5,6 +5,8 @@
 //     row        P   how many boundary edges begin at each vertex
 //     row + P    P   how many end there
 //     row + 2P   P   where the boundary edge that begins at the vertex ends; P where none begins
+#![tactic(auto)]
+
 ghost use Rattle.std.specs.Prelude.{◌≡◌, ◌+◌, ◌≤◌, ◌<◌, length};
 ghost use Rattle.boundary.specs.Rows.{FirstOf, long, uneven, AddAsks, AddGives, TraceAsks, TraceGives, CrowdAsks, CrowdGives, BoundaryAsks, BoundaryGives};
 

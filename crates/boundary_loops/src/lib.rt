@@ -6,6 +6,8 @@
 //     5n + 1 + P    2P           how many boundary edges begin and end at each vertex (crate boundary)
 //     5n + 1 + 3P   P            where the boundary goes on from each vertex (crates boundary and loops)
 //     5n + 1 + 4P   n            a walk, before it is listed (crate loops)
+#![tactic(auto)]
+
 ghost use Rattle.std.specs.Prelude.{◌≡◌};
 ghost use Rattle.rules.specs.LoopsCall as rule;
 ghost use Rattle.boundary_loops.specs.Answers.{outcome_of, rooms_of};

@@ -8,6 +8,8 @@
 //     at + 5n + 1 + P   2n      the corners at the lower ends, in the table's order, and then those at the higher ends
 //     at + 7n + 1 + P   2n + 1  where each run of them begins
 //     at + 9n + 2 + P   n       the first member of each corner's group
+#![tactic(auto)]
+
 ghost use Rattle.std.specs.Prelude.{◌≡◌, ◌<◌};
 ghost use Rattle.corner_groups.specs.Sides.{lower_of, higher_of, SideAsks, SidesAsks, SidesGives, ShiftAsks, ShiftGives, CornersAsks, CornersGives};
 

@@ -7,6 +7,8 @@
 //     11n + 2 + P    n             free
 //     12n + 2 + P    n             the corners, point after point, those of one point in face order
 //     13n + 2 + P    n             the number of the group that each corner leads
+#![tactic(auto)]
+
 ghost use Rattle.std.specs.Prelude.{◌≡◌};
 ghost use Rattle.corner_numbers.specs.Numbers.{SortAsks, SortGives, EndAsks, EndGives, extra_by, ExtraAsks, RunAsks, RunGives, led_by, alone_by, new_by, NewAsks, AloneAsks};
 

@@ -8,6 +8,8 @@
 //                           higher end, 0 for none, 1 + i for face i alone, n + 1 for several; and who with a step from its higher to its lower end
 //     3 + 11n       3n      of each entry whose edge has at most two, 1 + the face of the other, or its own face where it is alone; 0 of the others
 //     3 + 14n       15n + 1 + P     the undirected table of the faces, see `table`
+#![tactic(auto)]
+
 ghost use Rattle.std.specs.Prelude.{◌≡◌, min, max};
 ghost use Rattle.crossing.specs.Crossing.{MateAsks, MateGives, MateAllAsks, NoteAsks, NoteGives, SettleAsks, SettleGives, WhoAsks, disagreeing, MarkAsks, MarkGives, ManyAsks, CrossAsks, CrossGives, ThreeAsks, ThreeGives, FaceAsks, FaceGives};
 

@@ -6,6 +6,8 @@
 //     0             5n + 1 + P   the table (crate table)
 //     5n + 1 + P    2P           for loops: how many boundary edges begin and end at each vertex (crate boundary)
 //     5n + 1 + 3P   P            for loops: where the boundary goes on from each vertex (crate boundary)
+#![tactic(auto)]
+
 ghost use Rattle.std.specs.Prelude.{◌≡◌, ◌≤◌};
 ghost use Rattle.refuse.specs.Accepted.{Faces};
 ghost use Rattle.refuse.specs.Verdicts as by;

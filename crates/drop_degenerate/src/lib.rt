@@ -3,6 +3,8 @@
 // The work room, of n faces:
 //
 //     0   n   a flag for each face: 1 where it leaves, else 0
+#![tactic(auto)]
+
 ghost use Rattle.std.specs.Prelude.{◌≡◌, ◌||◌};
 ghost use Rattle.rules.specs.Mesh.{points_of};
 ghost use Rattle.rules.specs.Lists.{below, count};

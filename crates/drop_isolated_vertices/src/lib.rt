@@ -4,6 +4,8 @@
 //
 //     0   P   a flag for each point: 1 where it leaves, else 0
 //     P   P   the number of each point once the unused ones have left
+#![tactic(auto)]
+
 ghost use Rattle.drop_isolated_vertices.specs.Unused.{UseAsks, ClearGives, UseGives, RenumberAsks, RenumberGives, UnusedAsks, UnusedGives};
 
 // Clears the flag of each point that one of the n faces uses.

@@ -5,6 +5,8 @@
 //     0             5n + 1 + P    the table of the directed edges (crate table)
 //     0             10n + 2 + P   after it, the groups of the corners (crate corner_groups); the last n entries have the first member of each corner's group
 //     10n + 2 + P   P             1 at a point where a group has been met
+#![tactic(auto)]
+
 ghost use Rattle.std.specs.Prelude.{◌≡◌, not, ◌/◌, ◌<◌, length};
 ghost use Rattle.rules.specs.Lists.{all};
 ghost use Rattle.rules.specs.Mesh.{faces_of, face};

@@ -1,4 +1,6 @@
 // The refusals of the edge check, from P and faces, in their order: 1, 2, 5, 6; the work room by its length.
+#![tactic(auto)]
+
 ghost use Rattle.std.specs.Prelude.{◌≡◌};
 ghost use Rattle.rules.specs.Refusal as refusal;
 ghost use Rattle.refuse.specs.Verdicts as by;

@@ -3,6 +3,8 @@
 // The work room, with n = 3F, within 16P + 64F + 64:
 //
 //     0   5n + 1 + P   the table of the undirected edges (crate table)
+#![tactic(auto)]
+
 ghost use Rattle.std.specs.Prelude.{◌≡◌};
 ghost use Rattle.rules.specs.EdgesCall as rule;
 ghost use Rattle.edges.specs.Answers.{outcome_of, rooms_of};

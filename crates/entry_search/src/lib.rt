@@ -1,5 +1,7 @@
 // The entries of an edge, or of a step, found by a search through the faces that stand: how many there are, which face ranks first among them, and who is
 // kept at a crowded edge. Which faces are looked at is told by an index of the faces.
+#![tactic(auto)]
+
 ghost use Rattle.std.specs.Prelude.{◌≡◌, cond, [], ◌∷◌, min, max, ◌≤◌, length};
 ghost use Rattle.rules.specs.Lists.{filter, has};
 ghost use Rattle.rules.specs.Mesh.{points_of};

@@ -1,5 +1,7 @@
 // The degeneracy test without a root, where the exponents alone decide it.
 
+#![tactic(auto)]
+
 ghost use Rattle.std.specs.Prelude.{◌≡◌, true, false};
 ghost use Rattle.std.specs.Float.Ieee.{le};
 ghost use Rattle.rules.specs.Root.{root};

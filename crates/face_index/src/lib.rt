@@ -1,5 +1,7 @@
 // Bits that tell in which blocks of faces a point may be a corner, so that a search for the faces that have two corners passes most blocks at once. The index
 // has 1024 rows, one for each bucket of points, of as many words as it has room for; a bit of a row stands for a block of faces.
+#![tactic(auto)]
+
 ghost use Rattle.std.specs.Prelude.{◌≡◌, [], ◌∷◌, min, ◌≤◌, ◌<◌, length};
 ghost use Rattle.rules.specs.Lists.{has};
 ghost use Rattle.face_index.specs.Index as index_of;

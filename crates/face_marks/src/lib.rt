@@ -1,5 +1,7 @@
 // A byte a face for the time that a mending list is looked through: its lowest bit is set when the face is gone, and the next three where corner 0, 1 or 2
 // of the input face was taken over by a new point.
+#![tactic(auto)]
+
 ghost use Rattle.std.specs.Prelude.{◌≡◌, ◌&&◌, ◌/◌, ◌*◌, ◌+◌, ◌<◌, ◌≤◌, eqb, ltb, length};
 ghost use Rattle.rules.specs.Lists.{all};
 ghost use Rattle.list_lines.specs.Lines.{faces_from_row};

@@ -1,5 +1,7 @@
 // One word a face over the input faces, which never change. Bit 0 of a word: the face is gone. Bit 1: its corners 1 and 2 are exchanged. The other bits are of
 // the pass that searches, which says what they are.
+#![tactic(auto)]
+
 ghost use Rattle.std.specs.Prelude.{◌≡◌, ◌<◌, length, get_or};
 ghost use Rattle.rules.specs.Mesh.{corners};
 ghost use Rattle.face_words.specs.Words as word;

@@ -5,6 +5,8 @@
 //
 //     0       29F + 4 + P   what the passes take
 //     fates   F             the fate of each input face; `fates` is any place behind that
+#![tactic(auto)]
+
 ghost use Rattle.std.specs.Prelude.{◌≡◌, ◌+◌, ◌*◌, ◌≤◌, length};
 ghost use Rattle.fates.specs.Adding.{AddAsks, AddGives, FlagAsks, corners_at, flagged, by_flag, why_of, by_shape, turned_by, by_turn};
 ghost use Rattle.fates.specs.Fating.{rooms, Stands, Pass1, Pass2, Pass3, Pass4, FourAsks, FourGives};

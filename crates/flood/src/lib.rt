@@ -1,6 +1,8 @@
 // Things joined through runs: a label for each, by rising first member, or the first member of its group.
 // Each thing has a parent, itself or one before it, which stands in the row of labels until the labels
 // do. Where the parents lead from a thing is its root, and things of one root are of one group.
+#![tactic(auto)]
+
 ghost use Rattle.flood.specs.Plan.{plan, FloodAsks};
 ghost use Rattle.flood.specs.Parents.{OwnAsks, OwnGives, FindAsks, FindGives, JoinAsks, JoinGives, PointAsks, PointGives};
 ghost use Rattle.flood.specs.Uniting.{RunAsks, RunGives, AllAsks, AllGives, UniteGives, NumberAsks, NumberGives};

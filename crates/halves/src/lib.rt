@@ -4,6 +4,8 @@
 // one is its key, a vertex and the other end. In rising order of keys one scan finds the first edge with more than two users and its position,
 // and for each vertex how many boundary edges it begins and ends. The half entries of a range of keys are gathered in a buffer on the stack,
 // as many ranges after each other as it takes.
+#![tactic(auto)]
+
 ghost use Rattle.std.specs.Prelude.{◌≡◌, ◌+◌, ◌*◌, ◌/◌, ◌%◌, ◌^◌, ◌≤◌, ◌<◌, min, max, true, false, ◌&&◌, leb, ltb, length};
 ghost use Rattle.halves.specs.Split.{SplitGives, SpanGives, EvensGives};
 ghost use Rattle.halves.specs.Scan.{one, users_of, out_of, into_of, StartGives, CloseGives, VisitAsks, VisitGives};

@@ -1,4 +1,6 @@
 // Faces that leave: a pass marks them, and `leave` closes the list up. What the kept rows of `rows` are in the words of the rules stands in proofs/.
+#![tactic(auto)]
+
 ghost use Rattle.std.specs.Prelude.{ℕ, Bool};
 ghost use Rattle.leaving.specs.Pass.{Flagged, LeaveAsks, LeaveGives};
 

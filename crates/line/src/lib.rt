@@ -1,4 +1,6 @@
 // The call "report line" of document 01: from any u32 counts of a report, the line in a lent room of bytes.
+#![tactic(auto)]
+
 ghost use Rattle.std.specs.Prelude.{◌≡◌, ◌+◌, ◌^◌, ◌≤◌, ◌<◌, length, get_or, replicate};
 ghost use Rattle.byte_rows.specs.Put.{Puts};
 ghost use Rattle.line_refusal.specs.Checks.{LineAccepted};

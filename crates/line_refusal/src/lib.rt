@@ -1,4 +1,6 @@
 // The refusals of the report line, in their order: 1, 6; the line's room by its length.
+#![tactic(auto)]
+
 ghost use Rattle.std.specs.Prelude.{◌≡◌};
 ghost use Rattle.rules.specs.Refusal as refusal;
 ghost use Rattle.refuse.specs.Verdicts as by;

@@ -8,6 +8,8 @@
 // and when no line is left, of `count` points:
 //
 //     n + count   count   the number of each point once the unused ones have left
+#![tactic(auto)]
+
 ghost use Rattle.std.specs.Prelude.{◌≡◌, ◌+◌, ◌*◌, ◌≤◌, length};
 ghost use Rattle.rules.specs.Mesh.{exchanged, renamed};
 ghost use Rattle.list_changes.specs.Changes.{FaceChanged, instead};

@@ -1,4 +1,6 @@
 // Refusal 15 of a mending list, at its first bad line: from the text and the faces alone, in one pass over the lines and one over the faces.
+#![tactic(auto)]
+
 ghost use Rattle.std.specs.Prelude.{◌≡◌, List, ℕ, ◌/◌, ◌≤◌, ◌<◌, length};
 ghost use Rattle.rules.specs.Mending as rule;
 ghost use Rattle.refuse.specs.Accepted as input;

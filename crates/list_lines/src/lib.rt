@@ -1,4 +1,6 @@
 // The lines of a mending list: what a line says, or that it is bad; and the faces of a split, one after the other.
+#![tactic(auto)]
+
 ghost use Rattle.std.specs.Prelude.{◌≡◌, ◌<◌, length};
 ghost use Rattle.rows.specs.Region.{part};
 ghost use Rattle.rules.specs.Text as rule;

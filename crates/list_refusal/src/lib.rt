@@ -1,4 +1,6 @@
 // The refusals of the call that writes a mending list, in their order: 1, 2, 3, 4, 5 from the input; of 6 the steps, from lengths alone.
+#![tactic(auto)]
+
 ghost use Rattle.std.specs.Prelude.{◌≡◌, ◌+◌, ◌*◌, leb};
 ghost use Rattle.rules.specs.Refusal as refusal;
 ghost use Rattle.refuse.specs.Verdicts as by;

@@ -1,5 +1,7 @@
 // The work room of the call that writes a mending list, which comes in three parts, each lent by itself: whether they are all one number, filled with a number,
 // made 0; and the list's text, prepared in them and put into its room where it fits.
+#![tactic(auto)]
+
 ghost use Rattle.std.specs.Prelude.{◌≤◌, length};
 ghost use Rattle.list_rows.specs.Prepared.{PrepareAsks};
 ghost use Rattle.list_room.specs.Parts.{AllTold, UniformTold, FillGives};

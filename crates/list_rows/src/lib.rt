@@ -7,6 +7,8 @@
 //     42F + 4 + P     F             the fate of each input face
 //     43F + 4 + P     3F            the old point of each point that is split off
 //     46F + 4 + P     P + 3F        1 for each point that is unused
+#![tactic(auto)]
+
 ghost use Rattle.split_rows.specs.Rows.{SplitAsks, FlagsAsks};
 ghost use Rattle.list_rows.specs.Prepared.{SplitIf, FlagsIf, PrepareAsks, PrepareGives};
 

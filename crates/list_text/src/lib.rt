@@ -1,4 +1,6 @@
 // The text of a mending list, from rows that tell what becomes of each face and point: its length, found without writing, and its bytes.
+#![tactic(auto)]
+
 ghost use Rattle.std.specs.Prelude.{◌≡◌, ◌+◌, ◌*◌, ◌≤◌, ◌<◌, length};
 ghost use Rattle.byte_rows.specs.Put.{Puts};
 ghost use Rattle.rules.specs.Line.{decimal};

@@ -1,5 +1,7 @@
 // What the edge call lists of a finished undirected table of the faces: the unique edges, their lengths, and the edges of each face. Each function
 // writes one answer room, and clears the rest of what is stated for it.
+#![tactic(auto)]
+
 ghost use Rattle.listing.specs.Listing.{EdgesAsks, EdgesGives, ListGives, LengthsAsks, LengthsGives, ListLengthsAsks, ListLengthsGives, FaceEdgesAsks, FaceEdgesGives};
 
 // Writes the lower and the higher end of each of the m edges.

@@ -5,6 +5,8 @@
 //
 //     next    P    where the boundary edge that begins at the vertex ends; P where none begins, and where the vertex is in a loop
 //     spare   3F   the walk from the vertex that starts a loop, before it is listed reversed
+#![tactic(auto)]
+
 ghost use Rattle.loops.specs.Walks.{WalkAsks, WalkGives, MirrorAsks, MirrorGives};
 ghost use Rattle.loops.specs.Loops.{AddAsks, AddGives, TraceAsks, TraceGives, LoopsAsks, LoopsGives};
 

@@ -1,4 +1,6 @@
 // The refusals of the loop call up to 6, in their order: 1, 2, 4, 5, 6; the rooms by their lengths. Then 7 and 8 are left.
+#![tactic(auto)]
+
 ghost use Rattle.std.specs.Prelude.{◌≡◌, ◌∷◌, []};
 ghost use Rattle.rules.specs.Refusal as refusal;
 ghost use Rattle.rules.specs.LoopsCall as rule;

@@ -1,6 +1,8 @@
 // The float rules of document 01 over f64: one rounded operation a step, in the order written. Points stand in a slice, three numbers each, and are
 // named by their number.
 
+#![tactic(auto)]
+
 ghost use Rattle.std.specs.Prelude.{◌≡◌, ◌/◌, ◌<◌, length};
 ghost use Rattle.rules.specs.Mesh.{points_of, point};
 ghost use Rattle.rules.specs.Float as rule;

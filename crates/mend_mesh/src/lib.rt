@@ -1,4 +1,6 @@
 // One mesh of a pack, mended or refused by the repair in its parts of the rooms, behind the meshes before it.
+#![tactic(auto)]
+
 ghost use Rattle.std.specs.Prelude.{◌≡◌, ◌∷◌, [], ◌≤◌, ◌*◌, ◌/◌, length, take};
 ghost use Rattle.rows.specs.Region.{part};
 ghost use Rattle.rules.specs.PanelCall as rule;

@@ -1,4 +1,6 @@
 // The program `meshfix` of document 01 on slices: from the bytes of a text to the bytes of the answer.
+#![tactic(auto)]
+
 ghost use Rattle.std.specs.Prelude.{◌≤◌, length};
 ghost use Rattle.byte_rows.specs.Put.{Puts};
 ghost use Rattle.rules.specs.Text as rule;

@@ -12,6 +12,8 @@
 //     3 + 2n        9n      of each edge whether it was crossed, and who disagrees with a step along it, either way, see `crossing`
 //     3 + 11n       3n      of each entry which face is across, see `crossing`
 //     3 + 14n       15n + 1 + P     the undirected table, see `table`
+#![tactic(auto)]
+
 ghost use Rattle.std.specs.Prelude.{◌≡◌, true};
 ghost use Rattle.rule_laws.proofs.Once.{Once};
 ghost use Rattle.leaving.specs.Pass.{standing, FacesStand};

@@ -1,4 +1,6 @@
 // The refusals of the repair of many meshes, in their order: 1, 2, 3, 6; the rooms by their lengths. No mesh is looked at.
+#![tactic(auto)]
+
 ghost use Rattle.std.specs.Prelude.{◌≡◌, ◌∷◌, [], ◌*◌, length, eqb};
 ghost use Rattle.rules.specs.Refusal as refusal;
 ghost use Rattle.rules.specs.PanelCall as rule;

@@ -1,5 +1,7 @@
 // The six passes of a repair, each by its option, on the lists that stand at the front of the answer rooms, with the origins of the faces. Each returns what
 // it counts.
+#![tactic(auto)]
+
 ghost use Rattle.std.specs.Prelude.{◌≡◌, true, ◌/◌, ◌≤◌, length};
 ghost use Rattle.rows.specs.Region.{Only};
 ghost use Rattle.rules.specs.Mesh.{points_of};

@@ -1,4 +1,6 @@
 // The patch filter as C gives it: a mask of the limits that count, and five numbers.
+#![tactic(auto)]
+
 ghost use Rattle.std.specs.Prelude.{◌≡◌, ◌<◌};
 ghost use Rattle.patches.specs.Answers.{limit_of, whole_of, filter_of};
 ghost use Rattle.patch_mask.specs.Mask.{set, held, masked};

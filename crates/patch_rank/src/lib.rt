@@ -2,6 +2,8 @@
 // found by halving the span of all such numbers, 63 counts of C areas, and no patch is moved.
 //
 // Work, in entries of C patches: 2C, the bits of each area, the upper half first.
+#![tactic(auto)]
+
 ghost use Rattle.std.specs.Prelude.{◌≡◌, ◌+◌, ◌*◌, ◌≤◌, length};
 ghost use Rattle.patch_rank.specs.Rank.{key_at, reach, flag_of, LayAsks, LayGives, CutAsks, Cut, MarkAsks, MarkGives, RankAsks, RankGives};
 

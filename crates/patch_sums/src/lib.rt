@@ -1,5 +1,7 @@
 // The sums of document 01's patch call: how many faces each patch has, and its record of area and box, summed in face order. The numbers room holds
 // seven numbers a patch: area, min x y z, max x y z.
+#![tactic(auto)]
+
 ghost use Rattle.std.specs.Prelude.{◌≡◌, ◌+◌, ◌*◌, ◌≤◌, length};
 ghost use Rattle.std.specs.Float.{nan};
 ghost use Rattle.rows.specs.Region.{OnlyOf};

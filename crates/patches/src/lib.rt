@@ -2,6 +2,8 @@
 // keeps.
 //
 // Work, in entries of C patches: patch_rank's 2C; the rest is only cleared.
+#![tactic(auto)]
+
 ghost use Rattle.std.specs.Prelude.{◌≡◌, ◌*◌, ◌≤◌, length, ltb};
 ghost use Rattle.std.specs.Float.Ieee.{lt};
 ghost use Rattle.rules.specs.Patches as rule;

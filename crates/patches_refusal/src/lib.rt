@@ -1,4 +1,6 @@
 // The refusals of the patch call, in their order: 1, 2, 4, 5, 9, 10, 6; the rooms by their lengths.
+#![tactic(auto)]
+
 ghost use Rattle.std.specs.Prelude.{◌≡◌, ◌∷◌, [], ◌≤◌};
 ghost use Rattle.rules.specs.Refusal as refusal;
 ghost use Rattle.rules.specs.PatchesCall as rule;

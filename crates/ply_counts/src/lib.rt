@@ -1,4 +1,6 @@
 // The call that tells how many points and faces a binary PLY file has, so that rooms can be lent to the call that reads it.
+#![tactic(auto)]
+
 ghost use Rattle.std.specs.Prelude.{◌≡◌};
 ghost use Rattle.rules.specs.PlyCountsCall as rule;
 ghost use Rattle.ply_counts.specs.Answers.{outcome_of};

@@ -1,4 +1,6 @@
 // A binary PLY file in memory: its header, its vertices and faces, and the refusals of a call that reads it.
+#![tactic(auto)]
+
 ghost use Rattle.std.specs.Prelude.{◌≡◌, ◌∷◌, [], ◌+◌, ◌*◌, ◌≤◌, ◌<◌, eqb, length};
 ghost use Rattle.rows.specs.Region.{part};
 ghost use Rattle.rules.specs.Refusal as refusal;

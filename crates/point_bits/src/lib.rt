@@ -1,4 +1,6 @@
 // A row of bits, 32 to an entry: whether one is set, and one more set.
+#![tactic(auto)]
+
 ghost use Rattle.std.specs.Prelude.{◌≡◌, ◌/◌, ◌<◌, length};
 ghost use Rattle.point_bits.specs.Bits as by;
 

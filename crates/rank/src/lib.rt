@@ -1,5 +1,7 @@
 // Ranking the faces of a run of entries by quality: higher ranks first, equal ones by lower face index. Entry id is one of face id / 3, and a run is
 // handed over as a part of the slice from its first to its last entry. Each scan computes the quality of an entry's face once.
+#![tactic(auto)]
+
 ghost use Rattle.std.specs.Prelude.{◌≡◌, ◌/◌, eqb, length};
 ghost use Rattle.rules.specs.Lists.{first};
 ghost use Rattle.rules.specs.Mesh.{face, faces_of};

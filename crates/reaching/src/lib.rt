@@ -9,6 +9,8 @@
 //     3             n       the state of each face: 0 unvisited, 1 visited as it was, 2 visited and exchanged
 //     3 + n         n       the stack, its top last
 //     3 + 2n        9n      of each edge, what `orient_consistently` notes
+#![tactic(auto)]
+
 ghost use Rattle.std.specs.Prelude.{◌≡◌, Bool, not, List, map, ℕ, suc, ◌+◌, ◌-◌, ◌*◌, ◌/◌, ◌<◌, length};
 ghost use Rattle.rows.specs.Region.{part};
 ghost use Rattle.rules.specs.Mesh.{Face, faces_of, face};

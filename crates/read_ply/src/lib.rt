@@ -1,4 +1,6 @@
 // The call that reads a binary PLY file in memory into points and triples: its refusals, its answers, and every room after it.
+#![tactic(auto)]
+
 ghost use Rattle.std.specs.Prelude.{◌≡◌};
 ghost use Rattle.rules.specs.ReadPlyCall as rule;
 ghost use Rattle.read_ply.specs.Answers.{rooms_of, outcome_of};

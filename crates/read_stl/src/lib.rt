@@ -7,6 +7,8 @@
 //     4n   n    for each corner the first one that is equal to it
 //     5n   n    a flag for each corner: 1 where an earlier one is equal to it, else 0
 //     6n   n    for each corner how many before it have no flag
+#![tactic(auto)]
+
 ghost use Rattle.std.specs.Prelude.{◌≡◌, cond, ◌<◌, ◌^◌, eqb};
 ghost use Rattle.std.specs.Float.{binary32};
 ghost use Rattle.rule_laws.proofs.Equal.{one_zero};

@@ -1,6 +1,8 @@
 // The checks that calls share, each as its line of the table of document 01, "Numbers a call may give back": for any lengths and any bits. What a call
 // refuses, in its order, stands in the crate of its refusal.
 
+#![tactic(auto)]
+
 ghost use Rattle.std.specs.Prelude.{◌≡◌, ◌&&◌, ◌/◌, ◌<◌, length};
 ghost use Rattle.std.specs.Float.Ieee.{le};
 ghost use Rattle.rules.specs.Mesh.{points_of, faces_of, point, face};

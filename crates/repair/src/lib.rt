@@ -1,4 +1,6 @@
 // The repair call of document 01: its refusals, the six passes by option bits, and every room after it.
+#![tactic(auto)]
+
 ghost use Rattle.std.specs.Prelude.{◌≡◌};
 ghost use Rattle.rules.specs.RepairCall as rule;
 ghost use Rattle.repair.specs.Answers.{rooms_of, outcome_of, ReportAsks, ReportGives};

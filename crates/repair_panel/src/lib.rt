@@ -1,4 +1,6 @@
 // The repair of many meshes in one call: its refusals, each mesh by the repair in its parts of the rooms, packed one after another, and every room.
+#![tactic(auto)]
+
 ghost use Rattle.std.specs.Prelude.{◌≡◌, length};
 ghost use Rattle.rules.specs.PanelCall as rule;
 ghost use Rattle.panel_refusal.specs.Checks.{PanelAccepted};

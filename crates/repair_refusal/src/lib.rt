@@ -1,4 +1,6 @@
 // The refusals of a repair, in their order: 1, 2, 3, 4, 5, 6; the rooms by their lengths.
+#![tactic(auto)]
+
 ghost use Rattle.std.specs.Prelude.{◌≡◌, ◌∷◌, []};
 ghost use Rattle.rules.specs.Refusal as refusal;
 ghost use Rattle.rules.specs.RepairCall as rule;

@@ -4,6 +4,8 @@
 //
 //     0             15n + 1 + P   the undirected table of the faces
 //     15n + 1 + P   n             the marks: 1 for a face that leaves
+#![tactic(auto)]
+
 ghost use Rattle.std.specs.Prelude.{◌≡◌, false, not, ◌||◌, ◌+◌, ◌*◌, ◌/◌, eqb, length};
 ghost use Rattle.rows.specs.Region.{part};
 ghost use Rattle.rules.specs.Mesh.{points_of};

@@ -1,5 +1,7 @@
 // Pass 5 by search, over the input faces and one word a face: the groups of corners at a point, and how long the lines are that tell the pass.
 // Bits 2 and 3 of a word say how far the search for a group has come: 0 not met, 1 waits, 2 gone through. Bits 4 to 6: the group of corner 0, 1, 2 has been met.
+#![tactic(auto)]
+
 ghost use Rattle.std.specs.Prelude.{◌≡◌, cond, [], ◌∷◌, ◌≤◌, eqb, length};
 ghost use Rattle.rules.specs.Lists.{has};
 ghost use Rattle.rules.specs.Line.{decimal};

@@ -1,5 +1,7 @@
 // How long the lines are that tell pass 6 after pass 5, by search over the input faces and one word a face: the lines of all points of the input, and of those that
 // keep a face, by their first corners.
+#![tactic(auto)]
+
 ghost use Rattle.std.specs.Prelude.{◌≡◌, ◌+◌, ◌≤◌};
 ghost use Rattle.rules.specs.Lists.{below};
 ghost use Rattle.fan_laws.specs.Sums.{sum_of, field};

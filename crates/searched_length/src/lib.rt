@@ -1,4 +1,6 @@
 // The length of a mending list, found by a search in the faces alone, with one word a face and an index of the faces.
+#![tactic(auto)]
+
 ghost use Rattle.std.specs.Prelude.{◌≡◌, length};
 ghost use Rattle.rules.specs.Mesh.{points_of, faces_of};
 ghost use Rattle.rules.specs.Mending.{list_text};

@@ -1,4 +1,6 @@
 // Passes 1 to 4 by a search, on the words of the faces, each with the length of the lines that tell it in a mending list.
+#![tactic(auto)]
+
 ghost use Rattle.std.specs.Prelude.{◌≡◌, [], cond, length};
 ghost use Rattle.rules.specs.Pass1 as rule1;
 ghost use Rattle.rules.specs.Pass2 as rule2;

@@ -1,5 +1,7 @@
 // The points that pass 5 splits off and no face takes: of faces with three equal corners. How long the lines are that tell them in pass 6, by search over the marks
 // that the search for the lines of pass 5 leaves in the words.
+#![tactic(auto)]
+
 ghost use Rattle.std.specs.Prelude.{◌≡◌, ◌*◌, length};
 ghost use Rattle.face_words.specs.Words.{viewed};
 ghost use Rattle.searched_splits.specs.Splits.{id_of};

@@ -1,5 +1,7 @@
 // The rank of a corner that leads a group which is not the first one of its point, by a search over the marks of all corners: how many such corners come before it by
 // point and corner. The new point that is split off for it has the number of points and the rank.
+#![tactic(auto)]
+
 ghost use Rattle.std.specs.Prelude.{◌≡◌};
 ghost use Rattle.searched_ranks.specs.Ranks as by;
 

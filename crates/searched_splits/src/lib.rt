@@ -1,6 +1,8 @@
 // How long the lines are that tell pass 5, by search over the input faces and one word a face. Corner after corner in face order: one that is not flagged leads
 // its group; if its point was met before, a point is split off for it. Bits 4 to 6 of a word: the corner's group has been met. Bits 7 to 9: the corner leads a group
 // that is not the first one of its point.
+#![tactic(auto)]
+
 ghost use Rattle.std.specs.Prelude.{◌≡◌, ◌&&◌, eqb};
 ghost use Rattle.face_index.specs.Index.{Indexed};
 ghost use Rattle.searched_splits.specs.Splits as by;

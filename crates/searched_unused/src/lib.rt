@@ -1,4 +1,6 @@
 // The points that no face has, by a search with the index of the faces, and the length of the lines that tell them in a mending list.
+#![tactic(auto)]
+
 ghost use Rattle.std.specs.Prelude.{◌≡◌, ◌≤◌, ◌<◌};
 ghost use Rattle.rules.specs.Pass6 as rule6;
 ghost use Rattle.face_words.specs.Words.{viewed};

@@ -1,5 +1,7 @@
 // Orientation, the first half of pass 4, by a search on the words of the faces. A face that is visited has bit 3 of its word, one that is exchanged bit 1. The
 // stack is a chain: from bit 8 on the word of a face on it has the number of the face below. At the end only bits 0 and 1 are left.
+#![tactic(auto)]
+
 ghost use Rattle.std.specs.Prelude.{◌≡◌, not, ◌||◌, cond, length, replicate};
 ghost use Rattle.rules.specs.Steps.{step};
 ghost use Rattle.face_words.specs.Words.{place};

@@ -1,6 +1,8 @@
 // Whether each directed edge is surely used at most once, by the undirected table of the faces: each of its runs has one entry, or two that begin at
 // different ends. Then pass 4 of document 01 changes nothing, and no directed table is needed. The states of the faces, from `states` on, say
 // which of them are exchanged: those with 2.
+#![tactic(auto)]
+
 ghost use Rattle.std.specs.Prelude.{◌≡◌, true, false, ◌+◌, ◌/◌, ◌<◌, eqb, length};
 ghost use Rattle.rows.specs.Region.{part};
 ghost use Rattle.rules.specs.Mesh.{faces_of};

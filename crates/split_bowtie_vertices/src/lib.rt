@@ -1,5 +1,7 @@
 // Pass 5 of document 01: a vertex whose faces form several fans is split, the first fan keeps it and each other one gets a copy of its point. All
 // fans are found at once on the unchanged list; the rows in the work room are those of crates/corner_numbers, 14n + 2 + P entries with n = 3F.
+#![tactic(auto)]
+
 ghost use Rattle.split_bowtie_vertices.specs.Splits.{CopiesAsks, CopiesGives, VertexAsks, VertexGives, AllAsks, AllGives, RenameAsks, RenameGives, SplitAsks, SplitGives};
 
 // What pass 5 has done: how many vertices it has split, and how many points there are after it.

@@ -2,6 +2,8 @@
 // split off, the corners sorted by their points, and a flag for each unused point.
 //
 // With n faces and P points, pass 5 takes the first 42n + 2 + P entries, as crates/corner_numbers says; the old points stand behind them.
+#![tactic(auto)]
+
 ghost use Rattle.split_rows.specs.Rows.{VertexAsks, VertexGives, AllAsks, AllGives, SplitAsks, SplitGives, TakersAsks, TakersGives, FlagsAsks, FlagsGives};
 
 // Where the run of the corners at a vertex ends, and the next number that is free.

@@ -8,6 +8,8 @@
 //     at + 3n       n       the order: the entries, run after run
 //     at + 4n       n + 1   where each run begins in the order, and n behind the last; while sorting, scratch
 //     at + 5n + 1   P       bins, 0 at exit
+#![tactic(auto)]
+
 ghost use Rattle.std.specs.Prelude.{◌^◌, ◌<◌, ◌≡◌};
 ghost use Rattle.rules.specs.Steps.{step};
 ghost use Rattle.table.specs.Entries.{next, under};

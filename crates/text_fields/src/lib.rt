@@ -1,4 +1,6 @@
 // The fields of a line of text: where a piece ends, and the decimal number or the float that a field writes, or none.
+#![tactic(auto)]
+
 ghost use Rattle.std.specs.Prelude.{◌≡◌, ◌≤◌, length};
 ghost use Rattle.rules.specs.Text as rule;
 ghost use Rattle.text_fields.specs.Fields as by;

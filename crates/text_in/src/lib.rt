@@ -1,4 +1,6 @@
 // Reading the text of the program `meshfix`: from bytes to the job that they ask for, or to none, which is refused 11.
+#![tactic(auto)]
+
 ghost use Rattle.std.specs.Prelude.{◌≡◌, ◌≤◌, ◌<◌, length, drop};
 ghost use Rattle.std.specs.Float.{nan};
 ghost use Rattle.rules.specs.Text as rule;

@@ -1,4 +1,6 @@
 // Refusals 7 and 8 of the loop call, from the faces alone: whatever the lent rooms hold, nothing is written.
+#![tactic(auto)]
+
 ghost use Rattle.std.specs.Prelude.{◌≡◌, [], ◌∷◌};
 ghost use Rattle.rules.specs.Mesh.{faces_of};
 ghost use Rattle.rules.specs.Refusal.{decided};

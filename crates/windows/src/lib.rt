@@ -4,6 +4,8 @@
 // a vertex have all half entries of its keys. One pass over the faces puts those of the vertices of a window into a buffer on the stack, each
 // vertex' in a run of their own, and counts the corners of the vertices that follow, from which the next window is made. In a run the key
 // v * P + u, doubled, plus the direction is kept without the part of the vertex: 2 * u, or 2 * u + 1.
+#![tactic(auto)]
+
 ghost use Rattle.std.specs.Prelude.{◌≡◌, ◌+◌, ◌*◌, ◌^◌, ◌<◌, ◌≤◌, min, length};
 ghost use Rattle.refuse.specs.Accepted.{Faces};
 ghost use Rattle.halves.specs.Gather.{halves, RoundsGives};

@@ -1,5 +1,7 @@
 // Regions of a lent row made zero, block after block: a block is read first, and written only where something stands in it. A room that is zero already
 // stays unwritten, and a page that was never written stays with the system.
+#![tactic(auto)]
+
 ghost use Rattle.std.specs.Prelude.{◌≡◌, ℕ, ◌+◌, ◌*◌, ◌≤◌, eqb, length, take};
 ghost use Rattle.std.specs.Float.{nan};
 ghost use Rattle.rows.specs.Region.{OnlyOf, HoldsOf, Only, Filled, zero64};

@@ -3,6 +3,8 @@
 //
 // A text that does not fit is refused before anything is changed for good. Where the text room is ample it fits. Where all stated entries of the work room are
 // one number the rows are prepared there, and if the text does not fit the number is filled in again. Else the length is found by a search in the faces alone.
+#![tactic(auto)]
+
 ghost use Rattle.std.specs.Prelude.{◌≡◌, ◌≤◌, ltb, length};
 ghost use Rattle.rules.specs.Mesh.{points_of, faces_of};
 ghost use Rattle.rules.specs.Mending.{list_text};

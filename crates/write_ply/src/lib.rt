@@ -1,4 +1,6 @@
 // The call that writes points and triples as a binary PLY file into a lent room: its refusals, the file, and every room after it.
+#![tactic(auto)]
+
 ghost use Rattle.std.specs.Prelude.{◌≡◌};
 ghost use Rattle.byte_rows.specs.Put.{Puts};
 ghost use Rattle.rules.specs.Lists.{each};

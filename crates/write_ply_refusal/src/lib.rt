@@ -1,4 +1,6 @@
 // The refusals of writing a PLY file, in their order: 1, 2, 4, 5, 6; the rooms by their lengths. Then the file can be written.
+#![tactic(auto)]
+
 ghost use Rattle.std.specs.Prelude.{◌≡◌, ◌∷◌, [], ◌+◌, ◌*◌, ◌≤◌, length};
 ghost use Rattle.rules.specs.Refusal as refusal;
 ghost use Rattle.rules.specs.Ply.{header};

@@ -19,5 +19,4 @@ pub returns : goal.returns
 returns c = (
   omega (arith, c.number_length-old.ensures, c.number_length-new.ensures, c.takers_length.ensures.0, split_long c.args.work.now c.args.origins.now c.args.rows c.args.j c.args.from c.args.to),
   omega (arith, c.number_length-old.ensures, decimal_short (get_or c.args.work.now (c.args.rows.olds + c.args.j) 0), c.number_length-new.ensures, decimal_short (c.args.rows.points + c.args.j), c.takers_length.ensures.1),
-
 )

@@ -22,7 +22,10 @@ use Rattle.lending.specs.declared.Report.{Report}
 use Rattle.lending.specs.Reports.{empty, added, counts_of, CountsBelow}
 use Rattle.lending.specs.Mended.{TurnsGive}
 use Rattle.lending.proofs.Raised.{counts_below, grows, none_yet}
-use Rattle.lending.proofs.Six.{Ready}
+
+-- what passes 1 to 5 ask: the lists stand, and each count has room for what is added
+abbrev pub Ready : Report → Lists → Type 0
+Ready h m = Stands (stated m) m × CountsBelow (2 ^ 64 - (m.p + 3 * m.n)) h
 
 -- The lists m₀ were given. Now m stand, as `pass` leaves them, and each count is below N.
 pub record Going (pass : State → State) (N : ℕ) (m₀ : Lists) (h : Report) (m : Lists) : Type 0 where

@@ -4,16 +4,16 @@ use Rattle.list_check_try.proofs.Ready.{two_faces}
 use Rattle.list_check_try.proofs.main.Goals as goal
 
 pub forms-requires : goal.forms-requires
-forms-requires g c = two_faces 5 (omega arith) (omega arith)
+forms-requires c = two_faces 5 (omega arith) (omega arith)
 
 pub orders-requires : goal.orders-requires
-orders-requires g c = two_faces 5 (omega arith) (omega arith)
+orders-requires c = two_faces 5 (omega arith) (omega arith)
 
 pub splits-requires : goal.splits-requires
-splits-requires g c = two_faces 5 (omega arith) (omega arith)
+splits-requires c = two_faces 5 (omega arith) (omega arith)
 
 pub unused-requires : goal.unused-requires
-unused-requires g c = two_faces 5 (omega arith) (omega arith)
+unused-requires c = two_faces 5 (omega arith) (omega arith)
 
 pub isolated-requires : goal.isolated-requires
-isolated-requires g c = two_faces 7 (omega arith) (omega arith)
+isolated-requires c = two_faces 7 (omega arith) (omega arith)

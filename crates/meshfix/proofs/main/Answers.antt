@@ -4,4 +4,4 @@ use lib.ListN.{length-take}
 use Rattle.meshfix.proofs.main.Goals as goal
 
 pub slice_bounds-write_all-end : goal.slice_bounds-write_all-end
-slice_bounds-write_all-end g c = simp length-take (omega (arith, c.mend_text-end.ensures.fits, c.mend_text-end.ensures.only.long, c.mend_text-end.ensures.ends))
+slice_bounds-write_all-end c = simp length-take (omega (arith, c.mend_text-end.ensures.fits, c.mend_text-end.ensures.only.long, c.mend_text-end.ensures.ends))

@@ -4,7 +4,7 @@ use lib.ListN.{length-take, length-set}
 use Rattle.read_stl_try.proofs.main.Goals as goal
 
 pub slice_bounds-show-end-then-n-lt20084 : goal.slice_bounds-show-end-then-n-lt20084
-slice_bounds-show-end-then-n-lt20084 g c = simp length-take (omega arith)
+slice_bounds-show-end-then-n-lt20084 c = simp length-take (omega arith)
 
 pub slice_bounds-show-end-then-n-lt20084-5 : goal.slice_bounds-show-end-then-n-lt20084-5
-slice_bounds-show-end-then-n-lt20084-5 g c = simp (length-take, length-set) (omega arith)
+slice_bounds-show-end-then-n-lt20084-5 c = simp (length-take, length-set) (omega arith)

@@ -16,7 +16,7 @@ ready w xs l k e =
     record { whole = rw k refl; few = omega arith; fit = omega arith; inside = λ i h. bounded xs 9 4 e i (omega arith) }
 
 pub tabled-requires : goal.tabled-requires
-tabled-requires g c = ready _ _ refl refl refl
+tabled-requires c = ready _ _ refl refl refl
 
 pub tabled-requires-2 : goal.tabled-requires-2
-tabled-requires-2 g c = ready _ _ (search rules) refl refl
+tabled-requires-2 c = ready _ _ (search rules) refl refl

@@ -65,4 +65,4 @@ pub shape_of-work : goal.shape_of-work
 shape_of-work c = c.loop-i.invariant.only.long
 
 pub returns : goal.returns
-returns c = (done c.requires c.loop-i.invariant c.loop-i-test.false, all_counted c.requires c.loop-i.invariant c.loop-i-test.false)
+returns c = (record { mark_gives = done c.requires c.loop-i.invariant c.loop-i-test.false; value = all_counted c.requires c.loop-i.invariant c.loop-i-test.false })

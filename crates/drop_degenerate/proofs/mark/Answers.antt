@@ -2,4 +2,4 @@
 use Rattle.drop_degenerate.proofs.mark.Goals as goal
 
 pub returns : goal.returns
-returns c = c.flag_all-repeated.ensures
+returns c = record { mark_gives = c.flag_all-repeated.ensures.mark_gives; found_value = c.flag_all-repeated.ensures.value }

@@ -8,6 +8,7 @@ use Rattle.rows.proofs.Regions.{only_none, only_next, only_more, holds_none, hol
 use Rattle.corner_groups.specs.Sides.{ShiftAsks, ShiftGives}
 use Rattle.corner_groups.proofs.shift.Invariants.{Inv}
 use Rattle.corner_groups.proofs.shift.Goals as goal
+use Rattle.corner_groups.proofs.shift.Invariants.{Turn}
 
 begin : {w : List ℕ} {from n by to : ℕ} → ShiftAsks w from n by to → Inv w from n by to w 0
 begin p = record { at_most = omega arith; only = only_none _ _ _; shifted = holds_none }

@@ -10,6 +10,7 @@ use Rattle.corner_groups.specs.Sides.{lower_of, higher_of, SideAsks, SidesAsks, 
 use Rattle.corner_groups.proofs.Ends.{lower_in, higher_in}
 use Rattle.corner_groups.proofs.sides.Invariants.{Inv}
 use Rattle.corner_groups.proofs.sides.Goals as goal
+use Rattle.corner_groups.proofs.sides.Invariants.{Turn}
 
 begin : {w xs : List ℕ} {from to : ℕ} → SidesAsks w xs from to → Inv w xs from to w 0
 begin p = record { at_most = omega arith; only = only_none _ _ _; lows = holds_none; highs = holds_none }

@@ -5,7 +5,7 @@ use Rattle.drops_try.proofs.Ready.{stands}
 use Rattle.drops_try.proofs.alike_ones.Goals as goal
 
 pub duplicate-requires : goal.duplicate-requires
-duplicate-requires g c = (stands _ _ _ _ _ refl refl refl refl refl, omega arith)
+duplicate-requires g c = record { faces_stand = stands _ _ _ _ _ refl refl refl refl refl; n_in_bounds = omega arith }
 
 pub duplicate-requires-2 : goal.duplicate-requires-2
-duplicate-requires-2 g c = (stands _ _ _ _ _ refl refl refl refl refl, omega arith)
+duplicate-requires-2 g c = record { faces_stand = stands _ _ _ _ _ refl refl refl refl refl; n_in_bounds = omega arith }

@@ -34,32 +34,32 @@ ready ps xs n k w p x h few a l =
 
 pub edges-requires : goal.edges-requires
 unfolding all
-edges-requires c = (ready _ _ 1 _ _ refl refl (omega arith) (omega arith) tt refl, omega arith)
+edges-requires c = record { pass_asks = ready _ _ 1 _ _ refl refl (omega arith) (omega arith) tt refl; n_in_bounds = omega arith }
 
 pub collisions-requires : goal.collisions-requires
 unfolding all
-collisions-requires c = (ready _ _ 1 _ _ refl refl (omega arith) (omega arith) tt refl, omega arith)
+collisions-requires c = record { pass_asks = ready _ _ 1 _ _ refl refl (omega arith) (omega arith) tt refl; n_in_bounds = omega arith }
 
 pub edges-requires-2 : goal.edges-requires-2
 unfolding all
-edges-requires-2 c = (ready _ _ 3 _ _ refl refl (omega arith) (omega arith) tt refl, omega arith)
+edges-requires-2 c = record { pass_asks = ready _ _ 3 _ _ refl refl (omega arith) (omega arith) tt refl; n_in_bounds = omega arith }
 
 pub edges-requires-3 : goal.edges-requires-3
 unfolding all
-edges-requires-3 c = (ready _ _ 3 _ _ refl refl (omega arith) (omega arith) tt refl, omega arith)
+edges-requires-3 c = record { pass_asks = ready _ _ 3 _ _ refl refl (omega arith) (omega arith) tt refl; n_in_bounds = omega arith }
 
 pub edges-requires-4 : goal.edges-requires-4
 unfolding all
-edges-requires-4 c = (ready _ _ 4 _ _ refl refl (omega arith) (omega arith) tt refl, omega arith)
+edges-requires-4 c = record { pass_asks = ready _ _ 4 _ _ refl refl (omega arith) (omega arith) tt refl; n_in_bounds = omega arith }
 
 pub collisions-requires-2 : goal.collisions-requires-2
 unfolding all
-collisions-requires-2 c = (ready _ _ 3 _ _ refl refl (omega arith) (omega arith) tt refl, omega arith)
+collisions-requires-2 c = record { pass_asks = ready _ _ 3 _ _ refl refl (omega arith) (omega arith) tt refl; n_in_bounds = omega arith }
 
 pub collisions-requires-3 : goal.collisions-requires-3
 unfolding all
-collisions-requires-3 c = (ready _ _ 3 _ _ refl refl (omega arith) (omega arith) tt refl, omega arith)
+collisions-requires-3 c = record { pass_asks = ready _ _ 3 _ _ refl refl (omega arith) (omega arith) tt refl; n_in_bounds = omega arith }
 
 pub collisions-requires-4 : goal.collisions-requires-4
 unfolding all
-collisions-requires-4 c = (ready _ _ 5 _ _ refl refl (omega arith) (omega arith) tt refl, omega arith)
+collisions-requires-4 c = record { pass_asks = ready _ _ 5 _ _ refl refl (omega arith) (omega arith) tt refl; n_in_bounds = omega arith }

@@ -59,4 +59,4 @@ ready_numbers w l first second third bins =
     }
 
 pub returns : goal.returns
-returns c = (refl, (ready _ refl refl refl refl, ready_numbers _ refl refl refl refl refl))
+returns c = record { value = refl; sort_asks = ready _ refl refl refl refl; order_triples_asks = ready_numbers _ refl refl refl refl refl }

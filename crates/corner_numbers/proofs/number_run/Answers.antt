@@ -17,6 +17,7 @@ use Rattle.corner_numbers.specs.Numbers.{extra_by, ExtraAsks, RunAsks, RunGives}
 use Rattle.corner_numbers.proofs.number_run.Invariants.{Inv}
 use Rattle.corner_numbers.proofs.number_run.Goals as goal
 use Rattle.corner_numbers.proofs.number_run.Goals.{else-extra, then-extra}
+use Rattle.corner_numbers.proofs.number_run.Invariants.{Turn}
 
 begin : {w : List ℕ} {run m leads numbers n v next : ℕ} → RunAsks w run m leads numbers n v next → Inv w run m leads numbers n v next w next 0
 begin p =
@@ -134,7 +135,7 @@ pub overflow_add-j : goal.overflow_add-j
 overflow_add-j c = omega (arith, turn c.requires c.loop-j.invariant c.loop-j-test.true)
 
 pub loop-j-preserved : goal.loop-j-preserved
-loop-j-preserved c = elim c.if-extra.branch [ then-extra w ↦ rw (w.1, w.2) (again c.requires c.loop-j.invariant c.loop-j-test.true (sym c.extra.ensures ∙ w.if-extra.true) refl refl) | else-extra w ↦ rw (w.1, w.2) (again c.requires c.loop-j.invariant c.loop-j-test.true (sym c.extra.ensures ∙ w.if-extra.false) refl (omega arith)) ]
+loop-j-preserved c = elim c.if-extra.branch [ then-extra w ↦ rw (w.work-is, w.new-is) (again c.requires c.loop-j.invariant c.loop-j-test.true (sym c.extra.ensures ∙ w.if-extra.true) refl refl) | else-extra w ↦ rw (w.work-is, w.new-is) (again c.requires c.loop-j.invariant c.loop-j-test.true (sym c.extra.ensures ∙ w.if-extra.false) refl (omega arith)) ]
 
 pub shape_of-work : goal.shape_of-work
 shape_of-work c = c.loop-j.invariant.only.long

@@ -9,6 +9,7 @@ use lib.ListN.{get_or}
 use Rattle.corner_numbers.specs.Numbers.{EndAsks, EndGives}
 use Rattle.corner_numbers.proofs.run_end.Invariants.{Inv}
 use Rattle.corner_numbers.proofs.run_end.Goals as goal
+use Rattle.corner_numbers.proofs.run_end.Invariants.{Turn}
 
 start : {w : List ℕ} {sorted begin n v : ℕ} → EndAsks w sorted begin n → Inv w sorted begin n v begin
 start p = record { least = omega arith; most = p.from; inside = λ q l h. absurd (omega arith) }

@@ -9,7 +9,7 @@ say() {
     echo "listed: $*"
 }
 
-names=$(sed -e 's/#.*//' -e 's/[[:space:]]*$//' crates.txt | sed -n 's/^\([a-z0-9_]*\):.*/\1/p')
+names=$(sed -e 's/#.*//' crates.txt | sed -n 's/^\([a-z0-9_]*\)\( [a-z0-9_= ]*\)\?:.*/\1/p')
 [ -n "$names" ] || say "crates.txt lists no crate"
 
 for folder in crates/* crates/.[!.]*; do
@@ -26,6 +26,6 @@ while IFS= read -r file; do
     if [ "$name" = "$file" ] || ! grep -qxF "${name%%/*}" <<<"$names"; then
         say "$file is in no listed crate, so nothing proves it"
     fi
-done < <(find . \( -path ./target -o -path ./.git \) -prune -o \( -name '*.rt' -o -name '*.antt' \) -print)
+done < <(find . \( -path ./target -o -path ./.git -o -path './crates/*/out' \) -prune -o \( -name '*.rt' -o -name '*.antt' \) -print)
 
 [ "$faults" -eq 0 ]

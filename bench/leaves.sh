@@ -3,6 +3,6 @@
 set -eu
 cd "$(dirname "${BASH_SOURCE[0]}")/.."
 . tests/machine.sh
-rt staticlib bench >/dev/null
-g++ -O3 -std=c++17 -o target/leaves bench/leaves.cpp target/staticlib/libbench.a
-exec target/leaves
+bash host/made.sh bench target/bench
+g++ -O3 -std=c++17 -o target/bench/leaves bench/leaves.cpp target/bench/libbench.a
+exec target/bench/leaves

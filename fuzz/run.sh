@@ -18,10 +18,10 @@ case $name in
         words=(-max_len=600 -entropic_scale_per_exec_time=1)
         ;;
     text)
-        rt check meshfix >"$folder/meshfix.log" 2>&1 || { tail -n 3 "$folder/meshfix.log"; exit 1; }
-        code=$folder/meshfix.o anchor=meshfix_main
-        objcopy --redefine-sym main=meshfix_main --redefine-sym read=text_read --redefine-sym write=text_write target/obj/meshfix.o "$code"
-        clang "${flags[@]}" -DBLOCKS_ANCHOR=$anchor -o "$folder/text" fuzz/{text,blocks}.c "$code" "$folder/libshell.a"
+        bash host/made.sh meshfix "$folder"
+        code=$folder/main.o anchor=meshfix_main
+        objcopy --redefine-sym main=meshfix_main --redefine-sym read=text_read --redefine-sym write=text_write "$folder/meshfix.o" "$code"
+        clang "${flags[@]}" -DBLOCKS_ANCHOR=$anchor -o "$folder/text" fuzz/{text,blocks}.c "$code" "$folder"/lib{shell,os_c,libc_c}.a
         words=(-max_len=8300 "-dict=$PWD/fuzz/text.words")
         ;;
     lists)

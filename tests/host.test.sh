@@ -102,11 +102,11 @@ fi
 ./chain $((20000 / share)) || exit 1
 
 # The fuzz targets without a fuzzer, on the inputs kept from it. meshfix is asked in this process: its main, read and write have other names here.
-(cd "$here" && rt check meshfix) >log 2>&1 || { tail -n 3 log; exit 1; }
-objcopy --redefine-sym main=meshfix_main --redefine-sym read=text_read --redefine-sym write=text_write "$here/target/obj/meshfix.o" meshfix.o || exit 1
+bash "$here/host/made.sh" meshfix . || exit 1
+objcopy --redefine-sym main=meshfix_main --redefine-sym read=text_read --redefine-sym write=text_write meshfix.o main.o || exit 1
 fuzz=$here/fuzz
 gcc "${flags[@]}" "-I$fuzz" -DBLOCKS_ANCHOR=shell_line -o calls "$fuzz"/{replay,calls,document,passes,panel,ply,uses,lend,blocks}.c libshell.a -lm || exit 1
-gcc "${flags[@]}" "-I$fuzz" -DBLOCKS_ANCHOR=meshfix_main -o text "$fuzz"/{replay,text,blocks}.c meshfix.o libshell.a || exit 1
+gcc "${flags[@]}" "-I$fuzz" -DBLOCKS_ANCHOR=meshfix_main -o text "$fuzz"/{replay,text,blocks}.c main.o libshell.a libos_c.a liblibc_c.a || exit 1
 gcc "${flags[@]}" "-I$fuzz" "-I$here/host" -DBLOCKS_ANCHOR=shell_apply -o lists "$fuzz"/{replay,lists,mending,uses,lend,blocks}.c "$here/host/lists.c" \
     libshell.a -lm || exit 1
 ./calls "$here"/tests/cases/fuzz/calls/* || exit 1
@@ -124,7 +124,7 @@ if can_watch; then
     "${watched[@]}" ./checks 1000 || exit 1
     "${watched[@]}" ./replay "$here/tests/cases/lib.cases.bin" "$here/tests/cases/lib.answers.bin" || exit 1
     "${watched[@]}" ./chain 300 || exit 1
-    "${watched[@]}" "$here/target/bin/meshfix" <"$here/examples/shell.txt" >found || exit 1
+    "${watched[@]}" ./meshfix <"$here/examples/shell.txt" >found || exit 1
     diff found "$here/examples/shell.out" || exit 1
 else
     echo "host: no valgrind here, so the rooms' neighbours are not watched"

@@ -6,11 +6,8 @@ here=$(cd "$(dirname "${BASH_SOURCE[0]}")/.." && pwd)
 room=$(mktemp -d) || exit 1
 trap 'rm -rf "$room"' EXIT
 cd "$here" || exit 1
-rt check meshfix >"$room/log" 2>&1 || {
-    tail -n 3 "$room/log"
-    exit 1
-}
-program=$here/target/bin/meshfix
+bash host/made.sh meshfix "$room" || exit 1
+program=$room/meshfix
 faults=0
 count=0
 

@@ -88,8 +88,8 @@ if command -v "$valgrind" >/dev/null; then
 fi
 echo "stores: no valgrind here, so what closes up is called alone, on read-only pages"
 [ "$watched" = yes ] || exit 77
-(cd "$here" && rt staticlib bench) >log 2>&1 || { tail -n 3 log; exit 1; }
-watch "$here/target/staticlib/libbench.a"
+bash "$here/host/made.sh" bench . || exit 1
+watch libbench.a
 status=$?
 cat said
 exit "$status"

@@ -11,4 +11,4 @@ mark_edges-edges-requires c = mark_ok c.requires
 
 pub returns : goal.returns
 returns c = let at_mark = c.before.before in
-    (marks_are at_mark.requires at_mark.mark_edges-edges.ensures.marked, at_mark.mark_edges-edges.ensures.counted)
+    (record { fact = marks_are at_mark.requires at_mark.mark_edges-edges.ensures.marked; found_value = at_mark.mark_edges-edges.ensures.counted })

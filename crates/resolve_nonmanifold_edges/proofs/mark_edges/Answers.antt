@@ -17,7 +17,7 @@ clear-requires c = let at_table = c.before.before.before in
 pub loop-r-init : goal.loop-r-init
 loop-r-init c = let at_clear = c.before.before in
     let at_table = at_clear.before.before.before.before in
-    none_counted (begin _ at_table.requires at_table.table-m.ensures at_clear.clear.ensures.0 at_clear.clear.ensures.1)
+    none_counted (begin _ at_table.requires at_table.table-m.ensures at_clear.clear.ensures.only at_clear.clear.ensures.filled)
 
 pub resolve_edge-c-requires : goal.resolve_edge-c-requires
 resolve_edge-c-requires c = run_ok c.loop-r.invariant.passed c.loop-r-test.true
@@ -40,9 +40,9 @@ loop-r-preserved c = let at_Edge = c.before.before in
 pub shape_of-work : goal.shape_of-work
 shape_of-work c = let at_clear = c.before.before.before.before in
     let at_table = at_clear.before.before.before.before in
-    (done c.loop-r.invariant at_table.requires at_table.table-m.ensures at_clear.clear.ensures.0 c.loop-r-test.false).marked.only.long
+    (done c.loop-r.invariant at_table.requires at_table.table-m.ensures at_clear.clear.ensures.only c.loop-r-test.false).marked.only.long
 
 pub returns : goal.returns
 returns c = let at_clear = c.before.before.before.before in
     let at_table = at_clear.before.before.before.before in
-    done c.loop-r.invariant at_table.requires at_table.table-m.ensures at_clear.clear.ensures.0 c.loop-r-test.false
+    done c.loop-r.invariant at_table.requires at_table.table-m.ensures at_clear.clear.ensures.only c.loop-r-test.false

@@ -62,7 +62,7 @@ pub loop-k-preserved : goal.loop-k-preserved
 loop-k-preserved c = let a = c.before.before.before.before in
     let s = a.before.before in
     let h = c.loop-k-test.true in
-    elim c.if-loses.branch [ then-loses w ↦ rw w.1 (loses s.args.one s.args.two s.requires a.loop-k.invariant h c.loses.ensures w.if-loses.true) | else-loses w ↦ rw w.1 (keeps s.args.one s.args.two s.requires a.loop-k.invariant h c.loses.ensures w.if-loses.false) ]
+    elim c.if-loses.branch [ then-loses w ↦ rw w.work-is (loses s.args.one s.args.two s.requires a.loop-k.invariant h c.loses.ensures w.if-loses.true) | else-loses w ↦ rw w.work-is (keeps s.args.one s.args.two s.requires a.loop-k.invariant h c.loses.ensures w.if-loses.false) ]
 
 pub shape_of-work : goal.shape_of-work
 shape_of-work c = c.loop-k.invariant.only.long

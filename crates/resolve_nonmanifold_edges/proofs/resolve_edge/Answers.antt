@@ -99,7 +99,7 @@ slice_bounds-second-count c = omega (arith, bounds c.requires)
 
 pub second-two-requires : goal.second-two-requires
 second-two-requires c = let at-best = c.before.before.before.before.before in
-    let start = at-best.before.before.before.before.before.before.before.before.before in
+    let start = at-best.before.before.before.before.before.before.before.before in
     second_ok start.requires at-best.best-one.ensures (omega (arith, at-best.if-b-a-le2.false))
 
 pub overflow_sub-b-2 : goal.overflow_sub-b-2
@@ -108,7 +108,7 @@ overflow_sub-b-2 c = omega (arith, bounds c.requires)
 pub mark_others-requires : goal.mark_others-requires
 mark_others-requires c = let at_second = c.before in
     let at-best = at_second.before.before.before.before.before.before in
-    let start = at-best.before.before.before.before.before.before.before.before.before in
+    let start = at-best.before.before.before.before.before.before.before.before in
     entries_ok start.requires
 
 pub shape_of-work : goal.shape_of-work
@@ -118,5 +118,5 @@ pub returns : goal.returns
 returns c = let at-mark-others = c.before.before in
     let at_second = at-mark-others.before.before in
     let at-best = at_second.before.before.before.before.before.before in
-    let start = at-best.before.before.before.before.before.before.before.before.before in
+    let start = at-best.before.before.before.before.before.before.before.before in
     many start.requires at-best.best-one.ensures (edge_read start.requires) at_second.second-two.ensures (omega (arith, at-best.if-b-a-le2.false)) at-mark-others.mark_others.ensures

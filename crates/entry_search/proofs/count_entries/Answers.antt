@@ -12,23 +12,23 @@ use Rattle.entry_search.proofs.count_entries.Goals as goal
 
 -- src/lib.rt:130:9
 pub next_indexed-f-requires : goal.next_indexed-f-requires
-next_indexed-f-requires c = (c.requires.1, candidate_ok c.requires.0 0 (omega arith))
+next_indexed-f-requires c = (record { indexed = c.requires.indexed; candidate_asks = candidate_ok c.requires.worded 0 (omega arith) })
 
 -- src/lib.rt:131:5
 pub loop-f-init : goal.loop-f-init
-loop-f-init c = begin c.requires.0 c.next_indexed-f.ensures
+loop-f-init c = begin c.requires.worded c.next_indexed-f.ensures
 
 -- src/lib.rt:132:14
 pub entries_of-n-requires : goal.entries_of-n-requires
-entries_of-n-requires c = view_ok c.requires.0 c.loop-f.invariant c.loop-f-test.true
+entries_of-n-requires c = view_ok c.requires.worded c.loop-f.invariant c.loop-f-test.true
 
 -- src/lib.rt:132:9
 pub overflow_add-n : goal.overflow_add-n
-overflow_add-n c = let at = c.before.before in let start = at.before.before.before.before.before in omega (arith, at.loop-f.invariant, start.requires.0, uses_most (along start.args.directed (step start.args.a start.args.b)) start.args.faces.now start.args.words.now at.loop-f.f, c.entries_of-n.ensures)
+overflow_add-n c = let at = c.before.before in let start = at.before.before.before.before.before in omega (arith, at.loop-f.invariant, start.requires.worded, uses_most (along start.args.directed (step start.args.a start.args.b)) start.args.faces.now start.args.words.now at.loop-f.f, c.entries_of-n.ensures)
 
 -- src/lib.rt:133:9
 pub next_indexed-f-requires-in-loop-f : goal.next_indexed-f-requires-in-loop-f
-next_indexed-f-requires-in-loop-f c = (c.requires.1, candidate_ok c.requires.0 (c.loop-f.f + 1) (omega arith))
+next_indexed-f-requires-in-loop-f c = (record { indexed = c.requires.indexed; candidate_asks = candidate_ok c.requires.worded (c.loop-f.f + 1) (omega arith) })
 
 -- src/lib.rt:131:5
 pub loop-f-smaller : goal.loop-f-smaller
@@ -36,8 +36,8 @@ loop-f-smaller c = omega (arith, c.next_indexed-f-in-loop-f.ensures.least)
 
 -- src/lib.rt:131:5
 pub loop-f-preserved : goal.loop-f-preserved
-loop-f-preserved c = let at = c.before.before.before in again at.requires.0 at.loop-f.invariant c.loop-f-test.true c.entries_of-n.ensures c.next_indexed-f-in-loop-f.ensures
+loop-f-preserved c = let at = c.before.before.before in again at.requires.worded at.loop-f.invariant c.loop-f-test.true c.entries_of-n.ensures c.next_indexed-f-in-loop-f.ensures
 
 -- src/lib.rt:125:1
 pub returns : goal.returns
-returns c = done c.requires.0 c.loop-f.invariant c.loop-f-test.false
+returns c = done c.requires.worded c.loop-f.invariant c.loop-f-test.false

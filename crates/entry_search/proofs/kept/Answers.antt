@@ -8,7 +8,7 @@ use Rattle.entry_search.proofs.kept.Goals as goal
 
 -- src/lib.rt:298:9
 pub best_entry-first-requires : goal.best_entry-first-requires
-best_entry-first-requires c = (c.requires.0.asks, c.requires.1)
+best_entry-first-requires c = (record { best_asks = c.requires.0.asks; indexed = c.requires.1 })
 
 -- src/lib.rt:300:9
 pub returns-then-f-first : goal.returns-then-f-first
@@ -16,7 +16,7 @@ returns-then-f-first c = let start = c.before.before.before.before.before.before
 
 -- src/lib.rt:302:10
 pub second-requires : goal.second-requires
-second-requires c = (second_ok c.requires.0 c.best_entry-first.ensures, c.requires.1)
+second-requires c = (record { second_asks = second_ok c.requires.0 c.best_entry-first.ensures; indexed = c.requires.1 })
 
 -- src/lib.rt:294:1
 pub returns : goal.returns

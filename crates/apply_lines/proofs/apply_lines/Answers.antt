@@ -14,7 +14,7 @@ run_lines-count-requires c = let at_clear = c.before.before.before.before.before
     let at_row = at_clear.before.before.before.before in
     let at-points = at_row.before.before.before.before in
     let start = at-points.before.before.before.before.before.before.before.before in
-    run_asks start.requires at-points.copy_points.ensures at_row.copy_row.ensures at_clear.clear.ensures.0 at_clear.clear.ensures.1
+    run_asks start.requires at-points.copy_points.ensures at_row.copy_row.ensures at_clear.clear.ensures.only at_clear.clear.ensures.filled
 
 pub finish-requires : goal.finish-requires
 finish-requires c = let at_run = c.before.before.before.before.before.before.before.before.before in
@@ -22,7 +22,7 @@ finish-requires c = let at_run = c.before.before.before.before.before.before.bef
     let at_row = at_clear.before.before.before.before in
     let at-points = at_row.before.before.before.before in
     let start = at-points.before.before.before.before.before.before.before.before in
-    may-finish start.requires at-points.copy_points.ensures at_row.copy_row.ensures at_clear.clear.ensures.0 at_clear.clear.ensures.1 (at_run.run_lines-count.ensures (run_asks start.requires at-points.copy_points.ensures at_row.copy_row.ensures at_clear.clear.ensures.0 at_clear.clear.ensures.1))
+    may-finish start.requires at-points.copy_points.ensures at_row.copy_row.ensures at_clear.clear.ensures.only at_clear.clear.ensures.filled (at_run.run_lines-count.ensures (run_asks start.requires at-points.copy_points.ensures at_row.copy_row.ensures at_clear.clear.ensures.only at_clear.clear.ensures.filled))
 
 pub returns : goal.returns
 returns c = let at-finish = c.before.before.before.before.before.before in
@@ -31,4 +31,4 @@ returns c = let at-finish = c.before.before.before.before.before.before in
     let at_row = at_clear.before.before.before.before in
     let at-points = at_row.before.before.before.before in
     let start = at-points.before.before.before.before.before.before.before.before in
-    done start.requires at-points.copy_points.ensures at_row.copy_row.ensures at_clear.clear.ensures.0 at_clear.clear.ensures.1 (at_run.run_lines-count.ensures (run_asks start.requires at-points.copy_points.ensures at_row.copy_row.ensures at_clear.clear.ensures.0 at_clear.clear.ensures.1)) at-finish.finish.ensures
+    done start.requires at-points.copy_points.ensures at_row.copy_row.ensures at_clear.clear.ensures.only at_clear.clear.ensures.filled (at_run.run_lines-count.ensures (run_asks start.requires at-points.copy_points.ensures at_row.copy_row.ensures at_clear.clear.ensures.only at_clear.clear.ensures.filled)) at-finish.finish.ensures

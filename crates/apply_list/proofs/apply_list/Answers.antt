@@ -128,4 +128,4 @@ returns c = let at-work = c.before.before in
     let refusal = fine.before.before in
     let a = refusal.args in
     is_done a.points.now a.faces.now a.text.now a.out_points-1.now a.out_faces-1.now a.work-1.now _ refusal.apply_refusal.ensures fine.in-Fine.is at-lines.apply_lines-mended.ensures
-    at-points.wipe_points.ensures.0 at-points.wipe_points.ensures.1 at-faces.wipe.ensures.0 at-faces.wipe.ensures.1 at-work.wipe-2.ensures.0 at-work.wipe-2.ensures.1
+    at-points.wipe_points.ensures.only_of at-points.wipe_points.ensures.holds_of at-faces.wipe.ensures.only at-faces.wipe.ensures.filled at-work.wipe-2.ensures.only at-work.wipe-2.ensures.filled

@@ -15,4 +15,4 @@ pub returns : goal.returns
 returns c = let at-wipe = c.before.before in
     let at-list-loops = at-wipe.before.before.before.before.before.before.before.before in
     let start = at-list-loops.before.before.before.before.before.before.before.before in
-    all_done start.requires at-list-loops.list_loops-found.ensures at-wipe.wipe.ensures.0 at-wipe.wipe.ensures.1
+    all_done start.requires at-list-loops.list_loops-found.ensures at-wipe.wipe.ensures.only at-wipe.wipe.ensures.filled

@@ -18,7 +18,7 @@ clear-requires c = let d = c.before.before.before.before.before.before in
 pub returns-in-Refused : goal.returns-in-Refused
 returns-in-Refused c = let t = c.before.before in
     let d = t.before.before.before.before.before.before.before in
-    zero_refused d.requires d.taken-size.ensures (sym d.is_zero.ensures ∙ d.if-is_zero.true) d.draw.ensures t.in-Refused.is t.clear.ensures.0 t.clear.ensures.1
+    zero_refused d.requires d.taken-size.ensures (sym d.is_zero.ensures ∙ d.if-is_zero.true) d.draw.ensures t.in-Refused.is t.clear.ensures.only t.clear.ensures.filled
 
 pub returns-in-Refused-alone : goal.returns-in-Refused-alone
 returns-in-Refused-alone c = let v = c.before.before.before in

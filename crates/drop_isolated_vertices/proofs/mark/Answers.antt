@@ -6,4 +6,4 @@ pub returns : goal.returns
 returns c = let at-clear-used = c.before.before in
     let at_fill_lem = at-clear-used.before.before.before.before in
     let start = at_fill_lem.before.before.before.before in
-    use_gives at_fill_lem.fill.ensures.0 at_fill_lem.fill.ensures.1 at-clear-used.clear_used.ensures
+    use_gives at_fill_lem.fill.ensures.only at_fill_lem.fill.ensures.filled at-clear-used.clear_used.ensures

@@ -30,4 +30,4 @@ returns c = let at-wipe = c.before.before in
     let at-list-lengths = at-list-face-edges.before.before.before.before.before in
     let at-list-edges = at-list-lengths.before.before.before.before.before in
     let start = at-list-edges.before.before.before.before.before.before.before.before.before in
-    all_done start.requires at-list-edges.list_edges.ensures at-list-lengths.list_lengths.ensures at-list-face-edges.list_face_edges.ensures at-wipe.wipe.ensures.0 at-wipe.wipe.ensures.1
+    all_done start.requires at-list-edges.list_edges.ensures at-list-lengths.list_lengths.ensures at-list-face-edges.list_face_edges.ensures at-wipe.wipe.ensures.only at-wipe.wipe.ensures.filled

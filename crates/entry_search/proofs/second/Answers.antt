@@ -12,8 +12,8 @@ use Rattle.entry_search.proofs.second.Goals as goal
 
 -- src/lib.rt:295:9
 pub returns-then-other-words : goal.returns-then-other-words
-returns-then-other-words c = let at-best = c.before in let at_other = at-best.before in let at_Walks = at_other.before in let at-view = at_Walks.before.before.before in let start = at-view.before.before.before.before.before in some start.requires.0 (walk_of start.requires.0 at-view.view-g.ensures at_Walks.lower.ensures at_Walks.higher.ensures at_Walks.walks.ensures) at_other.otherwise-walk.ensures at-best.best_entry-other.ensures c.if-other-words.true
+returns-then-other-words c = let at-best = c.before in let at_other = at-best.before in let at_Walks = at_other.before in let at-view = at_Walks.before.before.before in let start = at-view.before.before.before.before.before in some start.requires.second_asks (walk_of start.requires.second_asks at-view.view-g.ensures at_Walks.lower.ensures at_Walks.higher.ensures at_Walks.walks.ensures) at_other.otherwise-walk.ensures at-best.best_entry-other.ensures c.if-other-words.true
 
 -- src/lib.rt:287:1
 pub returns : goal.returns
-returns c = let at-best = c.before.before in let at_other = at-best.before in let at_Walks = at_other.before in let at-view = at_Walks.before.before.before in let start = at-view.before.before.before.before.before in rest start.requires.0 (walk_of start.requires.0 at-view.view-g.ensures at_Walks.lower.ensures at_Walks.higher.ensures at_Walks.walks.ensures) at_other.otherwise-walk.ensures at-best.best_entry-other.ensures c.if-other-words.false c.best_entry.ensures
+returns c = let at-best = c.before.before in let at_other = at-best.before in let at_Walks = at_other.before in let at-view = at_Walks.before.before.before in let start = at-view.before.before.before.before.before in rest start.requires.second_asks (walk_of start.requires.second_asks at-view.view-g.ensures at_Walks.lower.ensures at_Walks.higher.ensures at_Walks.walks.ensures) at_other.otherwise-walk.ensures at-best.best_entry-other.ensures c.if-other-words.false c.best_entry.ensures

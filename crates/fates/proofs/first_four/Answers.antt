@@ -7,7 +7,7 @@ pass1-a-requires c = let at_clear = c.before.before.before.before.before in
     let at_number = at_clear.before.before.before.before in
     let at-copy-row = at_number.before.before.before.before in
     let start = at-copy-row.before.before.before.before.before.before.before in
-    four_start start.requires at-copy-row.copy_row.ensures at_number.number.ensures.0 at_number.number.ensures.1 at_clear.clear.ensures.0 at_clear.clear.ensures.1
+    four_start start.requires at-copy-row.copy_row.ensures at_number.number.ensures.only at_number.number.ensures.holds at_clear.clear.ensures.only at_clear.clear.ensures.filled
 
 pub pass2-b-requires : goal.pass2-b-requires
 pass2-b-requires c = let at-pass1 = c.before.before.before.before.before.before.before.before.before in
@@ -25,7 +25,7 @@ pass4-requires c = let at-pass3 = c.before.before.before.before.before.before.be
     let at_number = at_clear.before.before.before.before in
     let at-copy-row = at_number.before.before.before.before in
     let start = at-copy-row.before.before.before.before.before.before.before in
-    (at-pass3.pass3-c.ensures.stands, input_fits start.requires at-copy-row.copy_row.ensures at_number.number.ensures.0 at_number.number.ensures.1 at_clear.clear.ensures.0 at_clear.clear.ensures.1 start.args.options start.args.s at-pass1.pass1-a.ensures at-pass2.pass2-b.ensures at-pass3.pass3-c.ensures)
+    record { stands = at-pass3.pass3-c.ensures.stands; input_len = input_fits start.requires at-copy-row.copy_row.ensures at_number.number.ensures.only at_number.number.ensures.holds at_clear.clear.ensures.only at_clear.clear.ensures.filled start.args.options start.args.s at-pass1.pass1-a.ensures at-pass2.pass2-b.ensures at-pass3.pass3-c.ensures }
 
 pub shape_of-faces : goal.shape_of-faces
 shape_of-faces c = let at-pass4 = c.before.before.before.before.before.before in
@@ -36,7 +36,7 @@ shape_of-faces c = let at-pass4 = c.before.before.before.before.before.before in
     let at_number = at_clear.before.before.before.before in
     let at-copy-row = at_number.before.before.before.before in
     let start = at-copy-row.before.before.before.before.before.before.before in
-    (four_done start.requires at-copy-row.copy_row.ensures at_number.number.ensures.0 at_number.number.ensures.1 at_clear.clear.ensures.0 at_clear.clear.ensures.1 start.args.options start.args.s at-pass1.pass1-a.ensures at-pass2.pass2-b.ensures at-pass3.pass3-c.ensures at-pass4.pass4.ensures).only_faces.long
+    (four_done start.requires at-copy-row.copy_row.ensures at_number.number.ensures.only at_number.number.ensures.holds at_clear.clear.ensures.only at_clear.clear.ensures.filled start.args.options start.args.s at-pass1.pass1-a.ensures at-pass2.pass2-b.ensures at-pass3.pass3-c.ensures at-pass4.pass4.ensures).only_faces.long
 
 pub shape_of-origins : goal.shape_of-origins
 shape_of-origins c = let at-pass4 = c.before.before.before.before.before.before in
@@ -47,7 +47,7 @@ shape_of-origins c = let at-pass4 = c.before.before.before.before.before.before 
     let at_number = at_clear.before.before.before.before in
     let at-copy-row = at_number.before.before.before.before in
     let start = at-copy-row.before.before.before.before.before.before.before in
-    (four_done start.requires at-copy-row.copy_row.ensures at_number.number.ensures.0 at_number.number.ensures.1 at_clear.clear.ensures.0 at_clear.clear.ensures.1 start.args.options start.args.s at-pass1.pass1-a.ensures at-pass2.pass2-b.ensures at-pass3.pass3-c.ensures at-pass4.pass4.ensures).only_origins.long
+    (four_done start.requires at-copy-row.copy_row.ensures at_number.number.ensures.only at_number.number.ensures.holds at_clear.clear.ensures.only at_clear.clear.ensures.filled start.args.options start.args.s at-pass1.pass1-a.ensures at-pass2.pass2-b.ensures at-pass3.pass3-c.ensures at-pass4.pass4.ensures).only_origins.long
 
 pub shape_of-work : goal.shape_of-work
 shape_of-work c = let at-pass4 = c.before.before.before.before.before.before in
@@ -58,7 +58,7 @@ shape_of-work c = let at-pass4 = c.before.before.before.before.before.before in
     let at_number = at_clear.before.before.before.before in
     let at-copy-row = at_number.before.before.before.before in
     let start = at-copy-row.before.before.before.before.before.before.before in
-    (four_done start.requires at-copy-row.copy_row.ensures at_number.number.ensures.0 at_number.number.ensures.1 at_clear.clear.ensures.0 at_clear.clear.ensures.1 start.args.options start.args.s at-pass1.pass1-a.ensures at-pass2.pass2-b.ensures at-pass3.pass3-c.ensures at-pass4.pass4.ensures).only_work.long
+    (four_done start.requires at-copy-row.copy_row.ensures at_number.number.ensures.only at_number.number.ensures.holds at_clear.clear.ensures.only at_clear.clear.ensures.filled start.args.options start.args.s at-pass1.pass1-a.ensures at-pass2.pass2-b.ensures at-pass3.pass3-c.ensures at-pass4.pass4.ensures).only_work.long
 
 pub returns : goal.returns
 returns c = let at-pass4 = c.before.before.before.before.before.before in
@@ -69,4 +69,4 @@ returns c = let at-pass4 = c.before.before.before.before.before.before in
     let at_number = at_clear.before.before.before.before in
     let at-copy-row = at_number.before.before.before.before in
     let start = at-copy-row.before.before.before.before.before.before.before in
-    four_done start.requires at-copy-row.copy_row.ensures at_number.number.ensures.0 at_number.number.ensures.1 at_clear.clear.ensures.0 at_clear.clear.ensures.1 start.args.options start.args.s at-pass1.pass1-a.ensures at-pass2.pass2-b.ensures at-pass3.pass3-c.ensures at-pass4.pass4.ensures
+    four_done start.requires at-copy-row.copy_row.ensures at_number.number.ensures.only at_number.number.ensures.holds at_clear.clear.ensures.only at_clear.clear.ensures.filled start.args.options start.args.s at-pass1.pass1-a.ensures at-pass2.pass2-b.ensures at-pass3.pass3-c.ensures at-pass4.pass4.ensures

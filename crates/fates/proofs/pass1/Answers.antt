@@ -13,13 +13,13 @@ mark-marked-requires c = let start = c.before.before.before.before.before.before
 pub record_degenerate-requires : goal.record_degenerate-requires
 record_degenerate-requires c = let at_mark = c.before.before.before.before.before in
     let start = at_mark.before.before.before.before.before.before.before.before in
-    (flag_asks start.requires (takes1 start.requires) at_mark.mark-marked.ensures.0 (omega arith), start.requires.fit)
+    record { flag_asks = flag_asks start.requires (takes1 start.requires) at_mark.mark-marked.ensures.mark_gives (omega arith); n_in_bounds = start.requires.fit }
 
 pub leave-requires : goal.leave-requires
 leave-requires c = let at-record-degenerate = c.before.before.before.before.before in
     let at_mark = at-record-degenerate.before.before.before.before.before.before in
     let start = at_mark.before.before.before.before.before.before.before.before in
-    leave_asks start.requires (takes1 start.requires) at_mark.mark-marked.ensures.0 at-record-degenerate.record_degenerate.ensures
+    leave_asks start.requires (takes1 start.requires) at_mark.mark-marked.ensures.mark_gives at-record-degenerate.record_degenerate.ensures
 
 pub returns-then-options-eq1 : goal.returns-then-options-eq1
 returns-then-options-eq1 c = let at-leave = c.before.before.before.before in
@@ -27,7 +27,7 @@ returns-then-options-eq1 c = let at-leave = c.before.before.before.before in
     let at_mark = at-record-degenerate.before.before.before.before.before.before in
     let set = at_mark.before.before.before in
     let start = set.before.before.before.before.before in
-    rw (bit_set 0 start.args.options (lowest start.args.options ∙ set.if-options-eq1.true)) (on1 start.requires start.args.s at_mark.mark-marked.ensures.0 at-record-degenerate.record_degenerate.ensures (left_marked start.requires (takes1 start.requires) at_mark.mark-marked.ensures.0 at-record-degenerate.record_degenerate.ensures at-leave.leave.ensures))
+    rw (bit_set 0 start.args.options (lowest start.args.options ∙ set.if-options-eq1.true)) (on1 start.requires start.args.s at_mark.mark-marked.ensures.mark_gives at-record-degenerate.record_degenerate.ensures (left_marked start.requires (takes1 start.requires) at_mark.mark-marked.ensures.mark_gives at-record-degenerate.record_degenerate.ensures at-leave.leave.ensures))
 
 pub returns : goal.returns
 returns c = let start = c.before.before.before.before.before in

@@ -12,13 +12,13 @@ mark-marked-requires c = let start = c.before.before.before.before.before.before
 pub record-requires : goal.record-requires
 record-requires c = let at_mark = c.before.before.before.before in
     let start = at_mark.before.before.before.before.before.before.before.before in
-    (flag_asks start.requires (takes2 start.requires) at_mark.mark-marked.ensures.0 (omega arith), omega arith)
+    record { flag_asks = flag_asks start.requires (takes2 start.requires) at_mark.mark-marked.ensures.mark_gives (omega arith); code_bound = omega arith }
 
 pub leave-requires : goal.leave-requires
 leave-requires c = let at-record = c.before.before.before.before.before in
     let at_mark = at-record.before.before.before.before.before in
     let start = at_mark.before.before.before.before.before.before.before.before in
-    leave_asks start.requires (takes2 start.requires) at_mark.mark-marked.ensures.0 at-record.record.ensures
+    leave_asks start.requires (takes2 start.requires) at_mark.mark-marked.ensures.mark_gives at-record.record.ensures
 
 pub returns-then-options-eq1 : goal.returns-then-options-eq1
 returns-then-options-eq1 c = let at-leave = c.before.before.before.before in
@@ -26,7 +26,7 @@ returns-then-options-eq1 c = let at-leave = c.before.before.before.before in
     let at_mark = at-record.before.before.before.before.before in
     let set = at_mark.before.before.before in
     let start = set.before.before.before.before.before in
-    rw (bit_set 1 start.args.options set.if-options-eq1.true) (on2 start.requires (takes2 start.requires) at_mark.mark-marked.ensures.0 at-record.record.ensures (left_marked start.requires (takes2 start.requires) at_mark.mark-marked.ensures.0 at-record.record.ensures at-leave.leave.ensures))
+    rw (bit_set 1 start.args.options set.if-options-eq1.true) (on2 start.requires (takes2 start.requires) at_mark.mark-marked.ensures.mark_gives at-record.record.ensures (left_marked start.requires (takes2 start.requires) at_mark.mark-marked.ensures.mark_gives at-record.record.ensures at-leave.leave.ensures))
 
 pub returns : goal.returns
 returns c = let start = c.before.before.before.before.before in

@@ -6,91 +6,91 @@ use Rattle.fates.proofs.record.Goals as goal
 
 pub loop-i-init : goal.loop-i-init
 loop-i-init c = let start = c.before.before in
-    begin _ (flag_small start.args.work.now start.args.marks start.args.code start.requires.1) start.requires.0.add
+    begin _ (flag_small start.args.work.now start.args.marks start.args.code start.requires.code_bound) start.requires.flag_asks.add
 
 pub overflow_add-marks : goal.overflow_add-marks
 overflow_add-marks c = let head = c.before in
     let start = head.before.before.before in
-    omega (arith, turn start.requires.0.add head.loop-i.invariant c.loop-i-test.true, start.requires.0.flags)
+    omega (arith, turn start.requires.flag_asks.add head.loop-i.invariant c.loop-i-test.true, start.requires.flag_asks.flags)
 
 pub offset_bounds-work-marks : goal.offset_bounds-work-marks
 offset_bounds-work-marks c = let head = c.before in
     let start = head.before.before.before in
-    omega (arith, turn start.requires.0.add head.loop-i.invariant c.loop-i-test.true, start.requires.0.flags)
+    omega (arith, turn start.requires.flag_asks.add head.loop-i.invariant c.loop-i-test.true, start.requires.flag_asks.flags)
 
 pub bounds-work-marks : goal.bounds-work-marks
 bounds-work-marks c = let turning = c.before in
     let head = turning.before in
     let start = head.before.before.before in
-    omega (arith, turn start.requires.0.add head.loop-i.invariant turning.loop-i-test.true, start.requires.0.flags)
+    omega (arith, turn start.requires.flag_asks.add head.loop-i.invariant turning.loop-i-test.true, start.requires.flag_asks.flags)
 
 pub offset_bounds-origins-i : goal.offset_bounds-origins-i
 offset_bounds-origins-i c = let turning = c.before.before in
     let head = turning.before in
     let start = head.before.before.before in
-    omega (arith, turn start.requires.0.add head.loop-i.invariant turning.loop-i-test.true, start.requires.0.flags)
+    omega (arith, turn start.requires.flag_asks.add head.loop-i.invariant turning.loop-i-test.true, start.requires.flag_asks.flags)
 
 pub bounds-origins-i : goal.bounds-origins-i
 bounds-origins-i c = let turning = c.before.before.before in
     let head = turning.before in
     let start = head.before.before.before in
-    omega (arith, turn start.requires.0.add head.loop-i.invariant turning.loop-i-test.true, start.requires.0.flags)
+    omega (arith, turn start.requires.flag_asks.add head.loop-i.invariant turning.loop-i-test.true, start.requires.flag_asks.flags)
 
 pub overflow_cast-at : goal.overflow_cast-at
 overflow_cast-at c = let turning = c.before.before.before in
     let head = turning.before in
     let start = head.before.before.before in
-    omega (arith, turn start.requires.0.add head.loop-i.invariant turning.loop-i-test.true, start.requires.0.flags)
+    omega (arith, turn start.requires.flag_asks.add head.loop-i.invariant turning.loop-i-test.true, start.requires.flag_asks.flags)
 
 pub overflow_add-at : goal.overflow_add-at
 overflow_add-at c = let turning = c.before.before.before in
     let head = turning.before in
     let start = head.before.before.before in
-    omega (arith, turn start.requires.0.add head.loop-i.invariant turning.loop-i-test.true, start.requires.0.flags)
+    omega (arith, turn start.requires.flag_asks.add head.loop-i.invariant turning.loop-i-test.true, start.requires.flag_asks.flags)
 
 pub offset_bounds-work-at : goal.offset_bounds-work-at
 offset_bounds-work-at c = let turning = c.before.before.before in
     let head = turning.before in
     let start = head.before.before.before in
-    omega (arith, turn start.requires.0.add head.loop-i.invariant turning.loop-i-test.true, start.requires.0.flags)
+    omega (arith, turn start.requires.flag_asks.add head.loop-i.invariant turning.loop-i-test.true, start.requires.flag_asks.flags)
 
 pub bounds-work-at : goal.bounds-work-at
 bounds-work-at c = let turning = c.before.before.before.before in
     let head = turning.before in
     let start = head.before.before.before in
-    omega (arith, turn start.requires.0.add head.loop-i.invariant turning.loop-i-test.true, start.requires.0.flags)
+    omega (arith, turn start.requires.flag_asks.add head.loop-i.invariant turning.loop-i-test.true, start.requires.flag_asks.flags)
 
 pub overflow_add-work : goal.overflow_add-work
 overflow_add-work c = let at-flagged = c.before.before in
     let turning = at-flagged.before.before in
     let head = turning.before in
     let start = head.before.before.before in
-    omega (arith, turn start.requires.0.add head.loop-i.invariant turning.loop-i-test.true, code_read start.requires.0 head.loop-i.invariant turning.loop-i-test.true _ _ at-flagged.flagged-told.ensures)
+    omega (arith, turn start.requires.flag_asks.add head.loop-i.invariant turning.loop-i-test.true, code_read start.requires.flag_asks head.loop-i.invariant turning.loop-i-test.true _ _ at-flagged.flagged-told.ensures)
 
 pub offset_bounds-work-at-in-loop-i : goal.offset_bounds-work-at-in-loop-i
 offset_bounds-work-at-in-loop-i c = let turning = c.before.before.before.before in
     let head = turning.before in
     let start = head.before.before.before in
-    omega (arith, turn start.requires.0.add head.loop-i.invariant turning.loop-i-test.true, start.requires.0.flags)
+    omega (arith, turn start.requires.flag_asks.add head.loop-i.invariant turning.loop-i-test.true, start.requires.flag_asks.flags)
 
 pub bounds-work-at-in-loop-i : goal.bounds-work-at-in-loop-i
 bounds-work-at-in-loop-i c = let turning = c.before.before.before.before in
     let head = turning.before in
     let start = head.before.before.before in
-    omega (arith, turn start.requires.0.add head.loop-i.invariant turning.loop-i-test.true, start.requires.0.flags)
+    omega (arith, turn start.requires.flag_asks.add head.loop-i.invariant turning.loop-i-test.true, start.requires.flag_asks.flags)
 
 pub overflow_add-i : goal.overflow_add-i
 overflow_add-i c = let turning = c.before.before.before.before in
     let head = turning.before in
     let start = head.before.before.before in
-    omega (arith, turn start.requires.0.add head.loop-i.invariant turning.loop-i-test.true, start.requires.0.flags)
+    omega (arith, turn start.requires.flag_asks.add head.loop-i.invariant turning.loop-i-test.true, start.requires.flag_asks.flags)
 
 pub loop-i-preserved : goal.loop-i-preserved
 loop-i-preserved c = let at-flagged = c.before.before in
     let turning = at-flagged.before.before in
     let head = turning.before in
     let start = head.before.before.before in
-    again start.requires.0.add head.loop-i.invariant turning.loop-i-test.true _ (code_read start.requires.0 head.loop-i.invariant turning.loop-i-test.true _ _ at-flagged.flagged-told.ensures)
+    again start.requires.flag_asks.add head.loop-i.invariant turning.loop-i-test.true _ (code_read start.requires.flag_asks head.loop-i.invariant turning.loop-i-test.true _ _ at-flagged.flagged-told.ensures)
 
 pub shape_of-work : goal.shape_of-work
 shape_of-work c = let head = c.before in
@@ -99,4 +99,4 @@ shape_of-work c = let head = c.before in
 pub returns : goal.returns
 returns c = let head = c.before in
     let start = head.before.before.before in
-    done start.requires.0.add head.loop-i.invariant c.loop-i-test.false
+    done start.requires.flag_asks.add head.loop-i.invariant c.loop-i-test.false

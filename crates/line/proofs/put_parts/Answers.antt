@@ -10,10 +10,10 @@ pub value-requires : goal.value-requires
 value-requires c = (turn c.requires c.loop-k.invariant c.loop-k-test.true).count
 
 pub put_next-at-requires : goal.put_next-at-requires
-put_next-at-requires c = ((turn c.requires c.loop-k.invariant c.loop-k-test.true).asks, c.value.ensures.1)
+put_next-at-requires c = record { part_asks = (turn c.requires c.loop-k.invariant c.loop-k-test.true).asks; n_bound = c.value.ensures.upper_bound }
 
 pub loop-k-preserved : goal.loop-k-preserved
-loop-k-preserved c = again c.requires c.loop-k.invariant c.loop-k-test.true c.value.ensures.0 c.put_next-at.ensures
+loop-k-preserved c = again c.requires c.loop-k.invariant c.loop-k-test.true c.value.ensures.value c.put_next-at.ensures
 
 pub shape_of-line : goal.shape_of-line
 shape_of-line c = c.loop-k.invariant.puts.only.long

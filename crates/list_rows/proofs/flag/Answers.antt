@@ -11,4 +11,4 @@ returns-then-options-eq1 c = let at_call = c.before.before in
 pub returns : goal.returns
 returns c = let at_call = c.before.before in
     let start = at_call.before.before.before.before.before in
-    flags_off (bit_off 5 start.args.options (omega arith)) at_call.clear.ensures.0 at_call.clear.ensures.1
+    flags_off (bit_off 5 start.args.options (omega arith)) at_call.clear.ensures.only at_call.clear.ensures.filled

@@ -7,7 +7,7 @@ use Rattle.list_text.proofs.EachKind.{no_line, line_parts, tail_most}
 use Rattle.list_text.proofs.line_length.Goals as goal
 
 pub returns-then-kind-eq0 : goal.returns-then-kind-eq0
-returns-then-kind-eq0 c = (sym (ap length (no_line _ c.args.n c.if-kind-eq0.true)), omega arith)
+returns-then-kind-eq0 c = record { value = sym (ap length (no_line _ c.args.n c.if-kind-eq0.true)); upper_bound = omega arith }
 
 pub overflow_add-result : goal.overflow_add-result
 overflow_add-result c = omega (arith, c.number_length.ensures, decimal_short c.args.n)

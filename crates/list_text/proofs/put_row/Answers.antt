@@ -8,22 +8,22 @@ use Rattle.list_text.proofs.Onward.{row_begin, row_room, row_on, row_done}
 use Rattle.list_text.proofs.put_row.Goals as goal
 
 pub loop-i-init : goal.loop-i-init
-loop-i-init c = row_begin (line_at c.args.work.now c.args.row c.args.first c.args.last) c.args.n c.requires.1
+loop-i-init c = row_begin (line_at c.args.work.now c.args.row c.args.first c.args.last) c.args.n c.requires.last_in_bounds
 
 pub overflow_add-row : goal.overflow_add-row
-overflow_add-row c = omega (arith, c.requires.0, c.loop-i-test.true)
+overflow_add-row c = omega (arith, c.requires.row_asks, c.loop-i-test.true)
 
 pub offset_bounds-work-row : goal.offset_bounds-work-row
-offset_bounds-work-row c = omega (arith, c.requires.0, c.loop-i-test.true)
+offset_bounds-work-row c = omega (arith, c.requires.row_asks, c.loop-i-test.true)
 
 pub bounds-work-row : goal.bounds-work-row
-bounds-work-row c = omega (arith, c.requires.0, c.loop-i-test.true)
+bounds-work-row c = omega (arith, c.requires.row_asks, c.loop-i-test.true)
 
 pub told_kind-kind-requires : goal.told_kind-kind-requires
 told_kind-kind-requires c = tt
 
 pub overflow_cast-i : goal.overflow_cast-i
-overflow_cast-i c = omega (arith, c.requires.0, c.loop-i-test.true)
+overflow_cast-i c = omega (arith, c.requires.row_asks, c.loop-i-test.true)
 
 pub put_line-next-requires : goal.put_line-next-requires
 put_line-next-requires c = let v = c.loop-i.invariant in
@@ -31,10 +31,10 @@ put_line-next-requires c = let v = c.loop-i.invariant in
     (row_room (line_at c.args.work.now c.args.row c.args.first c.args.last) c.args.n v c.loop-i-test.true)
 
 pub overflow_add-i : goal.overflow_add-i
-overflow_add-i c = omega (arith, c.requires.0, c.loop-i-test.true)
+overflow_add-i c = omega (arith, c.requires.row_asks, c.loop-i-test.true)
 
 pub loop-i-smaller : goal.loop-i-smaller
-loop-i-smaller c = omega (arith, c.requires.0, c.loop-i-test.true)
+loop-i-smaller c = omega (arith, c.requires.row_asks, c.loop-i-test.true)
 
 pub loop-i-preserved : goal.loop-i-preserved
 loop-i-preserved c = row_on (line_at c.args.work.now c.args.row c.args.first c.args.last) c.args.n c.loop-i.invariant c.loop-i-test.true

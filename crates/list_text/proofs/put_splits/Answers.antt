@@ -5,22 +5,22 @@ use Rattle.list_text.proofs.Splits.{first_asks, next_asks, split_asks, place_beg
 use Rattle.list_text.proofs.put_splits.Goals as goal
 
 pub corners_below-from-requires : goal.corners_below-from-requires
-corners_below-from-requires c = first_asks c.requires.0
+corners_below-from-requires c = first_asks c.requires.splits_ask
 
 pub loop-j-init : goal.loop-j-init
-loop-j-init c = place_begin c.requires.0 c.requires.1 c.corners_below-from.ensures
+loop-j-init c = place_begin c.requires.splits_ask c.requires.rows_in_bounds c.corners_below-from.ensures
 
 pub overflow_add-rows : goal.overflow_add-rows
-overflow_add-rows c = omega (arith, c.requires.0.few_points, c.loop-j-test.true)
+overflow_add-rows c = omega (arith, c.requires.splits_ask.few_points, c.loop-j-test.true)
 
 pub overflow_add-rows-in-loop-j : goal.overflow_add-rows-in-loop-j
-overflow_add-rows-in-loop-j c = omega (arith, c.requires.0.few_points, c.loop-j-test.true)
+overflow_add-rows-in-loop-j c = omega (arith, c.requires.splits_ask.few_points, c.loop-j-test.true)
 
 pub corners_below-to-requires : goal.corners_below-to-requires
-corners_below-to-requires c = next_asks c.requires.0 c.loop-j.invariant.cursor c.loop-j-test.true
+corners_below-to-requires c = next_asks c.requires.splits_ask c.loop-j.invariant.cursor c.loop-j-test.true
 
 pub put_split-next-requires : goal.put_split-next-requires
-put_split-next-requires c = (split_asks c.requires.0 c.loop-j.invariant.cursor c.loop-j-test.true c.corners_below-to.ensures, place_room c.requires.0 c.loop-j.invariant c.loop-j-test.true c.corners_below-to.ensures)
+put_split-next-requires c = record { split_asks = split_asks c.requires.splits_ask c.loop-j.invariant.cursor c.loop-j-test.true c.corners_below-to.ensures; to_in_bounds = place_room c.requires.splits_ask c.loop-j.invariant c.loop-j-test.true c.corners_below-to.ensures }
 
 pub overflow_add-j : goal.overflow_add-j
 overflow_add-j c = omega (arith, c.loop-j-test.true)
@@ -29,10 +29,10 @@ pub loop-j-smaller : goal.loop-j-smaller
 loop-j-smaller c = omega (arith, c.loop-j-test.true)
 
 pub loop-j-preserved : goal.loop-j-preserved
-loop-j-preserved c = place_on c.requires.0 c.loop-j.invariant c.loop-j-test.true c.corners_below-to.ensures c.put_split-next.ensures
+loop-j-preserved c = place_on c.requires.splits_ask c.loop-j.invariant c.loop-j-test.true c.corners_below-to.ensures c.put_split-next.ensures
 
 pub shape_of-text : goal.shape_of-text
 shape_of-text c = c.loop-j.invariant.rowed.sofar.puts.only.long
 
 pub returns : goal.returns
-returns c = place_done c.requires.0 c.loop-j.invariant c.loop-j-test.false
+returns c = place_done c.requires.splits_ask c.loop-j.invariant c.loop-j-test.false

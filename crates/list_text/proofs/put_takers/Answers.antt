@@ -5,22 +5,22 @@ use Rattle.list_text.proofs.Takers.{corner_at, take_begin, take_room, take_on, t
 use Rattle.list_text.proofs.put_takers.Goals as goal
 
 pub loop-q-init : goal.loop-q-init
-loop-q-init c = take_begin c.requires.0 c.requires.1
+loop-q-init c = take_begin c.requires.run_asks c.requires.to_in_bounds
 
 pub overflow_add-i : goal.overflow_add-i
-overflow_add-i c = omega (arith, corner_at c.requires.0 c.loop-q.q c.loop-q-test.true)
+overflow_add-i c = omega (arith, corner_at c.requires.run_asks c.loop-q.q c.loop-q-test.true)
 
 pub offset_bounds-work-rows : goal.offset_bounds-work-rows
-offset_bounds-work-rows c = omega (arith, corner_at c.requires.0 c.loop-q.q c.loop-q-test.true)
+offset_bounds-work-rows c = omega (arith, corner_at c.requires.run_asks c.loop-q.q c.loop-q-test.true)
 
 pub bounds-work-rows : goal.bounds-work-rows
-bounds-work-rows c = omega (arith, corner_at c.requires.0 c.loop-q.q c.loop-q-test.true)
+bounds-work-rows c = omega (arith, corner_at c.requires.run_asks c.loop-q.q c.loop-q-test.true)
 
 pub overflow_cast-i : goal.overflow_cast-i
-overflow_cast-i c = omega (arith, corner_at c.requires.0 c.loop-q.q c.loop-q-test.true)
+overflow_cast-i c = omega (arith, corner_at c.requires.run_asks c.loop-q.q c.loop-q-test.true)
 
 pub put_taker-next-requires : goal.put_taker-next-requires
-put_taker-next-requires c = ((corner_at c.requires.0 c.loop-q.q c.loop-q-test.true).has_origin, take_room c.requires.0 c.loop-q.invariant c.loop-q-test.true)
+put_taker-next-requires c = record { i_in_bounds = (corner_at c.requires.run_asks c.loop-q.q c.loop-q-test.true).has_origin; last_in_bounds = take_room c.requires.run_asks c.loop-q.invariant c.loop-q-test.true }
 
 pub overflow_add-q : goal.overflow_add-q
 overflow_add-q c = omega (arith, c.loop-q-test.true)
@@ -29,10 +29,10 @@ pub loop-q-smaller : goal.loop-q-smaller
 loop-q-smaller c = omega (arith, c.loop-q-test.true)
 
 pub loop-q-preserved : goal.loop-q-preserved
-loop-q-preserved c = take_on c.requires.0 c.loop-q.invariant c.loop-q-test.true c.put_taker-next.ensures
+loop-q-preserved c = take_on c.requires.run_asks c.loop-q.invariant c.loop-q-test.true c.put_taker-next.ensures
 
 pub shape_of-text : goal.shape_of-text
 shape_of-text c = c.loop-q.invariant.sofar.puts.only.long
 
 pub returns : goal.returns
-returns c = take_done c.requires.0 c.loop-q.invariant c.loop-q-test.false
+returns c = take_done c.requires.run_asks c.loop-q.invariant c.loop-q-test.false

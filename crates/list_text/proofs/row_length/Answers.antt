@@ -29,7 +29,7 @@ pub line_length-total-requires : goal.line_length-total-requires
 line_length-total-requires c = tt
 
 pub overflow_add-total : goal.overflow_add-total
-overflow_add-total c = omega (arith, c.requires, c.loop-i-test.true, c.loop-i.invariant.small, c.line_length-total.ensures.1)
+overflow_add-total c = omega (arith, c.requires, c.loop-i-test.true, c.loop-i.invariant.small, c.line_length-total.ensures.upper_bound)
 
 pub overflow_add-i : goal.overflow_add-i
 overflow_add-i c = omega (arith, c.requires, c.loop-i-test.true)
@@ -40,11 +40,11 @@ loop-i-smaller c = omega (arith, c.requires, c.loop-i-test.true)
 pub loop-i-preserved : goal.loop-i-preserved
 loop-i-preserved c = let i = c.loop-i.i in
     record {
-      summed = sum_on (line_at c.args.work.now c.args.row c.args.first c.args.last) c.args.n c.loop-i.invariant.summed c.loop-i-test.true (c.line_length-total.ensures.0 ∙ ap (λ (k : ℕ). length (kind_text k i)) c.told_kind-kind.ensures);
-      small = omega (arith, c.loop-i.invariant.small, c.line_length-total.ensures.1);
+      summed = sum_on (line_at c.args.work.now c.args.row c.args.first c.args.last) c.args.n c.loop-i.invariant.summed c.loop-i-test.true (c.line_length-total.ensures.value ∙ ap (λ (k : ℕ). length (kind_text k i)) c.told_kind-kind.ensures);
+      small = omega (arith, c.loop-i.invariant.small, c.line_length-total.ensures.upper_bound);
     }
 
 pub returns : goal.returns
 returns c = let v = c.loop-i.invariant in
     let m = v.summed.at_most in
-    (sum_done (line_at c.args.work.now c.args.row c.args.first c.args.last) c.args.n v.summed c.loop-i-test.false, omega (arith, v.small, m))
+    record { value = sum_done (line_at c.args.work.now c.args.row c.args.first c.args.last) c.args.n v.summed c.loop-i-test.false; upper_bound = omega (arith, v.small, m) }

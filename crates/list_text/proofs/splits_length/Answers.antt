@@ -23,7 +23,7 @@ pub split_length-total-requires : goal.split_length-total-requires
 split_length-total-requires c = split_asks c.requires c.loop-j.invariant.cursor c.loop-j-test.true c.corners_below-to.ensures
 
 pub overflow_add-total : goal.overflow_add-total
-overflow_add-total c = omega (arith, total_small c.requires (total_on c.requires c.loop-j.invariant c.loop-j-test.true c.corners_below-to.ensures c.split_length-total.ensures.0 c.split_length-total.ensures.1) (omega (arith, c.loop-j-test.true)), c.loop-j-test.true, c.requires.few_points, c.requires.sorted.few)
+overflow_add-total c = omega (arith, total_small c.requires (total_on c.requires c.loop-j.invariant c.loop-j-test.true c.corners_below-to.ensures c.split_length-total.ensures.value c.split_length-total.ensures.from_bound) (omega (arith, c.loop-j-test.true)), c.loop-j-test.true, c.requires.few_points, c.requires.sorted.few)
 
 pub overflow_add-j : goal.overflow_add-j
 overflow_add-j c = omega (arith, c.loop-j-test.true)
@@ -32,7 +32,7 @@ pub loop-j-smaller : goal.loop-j-smaller
 loop-j-smaller c = omega (arith, c.loop-j-test.true)
 
 pub loop-j-preserved : goal.loop-j-preserved
-loop-j-preserved c = total_on c.requires c.loop-j.invariant c.loop-j-test.true c.corners_below-to.ensures c.split_length-total.ensures.0 c.split_length-total.ensures.1
+loop-j-preserved c = total_on c.requires c.loop-j.invariant c.loop-j-test.true c.corners_below-to.ensures c.split_length-total.ensures.value c.split_length-total.ensures.from_bound
 
 pub returns : goal.returns
 returns c = total_done c.requires c.loop-j.invariant c.loop-j-test.false

@@ -7,10 +7,10 @@ use Rattle.rule_laws.proofs.Digits.{decimal_short}
 use Rattle.list_text.proofs.taker_length.Goals as goal
 
 pub returns-then-i-last : goal.returns-then-i-last
-returns-then-i-last c = (rw (eq-eqb _ _ c.if-i-last.true) refl, omega arith)
+returns-then-i-last c = record { value = rw (eq-eqb _ _ c.if-i-last.true) refl; upper_bound = omega arith }
 
 pub overflow_add-result : goal.overflow_add-result
 overflow_add-result c = omega (arith, c.number_length.ensures, decimal_short (get_or c.args.origins.now c.args.i 0))
 
 pub returns : goal.returns
-returns c = (rw (ne_eqb _ _ c.if-i-last.false) (omega (arith, c.number_length.ensures)), omega (arith, c.number_length.ensures, decimal_short (get_or c.args.origins.now c.args.i 0)))
+returns c = record { value = rw (ne_eqb _ _ c.if-i-last.false) (omega (arith, c.number_length.ensures)); upper_bound = omega (arith, c.number_length.ensures, decimal_short (get_or c.args.origins.now c.args.i 0)) }

@@ -22,4 +22,4 @@ wipe-requires c = let at-put-edges = c.before.before.before in
 pub returns : goal.returns
 returns c = let at-wipe = c.before.before in
     let at-put-edges = at-wipe.before.before.before.before in
-    λ q. room_done q at-put-edges.put_edges.ensures at-wipe.wipe.ensures.0 at-wipe.wipe.ensures.1
+    λ q. room_done q at-put-edges.put_edges.ensures at-wipe.wipe.ensures.only at-wipe.wipe.ensures.filled

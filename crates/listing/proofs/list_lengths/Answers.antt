@@ -8,4 +8,4 @@ put_lengths-requires c = lengths_asks c.requires
 pub returns : goal.returns
 returns c = let at-wipe = c.before.before in
     let at-put = at-wipe.before.before.before.before in
-    room_done at-put.requires at-put.put_lengths.ensures at-wipe.wipe_points.ensures.0 at-wipe.wipe_points.ensures.1
+    room_done at-put.requires at-put.put_lengths.ensures at-wipe.wipe_points.ensures.only_of at-wipe.wipe_points.ensures.holds_of

@@ -26,4 +26,4 @@ pub returns : goal.returns
 returns c = let u = c.before.before in
     let r = u.before.before.before.before.before in
     let t = r.before.before.before.before.before.before.before.before.before in
-    done t.requires t.trace-found.ensures r.wipe.ensures.0 r.wipe.ensures.1 u.wipe-2.ensures.0 u.wipe-2.ensures.1
+    done t.requires t.trace-found.ensures r.wipe.ensures.only r.wipe.ensures.filled u.wipe-2.ensures.only u.wipe-2.ensures.filled

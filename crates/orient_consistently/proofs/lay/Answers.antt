@@ -13,7 +13,7 @@ pub clear-requires : goal.clear-requires
 clear-requires c = omega (arith, lay_bounds c.requires)
 
 pub mate_all-requires : goal.mate_all-requires
-mate_all-requires c = mates_asks c.requires c.clear.ensures.0 c.clear.ensures.1
+mate_all-requires c = mates_asks c.requires c.clear.ensures.only c.clear.ensures.filled
 
 pub returns : goal.returns
-returns c = lay_gives c.requires c.clear.ensures.0 c.clear.ensures.1 c.mate_all.ensures
+returns c = lay_gives c.requires c.clear.ensures.only c.clear.ensures.filled c.mate_all.ensures

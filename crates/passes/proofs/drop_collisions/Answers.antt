@@ -7,14 +7,14 @@ use Rattle.passes.proofs.drop_collisions.Goals as goal
 
 pub returns-then-single : goal.returns-then-single
 returns-then-single c = let start = c.before.before.before.before.before in
-    (all_stay start.requires.0 (start.requires.1.1 c.if-single.true), only_none 0 _ _)
+    record { leave_gives = all_stay start.requires.pass_asks (start.requires.n_in_bounds.1 c.if-single.true); only = only_none 0 _ _ }
 
 pub leave-requires : goal.leave-requires
 leave-requires c = let at_mark = c.before.before.before.before.before in
     let start = at_mark.before.before.before.before.before.before.before.before in
-    collided_leave start.requires.0 start.requires.1.0 at_mark.mark-marked.ensures.0
+    collided_leave start.requires.pass_asks start.requires.n_in_bounds.0 at_mark.mark-marked.ensures.fact
 
 pub returns : goal.returns
 returns c = let at-leave = c.before.before.before.before in
     let at_mark = at-leave.before.before.before.before.before.before in
-    (left_by at_mark.mark-marked.ensures.0 at-leave.leave.ensures, at_mark.mark-marked.ensures.0.only)
+    record { leave_gives = left_by at_mark.mark-marked.ensures.fact at-leave.leave.ensures; only = at_mark.mark-marked.ensures.fact.only }

@@ -14,19 +14,19 @@ mark-marked-requires c = reads3 c.requires
 pub leave-left-requires : goal.leave-left-requires
 leave-left-requires c = let at_mark = c.before.before.before.before.before in
     let start = at_mark.before.before.before.before.before.before.before.before.before in
-    leaves3 start.requires at_mark.mark-marked.ensures.0
+    leaves3 start.requires at_mark.mark-marked.ensures.fact
 
 pub overflow_sub-result : goal.overflow_sub-result
 overflow_sub-result c = let at-leave = c.before.before.before.before in
     let at_mark = at-leave.before.before.before.before.before.before in
-    left_fewer (left_by at_mark.mark-marked.ensures.0 at-leave.leave-left.ensures)
+    left_fewer (left_by at_mark.mark-marked.ensures.fact at-leave.leave-left.ensures)
 
 pub returns-then-options-eq1 : goal.returns-then-options-eq1
 returns-then-options-eq1 c = let at-leave = c.before.before.before.before in
     let at_mark = at-leave.before.before.before.before.before.before in
     let start = at_mark.before.before.before.before.before.before.before.before.before in
     rw (bit_set 2 start.args.options at_mark.if-options-eq1.true)
-    (on3 start.requires at_mark.mark-marked.ensures.0 (left_by at_mark.mark-marked.ensures.0 at-leave.leave-left.ensures) at_mark.mark-marked.ensures.1)
+    (on3 start.requires at_mark.mark-marked.ensures.fact (left_by at_mark.mark-marked.ensures.fact at-leave.leave-left.ensures) at_mark.mark-marked.ensures.found_value)
 
 pub returns : goal.returns
 returns c = let start = c.before.before.before.before.before in

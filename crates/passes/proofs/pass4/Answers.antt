@@ -17,16 +17,16 @@ slice_bounds-drop_collisions-end-then-options-eq1 c = omega (arith, as_long c.re
 pub drop_collisions-left-requires : goal.drop_collisions-left-requires
 drop_collisions-left-requires c = let at-settle = c.before.before.before.before.before.before.before.before in
     let start = at-settle.before.before.before.before.before.before.before.before in
-    (turned_reads start.requires at-settle.settle-turned.ensures.0, (start.requires.own, at-settle.settle-turned.ensures.1))
+    (turned_reads start.requires at-settle.settle-turned.ensures.orient_gives, (start.requires.own, at-settle.settle-turned.ensures.once))
 
 pub overflow_sub-result : goal.overflow_sub-result
-overflow_sub-result c = left_fewer c.drop_collisions-left.ensures.0
+overflow_sub-result c = left_fewer c.drop_collisions-left.ensures.leave_gives
 
 pub returns-then-options-eq1 : goal.returns-then-options-eq1
 returns-then-options-eq1 c = let at_drop = c.before.before.before.before.before.before in
     let at-settle = at_drop.before.before.before.before.before.before.before.before.before in
     let start = at-settle.before.before.before.before.before.before.before.before in
-    rw (bit_set 4 start.args.options at-settle.if-options-eq1.true) (on4 start.requires at-settle.settle-turned.ensures.0 at_drop.drop_collisions-left.ensures.1 at_drop.drop_collisions-left.ensures.0)
+    rw (bit_set 4 start.args.options at-settle.if-options-eq1.true) (on4 start.requires at-settle.settle-turned.ensures.orient_gives at_drop.drop_collisions-left.ensures.only at_drop.drop_collisions-left.ensures.leave_gives)
 
 pub returns : goal.returns
 returns c = let start = c.before.before.before.before.before in

@@ -4,11 +4,11 @@ use Rattle.patch_rank.proofs.keep_largest.Goals as goal
 
 pub returns-then-count-n : goal.returns-then-count-n
 returns-then-count-n c = let t = c.before.before.before.before in
-    all_kept t.requires t.if-count-n.true c.fill.ensures.0 c.fill.ensures.1
+    all_kept t.requires t.if-count-n.true c.fill.ensures.only c.fill.ensures.filled
 
 pub returns-then-n-eq0 : goal.returns-then-n-eq0
 returns-then-n-eq0 c = let t = c.before.before.before.before in
-    none_kept t.requires t.if-n-eq0.true c.fill-then-n-eq0.ensures.0 c.fill-then-n-eq0.ensures.1
+    none_kept t.requires t.if-n-eq0.true c.fill-then-n-eq0.ensures.only c.fill-then-n-eq0.ensures.filled
 
 pub cut-t-requires : goal.cut-t-requires
 cut-t-requires c = let l = c.before.before.before in

@@ -9,4 +9,4 @@ pub returns : goal.returns
 returns c = let w = c.before.before in
     let f = w.before.before in
     let r = f.before.before.before.before in
-    added r.requires r.read-r.ensures f.with_face-s.ensures w.write.ensures.0 w.write.ensures.1
+    added r.requires r.read-r.ensures f.with_face-s.ensures w.write.ensures.only_of w.write.ensures.k_after

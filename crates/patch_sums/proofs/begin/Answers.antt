@@ -14,7 +14,7 @@ pub overflow_add-k : goal.overflow_add-k
 overflow_add-k c = omega (arith, c.loop-k-test.true)
 
 pub loop-k-preserved : goal.loop-k-preserved
-loop-k-preserved c = again c.requires c.loop-k.invariant c.loop-k-test.true c.write.ensures.0 c.write.ensures.1
+loop-k-preserved c = again c.requires c.loop-k.invariant c.loop-k-test.true c.write.ensures.only_of c.write.ensures.k_after
 
 pub shape_of-numbers : goal.shape_of-numbers
 shape_of-numbers c = c.loop-k.invariant.only.long

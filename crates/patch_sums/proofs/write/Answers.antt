@@ -23,4 +23,4 @@ pub bounds-numbers-i-7 : goal.bounds-numbers-i-7
 bounds-numbers-i-7 c = simp length-set (omega (arith, c.requires))
 
 pub returns : goal.returns
-returns c = (stored_only _ _ _, stored_is c.args.numbers.now c.args.k c.args.r c.requires)
+returns c = record { only_of = stored_only _ _ _; k_after = stored_is c.args.numbers.now c.args.k c.args.r c.requires }

@@ -26,5 +26,5 @@ returns c = let d = c.before.before.before.before.before.before in
     let n = s.before.before.before.before in
     let a = n.before.before.before.before.before.before.before.before.before in
     filled a.args.face_counts.now a.args.numbers.now a.args.flags.now a.args.work.now a.requires s.sum_faces.ensures (filter_of a.args.by)
-    n.count_faces.ensures k.keep.ensures h.share-least.ensures d.drop_small.ensures c.clear.ensures.0
-    c.clear.ensures.1
+    n.count_faces.ensures k.keep.ensures h.share-least.ensures d.drop_small.ensures c.clear.ensures.only
+    c.clear.ensures.filled

@@ -105,4 +105,4 @@ returns c = let at_p = c.before.before.before.before.before.before.before.before
     let at-check = told.before.before in
     let start = at-check.before.before.before.before.before in
     let whole = subst (Heads start.args.file.now) at_p.in-Is.is at_head.head.ensures in
-    is_done start.args.file.now start.args.points.now start.args.faces.now start.args.work.now _ at-check.ply_check.ensures told.in-Fine.is whole c.coordinates.ensures c.triples.ensures c.stated_work.ensures c.wipe.ensures.0 c.wipe.ensures.1
+    is_done start.args.file.now start.args.points.now start.args.faces.now start.args.work.now _ at-check.ply_check.ensures told.in-Fine.is whole c.coordinates.ensures c.triples.ensures c.stated_work.ensures c.wipe.ensures.only c.wipe.ensures.filled

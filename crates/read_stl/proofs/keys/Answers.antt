@@ -68,10 +68,10 @@ overflow_add-c c = omega (arith, turn c.requires c.loop-c.invariant c.loop-c-tes
 
 pub loop-c-preserved : goal.loop-c-preserved
 loop-c-preserved c = again c.requires c.loop-c.invariant c.loop-c-test.true
-    (read_first c.args.file.now c.place_of-i.ensures c.u32_at.ensures c.one_zero-x.ensures.0)
-    (read_at c.args.file.now 4 c.place_of-i.ensures c.u32_at-in-loop-c.ensures c.one_zero-y.ensures.0)
-    (read_at c.args.file.now 8 c.place_of-i.ensures c.u32_at-in-loop-c-2.ensures c.one_zero-z.ensures.0)
-    c.one_zero-x.ensures.1 c.one_zero-y.ensures.1 c.one_zero-z.ensures.1
+    (read_first c.args.file.now c.place_of-i.ensures c.u32_at.ensures c.one_zero-x.ensures.value)
+    (read_at c.args.file.now 4 c.place_of-i.ensures c.u32_at-in-loop-c.ensures c.one_zero-y.ensures.value)
+    (read_at c.args.file.now 8 c.place_of-i.ensures c.u32_at-in-loop-c-2.ensures c.one_zero-z.ensures.value)
+    c.one_zero-x.ensures.upper_bound c.one_zero-y.ensures.upper_bound c.one_zero-z.ensures.upper_bound
 
 pub shape_of-work : goal.shape_of-work
 shape_of-work c = c.loop-c.invariant.only.long

@@ -226,7 +226,7 @@ shape_of-points c = let at-wipe = c.before.before in
     let at-flags = at-number-kept.before.before.before.before in
     let at-equal-rows = at-flags.before.before.before.before in
     let at-corners = at-equal-rows.before.before.before.before in
-    at-clear-points.clear_points.ensures.0.long ∙ (at-retain-points.retain_points-p.ensures.only.long ∙ at-corners.corners.ensures.only.long)
+    at-clear-points.clear_points.ensures.only_of.long ∙ (at-retain-points.retain_points-p.ensures.only.long ∙ at-corners.corners.ensures.only.long)
 
 pub shape_of-work : goal.shape_of-work
 shape_of-work c = let at-wipe = c.before.before in
@@ -238,7 +238,7 @@ shape_of-work c = let at-wipe = c.before.before in
     let at-equal-rows = at-flags.before.before.before.before in
     let at-corners = at-equal-rows.before.before.before.before in
     let at-keys = at-corners.before.before.before.before in
-    at-wipe.wipe.ensures.0.long ∙ (at-number-kept.number_kept.ensures.only.long ∙ (at-flags.flags.ensures.only.long ∙ (at-equal-rows.equal_rows.ensures.only.long ∙ at-keys.keys.ensures.only.long)))
+    at-wipe.wipe.ensures.only.long ∙ (at-number-kept.number_kept.ensures.only.long ∙ (at-flags.flags.ensures.only.long ∙ (at-equal-rows.equal_rows.ensures.only.long ∙ at-keys.keys.ensures.only.long)))
 
 pub returns : goal.returns
 returns c = let at-wipe = c.before.before in
@@ -254,4 +254,4 @@ returns c = let at-wipe = c.before.before in
     let at-enum-told = at-u32-at.before in
     let at-stl-check = at-enum-told.before.before in
     let start = at-stl-check.before.before.before.before.before in
-    is_done start.args.file.now start.args.points.now start.args.faces.now start.args.work.now _ at-stl-check.stl_check.ensures at-enum-told.in-Fine.is at-u32-at.u32_at-count.result at-u32-at.u32_at-count.ensures at-keys.keys.ensures at-equal-rows.equal_rows.ensures at-flags.flags.ensures at-number-kept.number_kept.ensures at-corners.corners.ensures at-retain-points.retain_points-p.ensures at-triples.triples.ensures at-clear-points.clear_points.ensures.0 at-clear-points.clear_points.ensures.1 at-wipe.wipe.ensures.0 at-wipe.wipe.ensures.1
+    is_done start.args.file.now start.args.points.now start.args.faces.now start.args.work.now _ at-stl-check.stl_check.ensures at-enum-told.in-Fine.is at-u32-at.u32_at-count.result at-u32-at.u32_at-count.ensures at-keys.keys.ensures at-equal-rows.equal_rows.ensures at-flags.flags.ensures at-number-kept.number_kept.ensures at-corners.corners.ensures at-retain-points.retain_points-p.ensures at-triples.triples.ensures at-clear-points.clear_points.ensures.only_of at-clear-points.clear_points.ensures.holds_of at-wipe.wipe.ensures.only at-wipe.wipe.ensures.filled

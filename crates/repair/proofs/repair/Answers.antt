@@ -151,5 +151,5 @@ returns c = let at-work = c.before.before in
     let refusal = fine.before.before in
     let a = refusal.args in
     is_done a.points.now a.faces.now a.s a.options a.out_points-1.now a.out_faces-1.now a.report-1.now a.origins-1.now a.work-1.now _ refusal.repair_refusal.ensures fine.in-Fine.is at-mend.mend-mended.ensures
-    at-points.wipe_points.ensures.0 at-points.wipe_points.ensures.1 at-faces.wipe.ensures.0 at-faces.wipe.ensures.1 at-report.write_report.ensures
-    at-origins.wipe-2.ensures.0 at-origins.wipe-2.ensures.1 at-work.wipe-3.ensures.0 at-work.wipe-3.ensures.1
+    at-points.wipe_points.ensures.only_of at-points.wipe_points.ensures.holds_of at-faces.wipe.ensures.only at-faces.wipe.ensures.filled at-report.write_report.ensures
+    at-origins.wipe-2.ensures.only at-origins.wipe-2.ensures.filled at-work.wipe-3.ensures.only at-work.wipe-3.ensures.filled

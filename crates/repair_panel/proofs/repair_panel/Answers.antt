@@ -165,8 +165,8 @@ returns c = let refusal = c.before.before.before.before.before.before.before.bef
     let start = c.before.before.before.before.before.before.before.before.before.before.before.before.before.before.before.before.before.before.before.before.before.before.before.before.before.before.before.before.before.before.before.before.before.before.before.before.before.before.before.before.before.before.before.before.before.before.before.before.before.before.before.before.before in
     let a = start.args in
     is_done a.points.now a.faces.now a.point-counts.now a.face_counts.now a.s a.options a.out_points-1.now a.out_faces-1.now a.report-1.now a.origins-1.now a.meshes-1.now a.work-1.now _ refusal.panel_refusal.ensures fine.in-Fine.is mended.mend_all-at.ensures start.well_formed.1.1.1.1.1.1.0.0 _ largest.largest-largest.ensures
-    c.wipe_points.ensures.0 c.wipe_points.ensures.1
-    c.wipe.ensures.0 c.wipe.ensures.1
-    c.wipe-2.ensures.0 c.wipe-2.ensures.1
-    c.wipe-3.ensures.0 c.wipe-3.ensures.1
-    c.wipe-4.ensures.0 c.wipe-4.ensures.1
+    c.wipe_points.ensures.only_of c.wipe_points.ensures.holds_of
+    c.wipe.ensures.only c.wipe.ensures.filled
+    c.wipe-2.ensures.only c.wipe-2.ensures.filled
+    c.wipe-3.ensures.only c.wipe-3.ensures.filled
+    c.wipe-4.ensures.only c.wipe-4.ensures.filled

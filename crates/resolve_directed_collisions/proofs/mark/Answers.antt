@@ -11,4 +11,4 @@ mark_edges-requires c = mark_ok c.requires
 
 pub returns : goal.returns
 returns c = let at_mark = c.before.before in
-    (marks_are at_mark.requires at_mark.mark_edges.ensures, refl)
+    record { fact = marks_are at_mark.requires at_mark.mark_edges.ensures; found_value = refl }

@@ -17,7 +17,7 @@ clear-requires c = let at_table = c.before.before.before in
 pub loop-r-init : goal.loop-r-init
 loop-r-init c = let at_clear = c.before.before in
     let at_table = at_clear.before.before.before.before in
-    begin _ at_table.requires at_table.table-m.ensures at_clear.clear.ensures.0 at_clear.clear.ensures.1
+    begin _ at_table.requires at_table.table-m.ensures at_clear.clear.ensures.only at_clear.clear.ensures.filled
 
 pub resolve_edge-requires : goal.resolve_edge-requires
 resolve_edge-requires c = run_ok c.loop-r.invariant c.loop-r-test.true
@@ -35,10 +35,10 @@ pub shape_of-work : goal.shape_of-work
 shape_of-work c = let at_clear = c.before.before.before.before in
     let at_table = at_clear.before.before.before.before in
     let start = at_table.before.before.before.before.before in
-    (done _ start.requires at_table.table-m.ensures at_clear.clear.ensures.0 _ (lost_marked start.args.points.now start.args.faces.now) c.loop-r.invariant c.loop-r-test.false).only.long
+    (done _ start.requires at_table.table-m.ensures at_clear.clear.ensures.only _ (lost_marked start.args.points.now start.args.faces.now) c.loop-r.invariant c.loop-r-test.false).only.long
 
 pub returns : goal.returns
 returns c = let at_clear = c.before.before.before.before in
     let at_table = at_clear.before.before.before.before in
     let start = at_table.before.before.before.before.before in
-    done _ start.requires at_table.table-m.ensures at_clear.clear.ensures.0 _ (lost_marked start.args.points.now start.args.faces.now) c.loop-r.invariant c.loop-r-test.false
+    done _ start.requires at_table.table-m.ensures at_clear.clear.ensures.only _ (lost_marked start.args.points.now start.args.faces.now) c.loop-r.invariant c.loop-r-test.false

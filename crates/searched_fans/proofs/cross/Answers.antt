@@ -16,43 +16,43 @@ returns-then-x-v c = nothing _ _ _ _ c.if-x-v.true
 
 -- src/lib.rt:74:9
 pub next_face-g-requires : goal.next_face-g-requires
-next_face-g-requires c = (first_asks c.requires.0, c.requires.1)
+next_face-g-requires c = record { next_asks = first_asks c.requires.cross_asks; indexed = c.requires.indexed }
 
 -- src/lib.rt:75:5
 pub loop-g-init : goal.loop-g-init
-loop-g-init c = begin c.requires.0 c.next_face-g.ensures
+loop-g-init c = begin c.requires.cross_asks c.next_face-g.ensures
 
 -- src/lib.rt:76:12
 pub meets-requires : goal.meets-requires
-meets-requires c = ask c.requires.0 c.loop-g.invariant c.loop-g-test.true
+meets-requires c = ask c.requires.cross_asks c.loop-g.invariant c.loop-g-test.true
 
 -- src/lib.rt:77:24
 pub offset_bounds-words-g : goal.offset_bounds-words-g
-offset_bounds-words-g c = omega (arith, turn c.requires.0 c.loop-g.invariant c.loop-g-test.true)
+offset_bounds-words-g c = omega (arith, turn c.requires.cross_asks c.loop-g.invariant c.loop-g-test.true)
 
 -- src/lib.rt:77:24
 pub bounds-words-g : goal.bounds-words-g
-bounds-words-g c = omega (arith, turn c.requires.0 c.loop-g.invariant c.loop-g-test.true)
+bounds-words-g c = omega (arith, turn c.requires.cross_asks c.loop-g.invariant c.loop-g-test.true)
 
 -- src/lib.rt:77:24
 pub overflow_add-words : goal.overflow_add-words
-overflow_add-words c = omega (arith, turn c.requires.0 c.loop-g.invariant c.loop-g-test.true)
+overflow_add-words c = omega (arith, turn c.requires.cross_asks c.loop-g.invariant c.loop-g-test.true)
 
 -- src/lib.rt:77:13
 pub offset_bounds-words-g-then-meets : goal.offset_bounds-words-g-then-meets
-offset_bounds-words-g-then-meets c = omega (arith, turn c.requires.0 c.loop-g.invariant c.loop-g-test.true)
+offset_bounds-words-g-then-meets c = omega (arith, turn c.requires.cross_asks c.loop-g.invariant c.loop-g-test.true)
 
 -- src/lib.rt:77:13
 pub bounds-words-g-then-meets : goal.bounds-words-g-then-meets
-bounds-words-g-then-meets c = omega (arith, turn c.requires.0 c.loop-g.invariant c.loop-g-test.true)
+bounds-words-g-then-meets c = omega (arith, turn c.requires.cross_asks c.loop-g.invariant c.loop-g-test.true)
 
 -- src/lib.rt:79:36
 pub overflow_add-g : goal.overflow_add-g
-overflow_add-g c = omega (arith, turn c.requires.0 c.loop-g.invariant c.loop-g-test.true)
+overflow_add-g c = omega (arith, turn c.requires.cross_asks c.loop-g.invariant c.loop-g-test.true)
 
 -- src/lib.rt:79:9
 pub next_face-g-requires-in-loop-g : goal.next_face-g-requires-in-loop-g
-next_face-g-requires-in-loop-g c = (next_asks c.requires.0 c.loop-g.invariant c.loop-g-test.true, c.requires.1)
+next_face-g-requires-in-loop-g c = record { next_asks = next_asks c.requires.cross_asks c.loop-g.invariant c.loop-g-test.true; indexed = c.requires.indexed }
 
 -- src/lib.rt:75:5
 pub loop-g-smaller : goal.loop-g-smaller
@@ -63,7 +63,7 @@ loop-g-smaller c = let a = c.before.before.before.before.before in
 pub loop-g-preserved : goal.loop-g-preserved
 loop-g-preserved c = let t = c.before.before.before.before in
     let a = t.before in
-    let p = a.requires.0 in
+    let p = a.requires.cross_asks in
     let q = c.next_face-g-in-loop-g.ensures in
     elim c.if-meets.branch [ then-meets w ↦ rw w.2 (hit p a.loop-g.invariant t.loop-g-test.true q (sym c.meets.ensures ∙ w.if-meets.true)) | else-meets w ↦ rw w.1 (miss p a.loop-g.invariant t.loop-g-test.true q (sym c.meets.ensures ∙ w.if-meets.false)) ]
 
@@ -73,4 +73,4 @@ shape_of-words c = c.loop-g.invariant.long
 
 -- src/lib.rt:67:1
 pub returns : goal.returns
-returns c = done c.requires.0 c.loop-g.invariant c.if-x-v.false c.loop-g-test.false
+returns c = done c.requires.cross_asks c.loop-g.invariant c.if-x-v.false c.loop-g-test.false

@@ -12,23 +12,23 @@ use Rattle.searched_fans.proofs.reach.Goals as goal
 
 -- src/lib.rt:151:16
 pub offset_bounds-words-f : goal.offset_bounds-words-f
-offset_bounds-words-f c = omega (arith, c.requires.0.here, c.requires.0.worded.few)
+offset_bounds-words-f c = omega (arith, c.requires.reach_asks.here, c.requires.reach_asks.worded.few)
 
 -- src/lib.rt:151:16
 pub bounds-words-f : goal.bounds-words-f
-bounds-words-f c = c.requires.0.here
+bounds-words-f c = c.requires.reach_asks.here
 
 -- src/lib.rt:151:16
 pub overflow_add-words : goal.overflow_add-words
-overflow_add-words c = let p = c.requires.0 in omega (arith, p.few c.args.f p.here)
+overflow_add-words c = let p = c.requires.reach_asks in omega (arith, p.few c.args.f p.here)
 
 -- src/lib.rt:151:5
 pub offset_bounds-words-f-2 : goal.offset_bounds-words-f-2
-offset_bounds-words-f-2 c = omega (arith, c.requires.0.here, c.requires.0.worded.few)
+offset_bounds-words-f-2 c = omega (arith, c.requires.reach_asks.here, c.requires.reach_asks.worded.few)
 
 -- src/lib.rt:151:5
 pub bounds-words-f-2 : goal.bounds-words-f-2
-bounds-words-f-2 c = c.requires.0.here
+bounds-words-f-2 c = c.requires.reach_asks.here
 
 -- src/lib.rt:153:5
 pub loop-i-init : goal.loop-i-init
@@ -37,20 +37,20 @@ loop-i-init c = λ base q e. subst (λ w. Spread q w c.args.f) (sym e) (begin q)
 -- src/lib.rt:154:9
 pub go_through-requires : goal.go_through-requires
 go_through-requires c = let a = c.before.before in
-    let p = a.requires.0 in
-    (asks p (a.loop-i.invariant _ p refl) c.loop-i-test.true, a.requires.1)
+    let p = a.requires.reach_asks in
+    record { through_asks = asks p (a.loop-i.invariant _ p refl) c.loop-i-test.true; indexed = a.requires.indexed }
 
 -- src/lib.rt:155:9
 pub next_waiting-i-requires : goal.next_waiting-i-requires
 next_waiting-i-requires c = let a = c.before.before.before.before.before.before in
-    let p = a.requires.0 in
+    let p = a.requires.reach_asks in
     omega (arith, c.go_through.ensures.long, (a.loop-i.invariant _ p refl).long, p.worded.few)
 
 -- src/lib.rt:153:5
 pub loop-i-smaller : goal.loop-i-smaller
 loop-i-smaller c = let t = c.before.before.before.before.before.before in
     let a = t.before in
-    let p = a.requires.0 in
+    let p = a.requires.reach_asks in
     fewer p (a.loop-i.invariant _ p refl) t.loop-i-test.true c.go_through.ensures
 
 -- src/lib.rt:153:5
@@ -62,13 +62,13 @@ loop-i-preserved c = let t = c.before.before.before.before.before.before in
 -- src/lib.rt:157:5
 pub settle-requires : goal.settle-requires
 settle-requires c = let a = c.before.before in
-    let p = a.requires.0 in
+    let p = a.requires.reach_asks in
     settle_asks p (a.loop-i.invariant _ p refl) c.loop-i-test.false
 
 -- src/lib.rt:147:1
 pub shape_of-words : goal.shape_of-words
 shape_of-words c = let a = c.before.before.before.before.before in
-    let p = a.requires.0 in
+    let p = a.requires.reach_asks in
     c.settle.ensures.long ∙ (a.loop-i.invariant _ p refl).long
 
 -- src/lib.rt:147:1

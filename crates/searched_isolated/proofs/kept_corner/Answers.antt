@@ -18,7 +18,7 @@ returns-then-met_at c = let at-met = c.before in
     let at-pick = at-met.before in
     let at-view = at-pick.before in
     let start = at-view.before.before.before.before in
-    corner_met start.requires.0 (at-pick.pick-v.ensures ∙ ap (λ g. pick_of g.a g.b g.c start.args.k) at-view.view-c.ensures) at-met.met_at.ensures c.if-met_at.true
+    corner_met start.requires.corner_asks (at-pick.pick-v.ensures ∙ ap (λ g. pick_of g.a g.b g.c start.args.k) at-view.view-c.ensures) at-met.met_at.ensures c.if-met_at.true
 
 -- src/lib.rt:39:5
 pub overflow_add-result : goal.overflow_add-result
@@ -30,4 +30,4 @@ returns c = let at-met = c.before.before in
     let at-pick = at-met.before in
     let at-view = at-pick.before in
     let start = at-view.before.before.before.before in
-    corner_first start.requires.0 (at-pick.pick-v.ensures ∙ ap (λ g. pick_of g.a g.b g.c start.args.k) at-view.view-c.ensures) at-met.met_at.ensures c.if-met_at.false c.number_length.ensures
+    corner_first start.requires.corner_asks (at-pick.pick-v.ensures ∙ ap (λ g. pick_of g.a g.b g.c start.args.k) at-view.view-c.ensures) at-met.met_at.ensures c.if-met_at.false c.number_length.ensures

@@ -23,7 +23,7 @@ pub returns-then-same : goal.returns-then-same
 returns-then-same c = let at_same = c.before in
     let at-view = at_same.before in
     let start = at-view.before.before.before.before in
-    face_single start.requires.0 (tested at_same.same.ensures at-view.view-c.ensures c.if-same.true)
+    face_single start.requires.face_asks (tested at_same.same.ensures at-view.view-c.ensures c.if-same.true)
 
 -- src/lib.rt:51:5
 pub overflow_add-result : goal.overflow_add-result
@@ -49,4 +49,4 @@ returns c = let at-else = c.before.before.before in
     let at_same = at-else.before in
     let at-view = at_same.before in
     let start = at-view.before.before.before.before in
-    face_several start.requires.0 (tested at_same.same.ensures at-view.view-c.ensures at-else.if-same.false) c.kept_corner.ensures c.kept_corner-2.ensures c.kept_corner-3.ensures
+    face_several start.requires.face_asks (tested at_same.same.ensures at-view.view-c.ensures at-else.if-same.false) c.kept_corner.ensures c.kept_corner-2.ensures c.kept_corner-3.ensures

@@ -23,17 +23,17 @@ stands-requires c = c.loop-f-test.true
 pub kept_face-bytes-requires : goal.kept_face-bytes-requires
 kept_face-bytes-requires c = let t = c.before.before in
     let start = t.before.before.before.before.before in
-    (record { worded = start.requires.0.worded; here = t.loop-f-test.true; standing = subst T (sym (sym c.stands.ensures ∙ c.if-stands.true)) tt }, start.requires.1)
+    record { face_asks = record { worded = start.requires.kept_asks.worded; here = t.loop-f-test.true; standing = subst T (sym (sym c.stands.ensures ∙ c.if-stands.true)) tt }; indexed = start.requires.indexed }
 
 -- src/lib.rt:65:21
 pub overflow_add-bytes : goal.overflow_add-bytes
 overflow_add-bytes c = let t = c.before.before.before in
     let start = t.before.before.before.before.before in
-    omega (arith, start.requires.0.worded.few, t.loop-f.invariant.few, t.loop-f-test.true, c.kept_face-bytes.ensures, face_most start.args.faces.now start.args.words.now t.loop-f.f)
+    omega (arith, start.requires.kept_asks.worded.few, t.loop-f.invariant.few, t.loop-f-test.true, c.kept_face-bytes.ensures, face_most start.args.faces.now start.args.words.now t.loop-f.f)
 
 -- src/lib.rt:67:9
 pub overflow_add-f : goal.overflow_add-f
-overflow_add-f c = omega (arith, c.loop-f-test.true, c.requires.0.worded.few)
+overflow_add-f c = omega (arith, c.loop-f-test.true, c.requires.kept_asks.worded.few)
 
 -- src/lib.rt:63:5
 pub loop-f-smaller : goal.loop-f-smaller

@@ -8,7 +8,7 @@ use Rattle.searched_length.proofs.all_lines.Reads as all-lines-reads
 use Rattle.searched_length.proofs.in_rows.Goals as goal
 
 pub slice_bounds-all_lines-end-2 : goal.slice_bounds-all_lines-end-2
-slice_bounds-all_lines-end-2 c = front c.requires c.clear.ensures.0
+slice_bounds-all_lines-end-2 c = front c.requires c.clear.ensures.only
 
 pub all_lines-requires : goal.all_lines-requires
-all_lines-requires c = rows_ask c.requires c.clear.ensures.0 c.clear.ensures.1 c.make_index.ensures
+all_lines-requires c = rows_ask c.requires c.clear.ensures.only c.clear.ensures.filled c.make_index.ensures

@@ -28,7 +28,7 @@ overflow_add-words c = let at-bit = c in
     let at_same = at-bit.before.before.before in
     let at-view = at_same.before in
     let start = at-view.before.before.before.before.before in
-    omega (arith, start.requires.0.few start.args.f start.requires.0.here, at-bit.bit.ensures, bit_most start.args.k)
+    omega (arith, start.requires.close_asks.few start.args.f start.requires.close_asks.here, at-bit.bit.ensures, bit_most start.args.k)
 
 -- src/lib.rt:147:20
 pub overflow_add-result : goal.overflow_add-result
@@ -48,7 +48,7 @@ returns-then-gives c = let at-number-length = c in
     let at_same = at-bit.before.before.before in
     let at-view = at_same.before in
     let start = at-view.before.before.before.before.before in
-    given start.requires.0 (subst T (sym (tested at_same.same.ensures at-view.view-c.ensures at-bit.if-same.true)) tt) at-bit.bit.ensures (sym at_gives.gives.ensures ∙ c.if-gives.true) at-number-length.number_length.ensures
+    given start.requires.close_asks (subst T (sym (tested at_same.same.ensures at-view.view-c.ensures at-bit.if-same.true)) tt) at-bit.bit.ensures (sym at_gives.gives.ensures ∙ c.if-gives.true) at-number-length.number_length.ensures
 
 -- src/lib.rt:149:9
 pub returns-then-same : goal.returns-then-same
@@ -57,14 +57,14 @@ returns-then-same c = let at_gives = c.before in
     let at_same = at-bit.before.before.before in
     let at-view = at_same.before in
     let start = at-view.before.before.before.before.before in
-    kept start.requires.0 (subst T (sym (tested at_same.same.ensures at-view.view-c.ensures at-bit.if-same.true)) tt) at-bit.bit.ensures (sym at_gives.gives.ensures ∙ c.if-gives.false)
+    kept start.requires.close_asks (subst T (sym (tested at_same.same.ensures at-view.view-c.ensures at-bit.if-same.true)) tt) at-bit.bit.ensures (sym at_gives.gives.ensures ∙ c.if-gives.false)
 
 -- src/lib.rt:151:5
 pub reach-requires : goal.reach-requires
 reach-requires c = let at_same = c.before.before in
     let at-view = at_same.before in
     let start = at-view.before.before.before.before.before in
-    (reach_ask start.requires.0 (tested at_same.same.ensures at-view.view-c.ensures c.if-same.false), start.requires.1)
+    record { reach_asks = reach_ask start.requires.close_asks (tested at_same.same.ensures at-view.view-c.ensures c.if-same.false); indexed = start.requires.indexed }
 
 -- src/lib.rt:138:1
 pub returns : goal.returns
@@ -73,4 +73,4 @@ returns c = let at-reach = c.before.before in
     let at-view = at_same.before in
     let start = at-view.before.before.before.before.before in
     let e = tested at_same.same.ensures at-view.view-c.ensures at-reach.if-same.false in
-    reached start.requires.0 e (at-reach.reach.ensures (reach_ask start.requires.0 e))
+    reached start.requires.close_asks e (at-reach.reach.ensures (reach_ask start.requires.close_asks e))

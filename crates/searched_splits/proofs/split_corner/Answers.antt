@@ -31,7 +31,7 @@ close-taken-requires c = let at-met-at = c.before in
     let at-flagged = at-view.before.before.before in
     let start = at-flagged.before.before.before.before.before in
     let pe = at-pick.pick-v.ensures ∙ ap (λ g. pick_of g.a g.b g.c start.args.k) at-view.view-c.ensures in
-    (close_ask start.requires.0 at-flagged.flagged.ensures at-view.if-flagged.false pe, start.requires.1)
+    record { close_asks = close_ask start.requires.corner_asks at-flagged.flagged.ensures at-view.if-flagged.false pe; indexed = start.requires.indexed }
 
 -- src/lib.rt:175:9
 pub returns-then-not-extra : goal.returns-then-not-extra
@@ -65,7 +65,7 @@ overflow_add-words c = let at-bit = c in
     let at-flagged = at-view.before.before.before in
     let start = at-flagged.before.before.before.before.before in
     let pe = at-pick.pick-v.ensures ∙ ap (λ g. pick_of g.a g.b g.c start.args.k) at-view.view-c.ensures in
-    omega (arith, at-bit.bit.ensures, bit_most start.args.k, mark_small start.requires.0 at-flagged.flagged.ensures at-view.if-flagged.false pe at-close.close-taken.ensures)
+    omega (arith, at-bit.bit.ensures, bit_most start.args.k, mark_small start.requires.corner_asks at-flagged.flagged.ensures at-view.if-flagged.false pe at-close.close-taken.ensures)
 
 -- src/lib.rt:177:5
 pub offset_bounds-words-f-3 : goal.offset_bounds-words-f-3
@@ -76,7 +76,7 @@ offset_bounds-words-f-3 c = let at-bit = c in
     let at-view = at-pick.before in
     let at-flagged = at-view.before.before.before in
     let start = at-flagged.before.before.before.before.before in
-    omega (arith, start.requires.0.here, start.requires.0.split.worded.few)
+    omega (arith, start.requires.corner_asks.here, start.requires.corner_asks.split.worded.few)
 
 -- src/lib.rt:179:30
 pub overflow_add-points : goal.overflow_add-points
@@ -88,7 +88,7 @@ overflow_add-points c = let at-number-length = c in
     let at-view = at-pick.before in
     let at-flagged = at-view.before.before.before in
     let start = at-flagged.before.before.before.before.before in
-    omega (arith, bounds start.requires.0)
+    omega (arith, bounds start.requires.corner_asks)
 
 -- src/lib.rt:179:29
 pub overflow_cast-points : goal.overflow_cast-points
@@ -100,7 +100,7 @@ overflow_cast-points c = let at-number-length = c in
     let at-view = at-pick.before in
     let at-flagged = at-view.before.before.before in
     let start = at-flagged.before.before.before.before.before in
-    omega (arith, bounds start.requires.0)
+    omega (arith, bounds start.requires.corner_asks)
 
 -- src/lib.rt:180:20
 pub overflow_add-result : goal.overflow_add-result
@@ -113,7 +113,7 @@ overflow_add-result c = let at-number-length2 = c in
     let at-view = at-pick.before in
     let at-flagged = at-view.before.before.before in
     let start = at-flagged.before.before.before.before.before in
-    omega (arith, bounds start.requires.0, at-number-length.number_length-old.ensures, at-number-length2.number_length-new.ensures, at-close.close-taken.ensures.most, decimal_short at-pick.pick-v.result, decimal_short (start.args.points + start.args.splits))
+    omega (arith, bounds start.requires.corner_asks, at-number-length.number_length-old.ensures, at-number-length2.number_length-new.ensures, at-close.close-taken.ensures.most, decimal_short at-pick.pick-v.result, decimal_short (start.args.points + start.args.splits))
 
 -- src/lib.rt:180:39
 pub overflow_add-result-2 : goal.overflow_add-result-2
@@ -126,7 +126,7 @@ overflow_add-result-2 c = let at-number-length2 = c in
     let at-view = at-pick.before in
     let at-flagged = at-view.before.before.before in
     let start = at-flagged.before.before.before.before.before in
-    omega (arith, bounds start.requires.0, at-number-length.number_length-old.ensures, at-number-length2.number_length-new.ensures, at-close.close-taken.ensures.most, decimal_short at-pick.pick-v.result, decimal_short (start.args.points + start.args.splits))
+    omega (arith, bounds start.requires.corner_asks, at-number-length.number_length-old.ensures, at-number-length2.number_length-new.ensures, at-close.close-taken.ensures.most, decimal_short at-pick.pick-v.result, decimal_short (start.args.points + start.args.splits))
 
 -- src/lib.rt:180:39
 pub overflow_add-result-3 : goal.overflow_add-result-3
@@ -139,7 +139,7 @@ overflow_add-result-3 c = let at-number-length2 = c in
     let at-view = at-pick.before in
     let at-flagged = at-view.before.before.before in
     let start = at-flagged.before.before.before.before.before in
-    omega (arith, bounds start.requires.0, at-number-length.number_length-old.ensures, at-number-length2.number_length-new.ensures, at-close.close-taken.ensures.most, decimal_short at-pick.pick-v.result, decimal_short (start.args.points + start.args.splits))
+    omega (arith, bounds start.requires.corner_asks, at-number-length.number_length-old.ensures, at-number-length2.number_length-new.ensures, at-close.close-taken.ensures.most, decimal_short at-pick.pick-v.result, decimal_short (start.args.points + start.args.splits))
 
 -- src/lib.rt:180:39
 pub overflow_add-result-4 : goal.overflow_add-result-4
@@ -152,7 +152,7 @@ overflow_add-result-4 c = let at-number-length2 = c in
     let at-view = at-pick.before in
     let at-flagged = at-view.before.before.before in
     let start = at-flagged.before.before.before.before.before in
-    omega (arith, bounds start.requires.0, at-number-length.number_length-old.ensures, at-number-length2.number_length-new.ensures, at-close.close-taken.ensures.most, decimal_short at-pick.pick-v.result, decimal_short (start.args.points + start.args.splits))
+    omega (arith, bounds start.requires.corner_asks, at-number-length.number_length-old.ensures, at-number-length2.number_length-new.ensures, at-close.close-taken.ensures.most, decimal_short at-pick.pick-v.result, decimal_short (start.args.points + start.args.splits))
 
 -- src/lib.rt:180:39
 pub overflow_add-result-5 : goal.overflow_add-result-5
@@ -165,7 +165,7 @@ overflow_add-result-5 c = let at-number-length2 = c in
     let at-view = at-pick.before in
     let at-flagged = at-view.before.before.before in
     let start = at-flagged.before.before.before.before.before in
-    omega (arith, bounds start.requires.0, at-number-length.number_length-old.ensures, at-number-length2.number_length-new.ensures, at-close.close-taken.ensures.most, decimal_short at-pick.pick-v.result, decimal_short (start.args.points + start.args.splits))
+    omega (arith, bounds start.requires.corner_asks, at-number-length.number_length-old.ensures, at-number-length2.number_length-new.ensures, at-close.close-taken.ensures.most, decimal_short at-pick.pick-v.result, decimal_short (start.args.points + start.args.splits))
 
 -- src/lib.rt:155:1
 pub returns : goal.returns

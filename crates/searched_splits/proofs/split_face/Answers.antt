@@ -8,26 +8,26 @@ use Rattle.searched_splits.proofs.split_face.Goals as goal
 -- src/lib.rt:195:9
 pub split_corner-first-requires : goal.split_corner-first-requires
 split_corner-first-requires c = let start = c.before.before.before.before in
-    (corner_zero start.requires.0, start.requires.1)
+    record { corner_asks = corner_zero start.requires.face_asks; indexed = start.requires.indexed }
 
 -- src/lib.rt:196:9
 pub split_corner-second-requires : goal.split_corner-second-requires
 split_corner-second-requires c = let at-split-corner = c.before.before.before in
     let start = at-split-corner.before.before.before.before.before in
-    let z = corner_zero start.requires.0 in
+    let z = corner_zero start.requires.face_asks in
     let one_is = at-split-corner.split_corner-first.ensures z in
-    (corner_one start.requires.0 one_is, start.requires.1)
+    record { corner_asks = corner_one start.requires.face_asks one_is; indexed = start.requires.indexed }
 
 -- src/lib.rt:197:5
 pub split_corner-requires : goal.split_corner-requires
 split_corner-requires c = let at-split-corner2 = c.before.before.before in
     let at-split-corner = at-split-corner2.before.before.before.before in
     let start = at-split-corner.before.before.before.before.before in
-    let z = corner_zero start.requires.0 in
+    let z = corner_zero start.requires.face_asks in
     let one_is = at-split-corner.split_corner-first.ensures z in
-    let o = corner_one start.requires.0 one_is in
+    let o = corner_one start.requires.face_asks one_is in
     let two_is = at-split-corner2.split_corner-second.ensures o in
-    (corner_two start.requires.0 one_is two_is, start.requires.1)
+    record { corner_asks = corner_two start.requires.face_asks one_is two_is; indexed = start.requires.indexed }
 
 -- src/lib.rt:184:1
 pub returns : goal.returns

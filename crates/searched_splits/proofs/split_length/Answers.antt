@@ -12,7 +12,7 @@ use Rattle.searched_splits.proofs.split_length.Goals as goal
 
 -- src/lib.rt:209:5
 pub loop-f-init : goal.loop-f-init
-loop-f-init c = begin c.requires.0
+loop-f-init c = begin c.requires.split_asks
 
 -- src/lib.rt:210:12
 pub stands-requires : goal.stands-requires
@@ -22,12 +22,12 @@ stands-requires c = c.loop-f-test.true
 pub split_face-told-requires : goal.split_face-told-requires
 split_face-told-requires c = let t = c.before.before.before.before in
     let a = t.before in
-    (ask a.requires.0 a.loop-f.invariant t.loop-f-test.true (sym c.stands.ensures ∙ c.if-stands.true), a.requires.1)
+    record { face_asks = ask a.requires.split_asks a.loop-f.invariant t.loop-f-test.true (sym c.stands.ensures ∙ c.if-stands.true); indexed = a.requires.indexed }
 
 -- src/lib.rt:215:9
 pub overflow_add-f : goal.overflow_add-f
 overflow_add-f c = let a = c.before.before.before.before in
-    omega (arith, c.loop-f-test.true, a.loop-f.invariant.stage.long, a.requires.0.worded.few)
+    omega (arith, c.loop-f-test.true, a.loop-f.invariant.stage.long, a.requires.split_asks.worded.few)
 
 -- src/lib.rt:209:5
 pub loop-f-smaller : goal.loop-f-smaller
@@ -37,7 +37,7 @@ loop-f-smaller c = omega (arith, c.loop-f-test.true, c.loop-f.invariant.stage.lo
 pub loop-f-preserved : goal.loop-f-preserved
 loop-f-preserved c = let t = c.before.before.before in
     let a = t.before in
-    let p = a.requires.0 in
+    let p = a.requires.split_asks in
     ⊎_elim
     (λ w.
     let e = sym c.stands.ensures ∙ w.0.taken in
@@ -51,4 +51,4 @@ shape_of-words c = c.loop-f.invariant.stage.long
 
 -- src/lib.rt:202:1
 pub returns : goal.returns
-returns c = done c.requires.0 c.loop-f.invariant c.loop-f-test.false
+returns c = done c.requires.split_asks c.loop-f.invariant c.loop-f-test.false

@@ -11,19 +11,19 @@ use Rattle.searched_walk.proofs.across.Goals as goal
 
 -- src/lib.rt:134:9
 pub next_indexed-g-requires : goal.next_indexed-g-requires
-next_indexed-g-requires c = (c.requires.1, candidate_ok c.requires.0.ready.worded 0 (omega arith))
+next_indexed-g-requires c = record { indexed = c.requires.indexed; candidate_asks = candidate_ok c.requires.meet_asks.ready.worded 0 (omega arith) }
 
 -- src/lib.rt:135:5
 pub loop-g-init : goal.loop-g-init
-loop-g-init c = let start = c.before.before.before.before in cross_begin start.requires.0 start.args.a start.args.b c.next_indexed-g.ensures
+loop-g-init c = let start = c.before.before.before.before in cross_begin start.requires.meet_asks start.args.a start.args.b c.next_indexed-g.ensures
 
 -- src/lib.rt:136:9
 pub meet_face-now-requires : goal.meet_face-now-requires
-meet_face-now-requires c = let start = c.before.before.before.before.before.before.before in cross_ask start.requires.0 start.args.a start.args.b c.loop-g.invariant c.loop-g-test.true
+meet_face-now-requires c = let start = c.before.before.before.before.before.before.before in cross_ask start.requires.meet_asks start.args.a start.args.b c.loop-g.invariant c.loop-g-test.true
 
 -- src/lib.rt:137:9
 pub next_indexed-g-requires-in-loop-g : goal.next_indexed-g-requires-in-loop-g
-next_indexed-g-requires-in-loop-g c = let start = c.before.before.before.before.before.before.before.before.before.before in let at = c.before.before.before.before.before in (start.requires.1, candidate_ok start.requires.0.ready.worded (at.loop-g.g + 1) (omega (arith, at.loop-g.invariant.gives.kept.long, c.loop-g-test.true)))
+next_indexed-g-requires-in-loop-g c = let start = c.before.before.before.before.before.before.before.before.before.before in let at = c.before.before.before.before.before in record { indexed = start.requires.indexed; candidate_asks = candidate_ok start.requires.meet_asks.ready.worded (at.loop-g.g + 1) (omega (arith, at.loop-g.invariant.gives.kept.long, c.loop-g-test.true)) }
 
 -- src/lib.rt:135:5
 pub loop-g-smaller : goal.loop-g-smaller
@@ -31,7 +31,7 @@ loop-g-smaller c = let at = c.before.before.before.before.before.before in omega
 
 -- src/lib.rt:135:5
 pub loop-g-preserved : goal.loop-g-preserved
-loop-g-preserved c = let start = c.before.before.before.before.before.before.before.before.before.before.before in cross_again start.requires.0 start.args.a start.args.b c.loop-g.invariant c.loop-g-test.true c.meet_face-now.ensures c.next_indexed-g-in-loop-g.ensures
+loop-g-preserved c = let start = c.before.before.before.before.before.before.before.before.before.before.before in cross_again start.requires.meet_asks start.args.a start.args.b c.loop-g.invariant c.loop-g-test.true c.meet_face-now.ensures c.next_indexed-g-in-loop-g.ensures
 
 -- src/lib.rt:129:1
 pub shape_of-words : goal.shape_of-words
@@ -39,4 +39,4 @@ shape_of-words c = c.loop-g.invariant.gives.kept.long
 
 -- src/lib.rt:129:1
 pub returns : goal.returns
-returns c = let start = c.before.before.before.before.before.before in cross_done start.requires.0 start.args.a start.args.b c.loop-g.invariant c.loop-g-test.false
+returns c = let start = c.before.before.before.before.before.before in cross_done start.requires.meet_asks start.args.a start.args.b c.loop-g.invariant c.loop-g-test.false

@@ -8,11 +8,11 @@ use Rattle.searched_walk.proofs.cross_face.Goals as goal
 
 -- src/lib.rt:149:9
 pub across-second-requires : goal.across-second-requires
-across-second-requires c = (still_ask c.requires.0 c.across-first.ensures, c.requires.1)
+across-second-requires c = record { meet_asks = still_ask c.requires.meet_asks c.across-first.ensures; indexed = c.requires.indexed }
 
 -- src/lib.rt:150:5
 pub across-requires : goal.across-requires
-across-requires c = (still_ask (still_ask c.requires.0 c.across-first.ensures) c.across-second.ensures, c.requires.1)
+across-requires c = record { meet_asks = still_ask (still_ask c.requires.meet_asks c.across-first.ensures) c.across-second.ensures; indexed = c.requires.indexed }
 
 -- src/lib.rt:143:1
 pub returns : goal.returns

@@ -8,7 +8,7 @@ use Rattle.searched_walk.proofs.empty_stack.Goals as goal
 
 -- src/lib.rt:176:5
 pub loop-left-init : goal.loop-left-init
-loop-left-init c = empty_begin c.args.n c.requires.0
+loop-left-init c = empty_begin c.args.n c.requires.ready
 
 -- src/lib.rt:178:13
 pub shape_of-words-then-now-eq0 : goal.shape_of-words-then-now-eq0
@@ -20,7 +20,7 @@ returns-then-now-eq0 c = empty_stop c.loop-left.invariant c.if-now-eq0.true
 
 -- src/lib.rt:180:9
 pub pop-now-requires : goal.pop-now-requires
-pop-now-requires c = (empty_ask c.loop-left.invariant c.if-now-eq0.false, c.requires.1)
+pop-now-requires c = record { pop_asks = empty_ask c.loop-left.invariant c.if-now-eq0.false; indexed = c.requires.indexed }
 
 -- src/lib.rt:181:9
 pub overflow_sub-left : goal.overflow_sub-left

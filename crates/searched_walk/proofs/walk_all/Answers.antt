@@ -9,11 +9,11 @@ use Rattle.searched_walk.proofs.walk_all.Goals as goal
 
 -- src/lib.rt:252:5
 pub loop-f-init : goal.loop-f-init
-loop-f-init c = all_begin c.requires.0
+loop-f-init c = all_begin c.requires.all_asks
 
 -- src/lib.rt:253:9
 pub begin-now-requires : goal.begin-now-requires
-begin-now-requires c = (all_ask c.requires.0 c.loop-f.invariant c.loop-f-test.true, c.requires.1)
+begin-now-requires c = record { begin_asks = all_ask c.requires.all_asks c.loop-f.invariant c.loop-f-test.true; indexed = c.requires.indexed }
 
 -- src/lib.rt:252:5
 pub loop-f-smaller : goal.loop-f-smaller
@@ -21,7 +21,7 @@ loop-f-smaller c = omega (arith, c.loop-f.invariant.kept.long, c.loop-f-test.tru
 
 -- src/lib.rt:252:5
 pub loop-f-preserved : goal.loop-f-preserved
-loop-f-preserved c = all_again c.requires.0 c.loop-f.invariant c.loop-f-test.true c.begin-now.ensures
+loop-f-preserved c = all_again c.requires.all_asks c.loop-f.invariant c.loop-f-test.true c.begin-now.ensures
 
 -- src/lib.rt:240:1
 pub shape_of-words : goal.shape_of-words
@@ -29,4 +29,4 @@ shape_of-words c = c.loop-f.invariant.kept.long
 
 -- src/lib.rt:240:1
 pub returns : goal.returns
-returns c = all_done c.requires.0 c.loop-f.invariant c.loop-f-test.false
+returns c = all_done c.requires.all_asks c.loop-f.invariant c.loop-f-test.false

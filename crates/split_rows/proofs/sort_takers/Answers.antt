@@ -59,11 +59,11 @@ pub order-requires : goal.order-requires
 order-requires c = let at_clear = c.before.before.before in
     let at-copy-row = at_clear.before.before.before.before in
     let start = at-copy-row.before.before.before.before in
-    order_ok start.requires at-copy-row.copy_row.ensures at_clear.clear.ensures.0 at_clear.clear.ensures.1
+    order_ok start.requires at-copy-row.copy_row.ensures at_clear.clear.ensures.only at_clear.clear.ensures.filled
 
 pub returns : goal.returns
 returns c = let at-order = c.before.before in
     let at_clear = at-order.before.before.before.before in
     let at-copy-row = at_clear.before.before.before.before in
     let start = at-copy-row.before.before.before.before in
-    done start.requires at-copy-row.copy_row.ensures at_clear.clear.ensures.0 at_clear.clear.ensures.1 at-order.order.ensures
+    done start.requires at-copy-row.copy_row.ensures at_clear.clear.ensures.only at_clear.clear.ensures.filled at-order.order.ensures

@@ -81,4 +81,4 @@ returns c = let at_fill_lem = c.before.before in
     let at-number-run = at_fill_lem.before.before.before.before in
     let at-run-end = at-number-run.before.before in
     let start = at-run-end.before.before.before in
-    λ q. done q at-run-end.run_end-end.ensures at-number-run.number_run-free.ensures at_fill_lem.fill.ensures.0 at_fill_lem.fill.ensures.1
+    λ q. done q at-run-end.run_end-end.ensures at-number-run.number_run-free.ensures at_fill_lem.fill.ensures.only at_fill_lem.fill.ensures.filled

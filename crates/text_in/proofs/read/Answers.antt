@@ -6,16 +6,16 @@ use Rattle.text_in.proofs.Lines.{too_long, no_line, not_opened, opened_read}
 use Rattle.text_in.proofs.read.Goals as goal
 
 pub returns-then-text-gt8192 : goal.returns-then-text-gt8192
-returns-then-text-gt8192 c = (too_long _ c.if-text-gt8192.true, tt)
+returns-then-text-gt8192 c = record { faces_after = too_long _ c.if-text-gt8192.true; told_within = tt }
 
 pub returns-then-end-text : goal.returns-then-end-text
-returns-then-end-text c = (no_line c.if-text-gt8192.false c.find-end.ensures c.if-end-text.true, tt)
+returns-then-end-text c = record { faces_after = no_line c.if-text-gt8192.false c.find-end.ensures c.if-end-text.true; told_within = tt }
 
 pub slice_bounds-first_line-end : goal.slice_bounds-first_line-end
 slice_bounds-first_line-end c = sym (length_part _ 0 _ (omega (arith, c.find-end.ensures.ends)))
 
 pub returns-in-Bad : goal.returns-in-Bad
-returns-in-Bad c = (not_opened c.if-text-gt8192.false c.find-end.ensures c.if-end-text.false (rw c.in-Bad.is at c.first_line.ensures), tt)
+returns-in-Bad c = record { faces_after = not_opened c.if-text-gt8192.false c.find-end.ensures c.if-end-text.false (rw c.in-Bad.is at c.first_line.ensures); told_within = tt }
 
 pub returns-in-Job : goal.returns-in-Job
-returns-in-Job c = (opened_read c.if-text-gt8192.false c.find-end.ensures c.if-end-text.false (rw c.in-Job.is at c.first_line.ensures) c.read_lines.ensures.0, c.read_lines.ensures.1)
+returns-in-Job c = record { faces_after = opened_read c.if-text-gt8192.false c.find-end.ensures c.if-end-text.false (rw c.in-Job.is at c.first_line.ensures) c.read_lines.ensures.faces_after; told_within = c.read_lines.ensures.told_within }

@@ -18,7 +18,7 @@ pub shape_of-faces-then-end-text : goal.shape_of-faces-then-end-text
 shape_of-faces-then-end-text c = c.loop-at.invariant.long_faces
 
 pub returns-then-end-text : goal.returns-then-end-text
-returns-then-end-text c = (unended c.loop-at.invariant c.loop-at-test.true c.find-end.ensures c.if-end-text.true, tt)
+returns-then-end-text c = record { faces_after = unended c.loop-at.invariant c.loop-at-test.true c.find-end.ensures c.if-end-text.true; told_within = tt }
 
 pub slice_bounds-add_line-count : goal.slice_bounds-add_line-count
 slice_bounds-add_line-count c = omega (arith, c.find-end.ensures.begins)
@@ -33,7 +33,7 @@ pub shape_of-faces-in-Bad : goal.shape_of-faces-in-Bad
 shape_of-faces-in-Bad c = c.add_line.ensures.long_faces ∙ c.loop-at.invariant.long_faces
 
 pub returns-in-Bad : goal.returns-in-Bad
-returns-in-Bad c = (bad c.loop-at.invariant c.loop-at-test.true c.find-end.ensures c.if-end-text.false c.add_line.ensures c.in-Bad.is, tt)
+returns-in-Bad c = record { faces_after = bad c.loop-at.invariant c.loop-at-test.true c.find-end.ensures c.if-end-text.false c.add_line.ensures c.in-Bad.is; told_within = tt }
 
 pub overflow_add-at : goal.overflow_add-at
 overflow_add-at c = omega (arith, c.find-end.ensures.ends, c.if-end-text.false)
@@ -51,4 +51,4 @@ pub shape_of-faces : goal.shape_of-faces
 shape_of-faces c = c.loop-at.invariant.long_faces
 
 pub returns : goal.returns
-returns c = (done c.loop-at.invariant c.loop-at-test.false, (c.loop-at.invariant.rooms.few_points, c.loop-at.invariant.rooms.few_faces))
+returns c = record { faces_after = done c.loop-at.invariant c.loop-at-test.false; told_within = (c.loop-at.invariant.rooms.few_points, c.loop-at.invariant.rooms.few_faces) }

@@ -13,7 +13,7 @@ pub clear-requires : goal.clear-requires
 clear-requires c = omega (arith, c.lesser-width.ensures, c.lesser.ensures)
 
 pub pass-requires : goal.pass-requires
-pass-requires c = first_asks c.requires (omega (arith, c.lesser-width.ensures, c.lesser.ensures)) (omega (arith, c.lesser-width.ensures, c.lesser.ensures)) (omega (arith, c.lesser-width.ensures, c.lesser.ensures, c.clear.auto.0)) c.clear.ensures.1
+pass-requires c = first_asks c.requires (omega (arith, c.lesser-width.ensures, c.lesser.ensures)) (omega (arith, c.lesser-width.ensures, c.lesser.ensures)) (omega (arith, c.lesser-width.ensures, c.lesser.ensures, c.clear.auto.0)) c.clear.ensures.filled
 
 pub start-t-requires : goal.start-t-requires
 start-t-requires c = tt
@@ -37,13 +37,13 @@ pub shape_of-entries-then-t : goal.shape_of-entries-then-t
 shape_of-entries-then-t c = c.advance-s.auto.1.1.1.1.1.1.1.1.0 ∙ c.loop-v.invariant.entries_long
 
 pub returns-then-t : goal.returns-then-t
-returns-then-t c = crowd c.requires c.loop-v.invariant c.advance-s.ensures.0 c.advance-s.ensures.1.1 c.if-t.true
+returns-then-t c = crowd c.requires c.loop-v.invariant c.advance-s.ensures.advance_gives c.advance-s.ensures.v_lt_v.1 c.if-t.true
 
 pub loop-v-smaller : goal.loop-v-smaller
-loop-v-smaller c = let h = c.loop-v-test.true in let q = c.advance-s.ensures.1 in omega (arith, q.0, q.1)
+loop-v-smaller c = let h = c.loop-v-test.true in let q = c.advance-s.ensures.v_lt_v in omega (arith, q.0, q.1)
 
 pub loop-v-preserved : goal.loop-v-preserved
-loop-v-preserved c = again c.requires c.loop-v.invariant c.advance-s.ensures.0 c.advance-s.ensures.1.1 c.if-t.false c.advance-s.auto.1.1.1.1.1.0 c.advance-s.auto.1.1.1.1.1.1.0 c.advance-s.auto.1.1.1.1.1.1.1.0 c.advance-s.auto.1.1.1.1.1.1.1.1.0
+loop-v-preserved c = again c.requires c.loop-v.invariant c.advance-s.ensures.advance_gives c.advance-s.ensures.v_lt_v.1 c.if-t.false c.advance-s.auto.1.1.1.1.1.0 c.advance-s.auto.1.1.1.1.1.1.0 c.advance-s.auto.1.1.1.1.1.1.1.0 c.advance-s.auto.1.1.1.1.1.1.1.1.0
 
 pub shape_of-ends : goal.shape_of-ends
 shape_of-ends c = c.loop-v.invariant.ends_long ∙ c.pass.auto.1.1.1.1.0

@@ -42,4 +42,4 @@ shape_of-points c = c.loop-i.invariant.only.long
 
 pub returns : goal.returns
 returns c = let e : c.loop-i.i ≡ c.args.n = omega arith in
-    rw (← e) (c.loop-i.invariant.only, c.loop-i.invariant.zeros)
+    rw (← e) (record { only_of = c.loop-i.invariant.only; holds_of = c.loop-i.invariant.zeros })

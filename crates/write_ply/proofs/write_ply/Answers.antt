@@ -42,4 +42,4 @@ returns c = let told = c.before.before.before.before.before.before.before.before
     let at-check = told.before.before in
     let start = at-check.before.before.before.before.before in
     is_done start.args.points.now start.args.faces.now start.args.file.now start.args.work.now at-check.write_ply_refusal.result at-check.write_ply_refusal.ensures told.in-Fine.is c.put_header-a.ensures c.put_reals-b.ensures c.put_triples-c.ensures
-    c.stated_work.ensures c.wipe.ensures.0 c.wipe.ensures.1
+    c.stated_work.ensures c.wipe.ensures.only c.wipe.ensures.filled

@@ -20,7 +20,7 @@ trace-requires c = let at_fill_lem = c.before.before.before in
     let test = told.in-Fine.is in
     let cleared = at_clear.clear.ensures in
     let filled = at_fill_lem.fill.ensures in
-    trace_asks start.requires at-crowd.crowd-found.ensures test cleared.0 cleared.1 filled.0 filled.1
+    trace_asks start.requires at-crowd.crowd-found.ensures test cleared.only cleared.filled filled.only filled.filled
 
 pub returns-then-v-count : goal.returns-then-v-count
 returns-then-v-count c = let at-uneven = c.before in
@@ -33,7 +33,7 @@ returns-then-v-count c = let at-uneven = c.before in
     let test = told.in-Fine.is in
     let cleared = at_clear.clear.ensures in
     let filled = at_fill_lem.fill.ensures in
-    refused_eight start.requires at-crowd.crowd-found.ensures test cleared.0 cleared.1 filled.0 filled.1 at-trace.trace.ensures at-uneven.uneven-v.ensures c.if-v-count.true
+    refused_eight start.requires at-crowd.crowd-found.ensures test cleared.only cleared.filled filled.only filled.filled at-trace.trace.ensures at-uneven.uneven-v.ensures c.if-v-count.true
 
 pub returns : goal.returns
 returns c = let at-uneven = c.before in
@@ -46,4 +46,4 @@ returns c = let at-uneven = c.before in
     let test = told.in-Fine.is in
     let cleared = at_clear.clear.ensures in
     let filled = at_fill_lem.fill.ensures in
-    fine start.requires at-crowd.crowd-found.ensures test cleared.0 cleared.1 filled.0 filled.1 at-trace.trace.ensures at-uneven.uneven-v.ensures c.if-v-count.false
+    fine start.requires at-crowd.crowd-found.ensures test cleared.only cleared.filled filled.only filled.filled at-trace.trace.ensures at-uneven.uneven-v.ensures c.if-v-count.false

@@ -38,4 +38,4 @@ wipe-requires c = let t = c.before.before.before.before.before in
 pub returns : goal.returns
 returns c = let t = c.before.before.before.before.before.before.before.before in
     let g = c.wipe.ensures in
-    is_done _ _ _ _ t.edge_check_refusal.ensures t.in-Fine.is c.sound-answer.ensures g.0 g.1
+    is_done _ _ _ _ t.edge_check_refusal.ensures t.in-Fine.is c.sound-answer.ensures g.only g.filled

@@ -17,7 +17,7 @@ met_once-requires c = let at_clear = c.before.before.before in
     let at-lead-corners = at_clear.before.before.before.before in
     let start = at-lead-corners.before.before.before.before in
     let g = at_clear.clear.ensures in
-    met_asks start.requires at-lead-corners.lead_corners.ensures g.0 g.1
+    met_asks start.requires at-lead-corners.lead_corners.ensures g.only g.filled
 
 pub returns : goal.returns
 returns c = let at-met-once = c.before.before in
@@ -25,4 +25,4 @@ returns c = let at-met-once = c.before.before in
     let at-lead-corners = at_clear.before.before.before.before in
     let start = at-lead-corners.before.before.before.before in
     let g = at_clear.clear.ensures in
-    met_gives start.requires at-lead-corners.lead_corners.ensures g.0 g.1 at-met-once.met_once.ensures
+    met_gives start.requires at-lead-corners.lead_corners.ensures g.only g.filled at-met-once.met_once.ensures

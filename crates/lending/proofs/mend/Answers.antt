@@ -23,7 +23,7 @@ in_turn-requires c = let at_number = c.before.before.before.before.before.before
     let at-faces = at_number.before.before.before.before in
     let at-points = at-faces.before.before.before.before in
     let start = at-points.before.before.before.before.before.before.before.before in
-    turns_ask start.requires at-points.copy_points.ensures at-faces.copy_row.ensures at_number.number.ensures
+    turns_ask start.requires at-points.copy_points.ensures at-faces.copy_row.ensures (at_number.number.ensures.only, at_number.number.ensures.holds)
 
 pub shape_of-out_points : goal.shape_of-out_points
 shape_of-out_points c = let at-turns = c.before.before.before.before.before.before.before.before in
@@ -31,7 +31,7 @@ shape_of-out_points c = let at-turns = c.before.before.before.before.before.befo
     let at-faces = at_number.before.before.before.before in
     let at-points = at-faces.before.before.before.before in
     let start = at-points.before.before.before.before.before.before.before.before in
-    (mend_done start.requires at-points.copy_points.ensures at-faces.copy_row.ensures at_number.number.ensures at-turns.in_turn.ensures).only_points.long
+    (mend_done start.requires at-points.copy_points.ensures at-faces.copy_row.ensures (at_number.number.ensures.only, at_number.number.ensures.holds) at-turns.in_turn.ensures).only_points.long
 
 pub shape_of-out_faces : goal.shape_of-out_faces
 shape_of-out_faces c = let at-turns = c.before.before.before.before.before.before.before.before in
@@ -39,7 +39,7 @@ shape_of-out_faces c = let at-turns = c.before.before.before.before.before.befor
     let at-faces = at_number.before.before.before.before in
     let at-points = at-faces.before.before.before.before in
     let start = at-points.before.before.before.before.before.before.before.before in
-    (mend_done start.requires at-points.copy_points.ensures at-faces.copy_row.ensures at_number.number.ensures at-turns.in_turn.ensures).only_faces.long
+    (mend_done start.requires at-points.copy_points.ensures at-faces.copy_row.ensures (at_number.number.ensures.only, at_number.number.ensures.holds) at-turns.in_turn.ensures).only_faces.long
 
 pub shape_of-origins : goal.shape_of-origins
 shape_of-origins c = let at-turns = c.before.before.before.before.before.before.before.before in
@@ -47,7 +47,7 @@ shape_of-origins c = let at-turns = c.before.before.before.before.before.before.
     let at-faces = at_number.before.before.before.before in
     let at-points = at-faces.before.before.before.before in
     let start = at-points.before.before.before.before.before.before.before.before in
-    (mend_done start.requires at-points.copy_points.ensures at-faces.copy_row.ensures at_number.number.ensures at-turns.in_turn.ensures).only_origins.long
+    (mend_done start.requires at-points.copy_points.ensures at-faces.copy_row.ensures (at_number.number.ensures.only, at_number.number.ensures.holds) at-turns.in_turn.ensures).only_origins.long
 
 pub shape_of-work : goal.shape_of-work
 shape_of-work c = let at-turns = c.before.before.before.before.before.before.before.before in
@@ -55,7 +55,7 @@ shape_of-work c = let at-turns = c.before.before.before.before.before.before.bef
     let at-faces = at_number.before.before.before.before in
     let at-points = at-faces.before.before.before.before in
     let start = at-points.before.before.before.before.before.before.before.before in
-    (mend_done start.requires at-points.copy_points.ensures at-faces.copy_row.ensures at_number.number.ensures at-turns.in_turn.ensures).only_work.long
+    (mend_done start.requires at-points.copy_points.ensures at-faces.copy_row.ensures (at_number.number.ensures.only, at_number.number.ensures.holds) at-turns.in_turn.ensures).only_work.long
 
 pub returns : goal.returns
 returns c = let at-turns = c.before.before.before.before.before.before.before.before in
@@ -63,4 +63,4 @@ returns c = let at-turns = c.before.before.before.before.before.before.before.be
     let at-faces = at_number.before.before.before.before in
     let at-points = at-faces.before.before.before.before in
     let start = at-points.before.before.before.before.before.before.before.before in
-    mend_done start.requires at-points.copy_points.ensures at-faces.copy_row.ensures at_number.number.ensures at-turns.in_turn.ensures
+    mend_done start.requires at-points.copy_points.ensures at-faces.copy_row.ensures (at_number.number.ensures.only, at_number.number.ensures.holds) at-turns.in_turn.ensures

@@ -6,4 +6,4 @@ pub returns : goal.returns
 returns c = let a = c.fill.ensures in
     let b = c.fill-2.ensures in
     let d = c.fill-3.ensures in
-    parts_filled a.0 a.1 b.0 b.1 d.0 d.1
+    parts_filled a.only a.filled b.only b.filled d.only d.filled

@@ -33,7 +33,7 @@ slice_bounds-table-end-2 c = let p = c.requires in
 pub table-m-requires : goal.table-m-requires
 table-m-requires c = let p = c.requires in
     let cl = c.clear.ensures in
-    table_asks p cl.0
+    table_asks p cl.only
 
 pub overflow_mul-n-2 : goal.overflow_mul-n-2
 overflow_mul-n-2 c = let p = c.requires in
@@ -51,19 +51,19 @@ pub single-requires : goal.single-requires
 single-requires c = let p = c.requires in
     let cl = c.clear.ensures in
     let t = c.table-m.ensures in
-    single_asks p cl.0 t
+    single_asks p cl.only t
 
 pub shape_of-work-then-single : goal.shape_of-work-then-single
 shape_of-work-then-single c = let cl = c.clear.ensures in
     let t = c.table-m.ensures in
-    t.only.long ∙ cl.0.long
+    t.only.long ∙ cl.only.long
 
 pub returns-then-single : goal.returns-then-single
 returns-then-single c = let p = c.requires in
     let cl = c.clear.ensures in
     let t = c.table-m.ensures in
     let s = c.single.ensures in
-    record { orient_gives = calm_gives p cl.0 t cl.1 (s c.if-single.true); once = λ e. once_now p cl.0 t cl.1 (s c.if-single.true) }
+    record { orient_gives = calm_gives p cl.only t cl.filled (s c.if-single.true); once = λ e. once_now p cl.only t cl.filled (s c.if-single.true) }
 
 pub overflow_mul-n-3 : goal.overflow_mul-n-3
 overflow_mul-n-3 c = let p = c.requires in
@@ -81,7 +81,7 @@ pub lay-requires : goal.lay-requires
 lay-requires c = let p = c.requires in
     let cl = c.clear.ensures in
     let t = c.table-m.ensures in
-    lay_asks p cl.0 t
+    lay_asks p cl.only t
 
 pub overflow_mul-n-4 : goal.overflow_mul-n-4
 overflow_mul-n-4 c = let p = c.requires in
@@ -117,7 +117,7 @@ single-single-requires c = let p = c.requires in
     let t = c.table-m.ensures in
     let y = c.lay.ensures in
     let g = c.walk_all-components.ensures in
-    single_asks_after p cl.0 t y g
+    single_asks_after p cl.only t y g
 
 pub turn_all-requires : goal.turn_all-requires
 turn_all-requires c = let p = c.requires in
@@ -125,7 +125,7 @@ turn_all-requires c = let p = c.requires in
     let t = c.table-m.ensures in
     let y = c.lay.ensures in
     let g = c.walk_all-components.ensures in
-    turn_asks p cl.0 t y g
+    turn_asks p cl.only t y g
 
 pub bounds-work-1 : goal.bounds-work-1
 bounds-work-1 c = let p = c.requires in
@@ -133,7 +133,7 @@ bounds-work-1 c = let p = c.requires in
     let t = c.table-m.ensures in
     let y = c.lay.ensures in
     let g = c.walk_all-components.ensures in
-    omega (arith, bounds p, (only_all p cl.0 t y g).long)
+    omega (arith, bounds p, (only_all p cl.only t y g).long)
 
 pub overflow_cast-result : goal.overflow_cast-result
 overflow_cast-result c = let p = c.requires in
@@ -141,7 +141,7 @@ overflow_cast-result c = let p = c.requires in
     let t = c.table-m.ensures in
     let y = c.lay.ensures in
     let g = c.walk_all-components.ensures in
-    omega (arith, bounds p, few_exchanges p cl.0 t y g)
+    omega (arith, bounds p, few_exchanges p cl.only t y g)
 
 pub shape_of-faces : goal.shape_of-faces
 shape_of-faces c = let h = c.turn_all.ensures in
@@ -153,7 +153,7 @@ shape_of-work c = let p = c.requires in
     let t = c.table-m.ensures in
     let y = c.lay.ensures in
     let g = c.walk_all-components.ensures in
-    (only_all p cl.0 t y g).long
+    (only_all p cl.only t y g).long
 
 pub returns : goal.returns
 returns c = let p = c.requires in
@@ -163,4 +163,4 @@ returns c = let p = c.requires in
     let g = c.walk_all-components.ensures in
     let s2 = c.single-single.ensures in
     let h = c.turn_all.ensures in
-    record { orient_gives = orient_gives p cl.0 t y g h; once = λ e. once_turned p cl.0 t y g h (s2 e) }
+    record { orient_gives = orient_gives p cl.only t y g h; once = λ e. once_turned p cl.only t y g h (s2 e) }

@@ -6,7 +6,7 @@ use Rattle.face_index.proofs.next_indexed.Reads as next-indexed-reads
 use Rattle.searched_fans.proofs.next_face.Goals as goal
 
 pub next_indexed-requires : goal.next_indexed-requires
-next_indexed-requires c = let p = c.requires in (p.1, record { whole = p.0.whole; most = p.0.most })
+next_indexed-requires c = let p = (c.requires.next_asks, c.requires.indexed) in (p.1, record { whole = p.0.whole; most = p.0.most })
 
 pub returns : goal.returns
 unfolding joins

@@ -25,6 +25,6 @@ while read -r name; do
     grep -qE "^ *(unfoldable |abbrev )?pub (record |data )?${name#*.}( |$)" crates/*/{specs,proofs}/"${name%%.*}.antt" 2>/dev/null && continue
     faults=$((faults + 1))
     echo "promises: $name is not there"
-done < <(grep -oE '`[A-Z][A-Za-z0-9]*\.[a-z][a-z0-9-]*`' docs/PROMISES.md | tr -d '`' | grep -v '\.antt$' | sort -u)
+done < <(grep -oE "\`[A-Z][A-Za-z0-9]*\.[a-z◌][^ .\`]*\`" docs/PROMISES.md | tr -d '`' | grep -v '\.antt$' | sort -u)
 echo "promises: $count names, $faults not there"
 [ "$faults" -eq 0 ] && [ "$count" -gt 50 ]

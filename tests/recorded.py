@@ -36,24 +36,22 @@ MOST_ENTRIES = 3000  # entries of an array or of all rooms
 A_FILE = 20  # claims in a file
 
 HEAD = """-- Recorded answers of the Rust.
-use mathlib.Core.Path.{_≡_, refl}
-use mathlib.Core.List.{List, [], _∷_, _++_, map}
-use Prim.Native.Nat.{ℕ}
-use lib.ListN.{replicate}
-use lib.Ieee.{Float, binary64, ofBits, toBits}
-use Rattle·rules.specs.Rooms.{Answer, accepted, refused, Outcome}
-use Rattle·rules.specs.Patches.{Limit, absent, limit, Filter}
-use Rattle·rules.specs.Line.{bytes}
-use Rattle·rules.specs.Calls.{RepairRooms, repair, EdgesRooms, find-edges, LoopsRooms, find-loops, check, PatchesRooms, find-patches, write-line}
-use Rattle·rules.specs.Text.{meshfix}
-use Rattle·rules.specs.Open.{every-rule}
+use Rattle.std.specs.Prelude.{◌≡◌, refl, List, [], ◌∷◌, ◌++◌, map, ℕ, replicate, Float}
+use Rattle.std.specs.Float.{binary64}
+use Rattle.std.specs.Float.Ieee.{of_bits, to_bits}
+use Rattle.rules.specs.Rooms.{Answer, accepted, refused, Outcome}
+use Rattle.rules.specs.Patches.{Limit, absent, limit, Filter}
+use Rattle.rules.specs.Line.{bytes}
+use Rattle.rules.specs.Calls.{RepairRooms, repair, EdgesRooms, find_edges, LoopsRooms, find_loops, check, PatchesRooms, find_patches, write_line}
+use Rattle.rules.specs.Text.{meshfix}
+use Rattle.rules.specs.Open.{every_rule}
 
 -- floats from their bits, and their bits again
 floats : List ℕ → List Float
-floats xs = map (ofBits binary64) xs
+floats xs = map (of_bits binary64) xs
 
 bits : List Float → List ℕ
-bits xs = map (toBits binary64) xs
+bits xs = map (to_bits binary64) xs
 
 -- what an answer holds
 told : Answer → List ℕ
@@ -63,29 +61,29 @@ told (refused number place) = number ∷ place ∷ []
 repairing : List Float → List ℕ → Float → ℕ → RepairRooms → List (List ℕ)
 repairing points faces s options r =
     let o = repair points faces s options r in
-    told (o .answer) ∷ bits (o .rooms .out-points) ∷ o .rooms .out-faces ∷ o .rooms .report ∷ o .rooms .origins ∷ o .rooms .work ∷ []
+    told o.answer ∷ bits (o.rooms.out_points) ∷ o.rooms.out_faces ∷ o.rooms.report ∷ o.rooms.origins ∷ o.rooms.work ∷ []
 
 listing : List Float → List ℕ → EdgesRooms → LoopsRooms → List (List ℕ)
 listing points faces r s =
-    let o = find-edges points faces r in
-    let l = find-loops points faces s in
-    told (o .answer) ∷ o .rooms .edges ∷ bits (o .rooms .lengths) ∷ o .rooms .face-edges ∷ o .rooms .work
-    ∷ told (l .answer) ∷ l .rooms .loop-vertices ∷ l .rooms .loop-ends ∷ l .rooms .work ∷ []
+    let o = find_edges points faces r in
+    let l = find_loops points faces s in
+    told o.answer ∷ o.rooms.edges ∷ bits (o.rooms.lengths) ∷ o.rooms.face_edges ∷ o.rooms.work
+    ∷ told l.answer ∷ l.rooms.loop_vertices ∷ l.rooms.loop_ends ∷ l.rooms.work ∷ []
 
 checking : ℕ → List ℕ → List ℕ → List (List ℕ)
-checking P faces work = let o = check P faces work in told (o .answer) ∷ o .rooms ∷ []
+checking P faces work = let o = check P faces work in told o.answer ∷ o.rooms ∷ []
 
 patching : List Float → List ℕ → List ℕ → ℕ → Filter → PatchesRooms → List (List ℕ)
 patching points faces labels C by r =
-    let o = find-patches points faces labels C by r in
-    told (o .answer) ∷ o .rooms .face-counts ∷ bits (o .rooms .numbers) ∷ o .rooms .flags ∷ o .rooms .work ∷ []
+    let o = find_patches points faces labels C by r in
+    told o.answer ∷ o.rooms.face_counts ∷ bits (o.rooms.numbers) ∷ o.rooms.flags ∷ o.rooms.work ∷ []
 
 lining : List ℕ → List ℕ → List (List ℕ)
-lining counts r = let o = write-line counts r in told (o .answer) ∷ o .rooms ∷ []
+lining counts r = let o = write_line counts r in told o.answer ∷ o.rooms ∷ []
 
 """
 CLAIM = """claim{n} : {found} ≡ {stated}
-unfolding floats bits told repairing listing checking patching lining every-rule
+unfolding floats bits told repairing listing checking patching lining every_rule
 claim{n} = refl
 
 """
@@ -223,12 +221,12 @@ def outcome(number, place, answers, entries, stated, lengths, kinds):
 
 
 def rooms(fields, lengths, kinds):
-    parts = ["%s = %s" % (f, ("replicate %d (ofBits binary64 %d)" if k == DIRTY64 else "replicate %d %d") % (n, k)) for f, n, k in zip(fields, lengths, kinds)]
+    parts = ["%s = %s" % (f, ("replicate %d (of_bits binary64 %d)" if k == DIRTY64 else "replicate %d %d") % (n, k)) for f, n, k in zip(fields, lengths, kinds)]
     return "(record { " + "; ".join(parts) + " })"
 
 
 def limit(present, value, real):
-    return ("(limit (ofBits binary64 %d))" if real else "(limit %d)") % value if present else "absent"
+    return ("(limit (of_bits binary64 %d))" if real else "(limit %d)") % value if present else "absent"
 
 
 def turned(vertices, ends):
@@ -297,7 +295,7 @@ def both(points, faces, lengths, number, place, answers):
     P, F = len(points) // 3, len(faces) // 3
     kinds = [DIRTY32, DIRTY64, DIRTY32, DIRTY32, DIRTY32, DIRTY32]
     stated = [6 * F, 3 * F, 3 * F, 3 * F, 3 * F, 16 * P + 64 * F + 64]
-    fields = ["edges", "lengths", "face-edges", "loop-vertices", "loop-ends", "work"]
+    fields = ["edges", "lengths", "face_edges", "loop_vertices", "loop_ends", "work"]
     if sum(lengths) > MOST_ENTRIES:
         raise Long
     if number == 0:
@@ -343,8 +341,8 @@ def claim(call, case, answer, turn, passes):
             answers[2] = eleven(answers[2], options, faces)
             answers.append(traced(passes, s, options, points, faces, *answers[:2]))
             entries = [len(row) for row in answers]
-        lent = rooms(["out-points", "out-faces", "report", "origins", "work"], lengths, kinds)
-        found = "repairing (floats %s) %s (ofBits binary64 %d) %d %s" % (listed(points), listed(faces), s, options, lent)
+        lent = rooms(["out_points", "out_faces", "report", "origins", "work"], lengths, kinds)
+        found = "repairing (floats %s) %s (of_bits binary64 %d) %d %s" % (listed(points), listed(faces), s, options, lent)
     elif call == 2:
         return both(w.array(), w.array(), w.array(), number, place, answers)
     elif call == 3:
@@ -359,9 +357,9 @@ def claim(call, case, answer, turn, passes):
         lengths = w.array()
         kinds = [DIRTY32, DIRTY64, DIRTY32, DIRTY32]
         stated = [C, 7 * C, C, 4 * C]
-        names = ["min-faces", "min-area", "min-diagonal", "min-fraction", "keep-largest"]
-        limits = "; ".join("%s = %s" % (f, limit(*p, real=f not in ("min-faces", "keep-largest"))) for f, p in zip(names, pairs))
-        lent = rooms(["face-counts", "numbers", "flags", "work"], lengths, kinds)
+        names = ["min_faces", "min_area", "min_diagonal", "min_fraction", "keep_largest"]
+        limits = "; ".join("%s = %s" % (f, limit(*p, real=f not in ("min_faces", "keep_largest"))) for f, p in zip(names, pairs))
+        lent = rooms(["face_counts", "numbers", "flags", "work"], lengths, kinds)
         found = "patching (floats %s) %s %s %d (record { %s }) %s" % (listed(points), listed(faces), listed(labels), C, limits, lent)
     else:
         counts, lengths = in_parts(w.array(), turn), w.array()

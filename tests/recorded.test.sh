@@ -16,9 +16,9 @@ done
 printf '%s\n' 'root:' 'rules: root' 'recorded: root rules' >"$room/crates.txt"
 own gcc -std=c11 -O2 -ffp-contract=off -shared -fPIC "-I$here/host" "-I$here/fuzz" -o "$room/passes.so" "$here"/fuzz/{passes,uses}.c -lm || exit 1
 python3 "$here/tests/recorded.py" "$cases" "$room/crates/recorded" "${EVERY:-16}" "$room/passes.so" || exit 1
-cd "$room" || exit 1
+cd "$room/crates/recorded" || exit 1
 log=$room/log
-rt check recorded >"$log" 2>&1
+rt check >"$log" 2>&1
 status=$?
 # A claim that antt breaks off at its step limit is neither shown nor refused; in the gate's sample there is none.
 long=$(grep -c ': error: .*stopped at the step limit' "$log")

@@ -22,7 +22,7 @@ def crates():
         line = line.split("#")[0]
         if ":" in line:
             name, rest = line.split(":")
-            named[name.strip()] = rest.split()
+            named[name.split()[0]] = rest.split()
     return named
 
 
@@ -46,7 +46,7 @@ def parsed(path):
             file = line[6:]
         elif line.startswith("old: "):
             old = line[5:]
-        elif line.startswith("new: "):
+        elif line.startswith("new:"):
             pairs.append((old, line[5:]))
     return file, pairs
 
@@ -58,11 +58,19 @@ def programs(named, crate):
 
 
 def tried(room, program):
-    """Whether a program in this copy writes what its `stdout` has."""
+    """Whether a program in this copy writes what its `stdout` has, on what it is given."""
+    folder = os.path.join(room, "crates", program)
+
+    def held(name):
+        path = os.path.join(folder, name)
+        return open(path, "rb").read() if os.path.exists(path) else b""
+
+    words = ["rt", "try", "--", *held("args").decode().splitlines()]
     try:
-        return subprocess.run(["rt", "try", program], cwd=room, stdout=subprocess.DEVNULL, stderr=subprocess.DEVNULL, timeout=120).returncode == 0
+        ran = subprocess.run(words, cwd=folder, input=held("stdin"), stdout=subprocess.PIPE, stderr=subprocess.DEVNULL, timeout=120)
     except subprocess.TimeoutExpired:
         return False
+    return ran.returncode == int(held("status") or 0) and ran.stdout == held("stdout")
 
 
 def main():
@@ -70,7 +78,7 @@ def main():
     words = sys.argv[1:]
     count, unshown = 0, 0
     with tempfile.TemporaryDirectory() as room:
-        shutil.copytree(os.path.join(HERE, "crates"), os.path.join(room, "crates"))
+        shutil.copytree(os.path.join(HERE, "crates"), os.path.join(room, "crates"), ignore=shutil.ignore_patterns("out"))
         shutil.copy(os.path.join(HERE, "crates.txt"), room)
         for path in sorted(glob.glob(os.path.join(HERE, "crates/*/must-fail/*.edit"))):
             crate, edit = path.split("/")[-3], path.split("/")[-1][:-5]

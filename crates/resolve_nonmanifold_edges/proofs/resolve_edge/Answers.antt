@@ -120,3 +120,11 @@ returns c = let at-mark-others = c.before.before in
     let at-best = at_second.before.before.before.before.before.before in
     let start = at-best.before.before.before.before.before.before.before.before in
     many start.requires at-best.best-one.ensures (edge_read start.requires) at_second.second-two.ensures (omega (arith, at-best.if-b-a-le2.false)) at-mark-others.mark_others.ensures
+
+-- the run's places end within the work room
+pub slice_bounds-best-end : goal.slice_bounds-best-end
+slice_bounds-best-end c = omega (arith, bounds c.requires)
+
+-- and so for the second choice
+pub slice_bounds-second-end : goal.slice_bounds-second-end
+slice_bounds-second-end c = omega (arith, bounds c.requires)

@@ -76,7 +76,7 @@ pub loop-k-preserved : goal.loop-k-preserved
 loop-k-preserved c = let a = c.before.before.before.before in
     let p = a.requires in
     let h = c.loop-k-test.true in
-    elim c.if-stays.branch [ then-stays w ↦ rw (w.1, w.2) (passes p a.loop-k.invariant h c.stays.ensures w.if-stays.true) | else-stays w ↦ rw (w.1, w.2) (loses p a.loop-k.invariant h c.stays.ensures w.if-stays.false) ]
+    elim c.if-stays.branch [ then-stays w ↦ rw (w.work-is, w.seen-is) (passes p a.loop-k.invariant h c.stays.ensures w.if-stays.true) | else-stays w ↦ rw (w.work-is, w.seen-is) (loses p a.loop-k.invariant h c.stays.ensures w.if-stays.false) ]
 
 pub shape_of-work : goal.shape_of-work
 shape_of-work c = c.loop-k.invariant.added.only.long

@@ -11,6 +11,7 @@ use Rattle.corner_numbers.specs.Numbers.{new_by}
 use Rattle.split_bowtie_vertices.specs.Splits.{RenameAsks, RenameGives}
 use Rattle.split_bowtie_vertices.proofs.rename.Invariants.{Inv}
 use Rattle.split_bowtie_vertices.proofs.rename.Goals as goal
+use Rattle.split_bowtie_vertices.proofs.rename.Invariants.{Turn}
 
 begin : {xs w : List ℕ} {leads numbers n : ℕ} → RenameAsks xs w leads numbers n → Inv xs w leads numbers n xs 0
 begin p = record { at_most = omega arith; only = only_none _ _ _; renamed = λ i h. absurd (omega arith) }

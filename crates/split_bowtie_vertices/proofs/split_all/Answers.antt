@@ -19,6 +19,7 @@ use Rattle.split_bowtie_vertices.specs.declared.Run.{Run}
 use Rattle.split_bowtie_vertices.proofs.Vertices.{at_first}
 use Rattle.split_bowtie_vertices.proofs.split_all.Invariants.{Inv}
 use Rattle.split_bowtie_vertices.proofs.split_all.Goals as goal
+use Rattle.split_bowtie_vertices.proofs.split_all.Invariants.{Turn}
 
 begins : {ps : List Float} {w : List ℕ} {P n : ℕ} (q : AllAsks ps w P n) → Inv q ps w 0 P 0 0
 begins {ps} {w} {P} {n} q =

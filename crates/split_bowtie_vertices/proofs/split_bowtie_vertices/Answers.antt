@@ -13,18 +13,18 @@ sort_corners-requires c = let start = c.before.before.before.before.before in
 
 pub split_all-s-requires : goal.split_all-s-requires
 split_all-s-requires c = let at-sort-corners = c.before.before.before.before in
-    let start = at-sort-corners.before.before.before.before.before.before in
+    let start = at-sort-corners.before.before.before.before.before in
     all-ok start.requires at-sort-corners.sort_corners.ensures
 
 pub rename-requires : goal.rename-requires
 rename-requires c = let at-split-all = c.before.before.before.before.before.before in
     let at-sort-corners = at-split-all.before.before.before.before.before in
-    let start = at-sort-corners.before.before.before.before.before.before in
+    let start = at-sort-corners.before.before.before.before.before in
     rename_ok start.requires at-sort-corners.sort_corners.ensures (at-split-all.split_all-s.ensures (all-ok start.requires at-sort-corners.sort_corners.ensures))
 
 pub returns : goal.returns
 returns c = let at-rename = c.before.before in
     let at-split-all = at-rename.before.before.before.before.before.before.before in
     let at-sort-corners = at-split-all.before.before.before.before.before in
-    let start = at-sort-corners.before.before.before.before.before.before in
+    let start = at-sort-corners.before.before.before.before.before in
     done start.requires at-sort-corners.sort_corners.ensures (at-split-all.split_all-s.ensures (all-ok start.requires at-sort-corners.sort_corners.ensures)) at-rename.rename.ensures

@@ -65,7 +65,7 @@ loop-g-preserved c = let t = c.before.before.before.before in
     let a = t.before in
     let p = a.requires.cross_asks in
     let q = c.next_face-g-in-loop-g.ensures in
-    elim c.if-meets.branch [ then-meets w ↦ rw w.2 (hit p a.loop-g.invariant t.loop-g-test.true q (sym c.meets.ensures ∙ w.if-meets.true)) | else-meets w ↦ rw w.1 (miss p a.loop-g.invariant t.loop-g-test.true q (sym c.meets.ensures ∙ w.if-meets.false)) ]
+    elim c.if-meets.branch [ then-meets w ↦ rw w.words-is (hit p a.loop-g.invariant t.loop-g-test.true q (sym c.meets.ensures ∙ w.if-meets.true)) | else-meets w ↦ rw w.words-is (miss p a.loop-g.invariant t.loop-g-test.true q (sym c.meets.ensures ∙ w.if-meets.false)) ]
 
 -- src/lib.rt:67:1
 pub shape_of-words : goal.shape_of-words

@@ -87,7 +87,7 @@ pub loop-g-preserved : goal.loop-g-preserved
 loop-g-preserved c = let t = c.before.before in
     let a = t.before in
     let p = a.requires in
-    elim c.if-words-g-eq2.branch [ then-words-g-eq2 w ↦ rw (w.6, w.7) (flagged p a.loop-g.invariant t.loop-g-test.true w.if-words-g-eq2.true w.2.ensures w.4.ensures w.5.ensures) | else-words-g-eq2 w ↦ rw (w.1, w.2) (passed p a.loop-g.invariant t.loop-g-test.true w.if-words-g-eq2.false) ]
+    elim c.if-words-g-eq2.branch [ then-words-g-eq2 w ↦ rw (w.bytes-is, w.7) (flagged p a.loop-g.invariant t.loop-g-test.true w.if-words-g-eq2.true w.slice_known-then-words-g-eq2-1.ensures w.number_length.ensures w.words-is.ensures) | else-words-g-eq2 w ↦ rw (w.1, w.2) (passed p a.loop-g.invariant t.loop-g-test.true w.if-words-g-eq2.false) ]
 
 -- src/lib.rt:127:1
 pub shape_of-words : goal.shape_of-words

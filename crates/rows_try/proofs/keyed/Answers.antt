@@ -5,6 +5,7 @@ use mathlib.Core.List.{List}
 use Prim.Native.Nat.{ℕ}
 use native.Mathlib.Omega.{arith}
 use lib.ListN.{length}
+use Rattle.rows.specs.Region.{Apart.before, Apart.after}
 use Rattle.sorting.specs.Sort.{SortAsks}
 use Rattle.sorting.specs.Order.{OrderTriplesAsks}
 use Rattle.rows_try.proofs.Bounded.{within, bounded, zeros}

@@ -4,55 +4,40 @@ use Rattle.apply_lines.proofs.Stepping.{drop_fits, dropped, exchange_fits, excha
 use Rattle.apply_lines.proofs.apply_line.Goals as goal
 
 pub bounds-work-face : goal.bounds-work-face
-bounds-work-face c = let start = c.before.before.before.before.before.before.before in
-    omega (arith, drop_fits start.requires c.in-Dropped.is)
+bounds-work-face c = omega (arith, drop_fits c.requires c.in-Dropped.is)
 
 pub overflow_add-result : goal.overflow_add-result
-overflow_add-result c = let start = c.before.before.before.before.before.before.before in
-    omega (arith, drop_fits start.requires c.in-Dropped.is)
+overflow_add-result c = omega (arith, drop_fits c.requires c.in-Dropped.is)
 
 pub exchange_face-requires : goal.exchange_face-requires
-exchange_face-requires c = let start = c.before.before.before.before.before.before.before.before in
-    omega (arith, exchange_fits start.requires c.in-Exchange.is)
+exchange_face-requires c = omega (arith, exchange_fits c.requires c.in-Exchange.is)
 
 pub overflow_add-result-in-Exchange : goal.overflow_add-result-in-Exchange
-overflow_add-result-in-Exchange c = let known = c.before.before.before.before.before in
-    let start = known.before.before.before.before.before.before in
-    omega (arith, exchange_fits start.requires known.in-Exchange.is)
+overflow_add-result-in-Exchange c = omega (arith, exchange_fits c.requires c.in-Exchange.is)
 
 pub move_point-requires : goal.move_point-requires
-move_point-requires c = let start = c.before.before.before.before.before.before.before.before in
-    move_asks start.requires c.in-Split.is
+move_point-requires c = move_asks c.requires c.in-Split.is
 
 pub take_over-requires : goal.take_over-requires
-take_over-requires c = let known = c.before.before.before.before.before.before in
-    let start = known.before.before.before.before.before.before in
-    take_asks start.requires known.in-Split.is
+take_over-requires c = take_asks c.requires c.in-Split.is
 
 pub overflow_add-result-in-Split : goal.overflow_add-result-in-Split
-overflow_add-result-in-Split c = let known = c.before.before.before.before.before.before.before.before.before in
-    let start = known.before.before.before.before.before.before in
-    omega (arith, split_fits start.requires known.in-Split.is)
+overflow_add-result-in-Split c = omega (arith, split_fits c.requires c.in-Split.is)
 
 pub bounds-work-n : goal.bounds-work-n
-bounds-work-n c = let start = c.before.before.before.before.before.before.before in
-    omega (arith, isolated_fits start.requires c.in-Isolated.is)
+bounds-work-n c = omega (arith, isolated_fits c.requires c.in-Isolated.is)
 
 pub overflow_add-result-in-Isolated : goal.overflow_add-result-in-Isolated
-overflow_add-result-in-Isolated c = let start = c.before.before.before.before.before.before.before in
-    omega (arith, isolated_fits start.requires c.in-Isolated.is)
+overflow_add-result-in-Isolated c = omega (arith, isolated_fits c.requires c.in-Isolated.is)
 
 pub returns-in-Dropped : goal.returns-in-Dropped
 returns-in-Dropped c = λ q. dropped q c.in-Dropped.is
 
 pub returns-in-Exchange : goal.returns-in-Exchange
-returns-in-Exchange c = let at-exchange = c.before.before in
-    λ q. exchange q at-exchange.in-Exchange.is at-exchange.exchange_face.ensures
+returns-in-Exchange c = λ q. exchange q c.in-Exchange.is c.exchange_face.ensures
 
 pub returns-in-Split : goal.returns-in-Split
-returns-in-Split c = let at_take = c.before.before in
-    let at-move = at_take.before.before.before.before in
-    λ q. split q at-move.in-Split.is at-move.move_point.ensures at_take.take_over.ensures
+returns-in-Split c = λ q. split q c.in-Split.is c.move_point.ensures c.take_over.ensures
 
 pub returns-in-Isolated : goal.returns-in-Isolated
 returns-in-Isolated c = λ q. isolated q c.in-Isolated.is

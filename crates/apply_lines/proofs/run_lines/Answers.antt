@@ -11,22 +11,14 @@ pub read_line-line-requires : goal.read_line-line-requires
 read_line-line-requires c = c.loop-at-test.true
 
 pub apply_line-step-requires : goal.apply_line-step-requires
-apply_line-step-requires c = let at_read = c.before.before.before in
-    let start = at_read.before.before.before.before.before.before.before in
-    line-asks at_read.loop-at.invariant at_read.read_line-line.ensures start.requires
+apply_line-step-requires c = line-asks c.loop-at.invariant c.read_line-line.ensures c.requires
 
 pub loop-at-smaller : goal.loop-at-smaller
-loop-at-smaller c = let at-apply = c.before.before.before.before.before.before in
-    let at_read = at-apply.before.before.before.before in
-    let start = at_read.before.before.before.before.before.before.before in
-    let g = goes_on at_read.loop-at.invariant at_read.read_line-line.ensures at-apply.apply_line-step.ensures start.requires in
+loop-at-smaller c = let g = goes_on c.loop-at.invariant c.read_line-line.ensures c.apply_line-step.ensures c.requires in
     omega (arith, g.0, g.1)
 
 pub loop-at-preserved : goal.loop-at-preserved
-loop-at-preserved c = let at-apply = c.before.before.before.before.before.before in
-    let at_read = at-apply.before.before.before.before in
-    let start = at_read.before.before.before.before.before.before.before in
-    again at_read.loop-at.invariant at_read.read_line-line.ensures at-apply.apply_line-step.ensures start.requires
+loop-at-preserved c = again c.loop-at.invariant c.read_line-line.ensures c.apply_line-step.ensures c.requires
 
 pub shape_of-points : goal.shape_of-points
 shape_of-points c = (c.loop-at.invariant.within c.requires).only_points.long

@@ -14,18 +14,14 @@ pub overflow_cast-f : goal.overflow_cast-f
 overflow_cast-f c = omega (arith, c.struct_known-1.given)
 
 pub rename_face-requires : goal.rename_face-requires
-rename_face-requires c = let at_read = c.before.before in
-    face_fits at_read.requires at_read.loop-at.invariant at_read.read_face-face.ensures
+rename_face-requires c = face_fits c.requires c.loop-at.invariant c.read_face-face.ensures
 
 pub loop-at-smaller : goal.loop-at-smaller
-loop-at-smaller c = let at_read = c.before.before.before.before.before in
-    let g = at_read.read_face-face.ensures in
+loop-at-smaller c = let g = c.read_face-face.ensures in
     omega (arith, g.on, g.faces-1.begins)
 
 pub loop-at-preserved : goal.loop-at-preserved
-loop-at-preserved c = let at-rename = c.before.before in
-    let at_read = at-rename.before.before.before in
-    again at_read.requires at_read.loop-at.invariant at_read.read_face-face.ensures at-rename.rename_face.ensures
+loop-at-preserved c = again c.requires c.loop-at.invariant c.read_face-face.ensures c.rename_face.ensures
 
 pub shape_of-faces : goal.shape_of-faces
 shape_of-faces c = c.loop-at.invariant.only.long

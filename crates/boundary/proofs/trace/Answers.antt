@@ -78,10 +78,8 @@ pub overflow_add-r : goal.overflow_add-r
 overflow_add-r c = omega (arith, bounds c.requires c.loop-r.invariant c.loop-r-test.true)
 
 pub loop-r-preserved : goal.loop-r-preserved
-loop-r-preserved c = let t = c.before.before.before in
-    let v = t.before in
-    let p = v.requires in
-    elim c.if-to-from-eq1.branch [ then-to-from-eq1 w ↦ rw w.9 (counts p v.loop-r.invariant t.loop-r-test.true w.2.ensures w.if-to-from-eq1.true w.6.ensures) | else-to-from-eq1 w ↦ rw w.1 (skips p v.loop-r.invariant t.loop-r-test.true w.if-to-from-eq1.false) ]
+loop-r-preserved c = let p = c.requires in
+    elim c.if-to-from-eq1.branch [ then-to-from-eq1 w ↦ rw w.9 (counts p c.loop-r.invariant c.loop-r-test.true w.2.ensures w.if-to-from-eq1.true w.6.ensures) | else-to-from-eq1 w ↦ rw w.1 (skips p c.loop-r.invariant c.loop-r-test.true w.if-to-from-eq1.false) ]
 
 pub shape_of-work : goal.shape_of-work
 shape_of-work c = c.loop-r.invariant.only.long

@@ -4,40 +4,26 @@ use Rattle.boundary_loops.proofs.Ending.{is_refused, draw_asks, is_judged, list_
 use Rattle.boundary_loops.proofs.find_loops.Goals as goal
 
 pub returns-in-Refused : goal.returns-in-Refused
-returns-in-Refused c = let at-loops-refusal = c.before.before.before in
-    let start = at-loops-refusal.before.before.before.before.before.before in
-    let s = start.args in
+returns-in-Refused c = let s = c.args in
     let r = rooms_of s.loop_vertices-1.now s.loop_ends-1.now s.work-1.now in
-    is_refused s.points.now s.faces.now r _ at-loops-refusal.loops_refusal.ensures _ _ c.in-Refused.is
+    is_refused s.points.now s.faces.now r _ c.loops_refusal.ensures _ _ c.in-Refused.is
 
 pub prepare-requires : goal.prepare-requires
-prepare-requires c = let at-loops-refusal = c.before.before.before in
-    let start = at-loops-refusal.before.before.before.before.before.before in
-    let s = start.args in
+prepare-requires c = let s = c.args in
     let r = rooms_of s.loop_vertices-1.now s.loop_ends-1.now s.work-1.now in
-    draw_asks s.points.now s.faces.now r _ at-loops-refusal.loops_refusal.ensures c.in-Fine.is
+    draw_asks s.points.now s.faces.now r _ c.loops_refusal.ensures c.in-Fine.is
 
 pub list-found-requires : goal.list-found-requires
-list-found-requires c = let at-prepare = c.before.before.before.before.before.before.before in
-    let at-loops-refusal = at-prepare.before.before.before.before in
-    let start = at-loops-refusal.before.before.before.before.before.before in
-    let s = start.args in
+list-found-requires c = let s = c.args in
     let r = rooms_of s.loop_vertices-1.now s.loop_ends-1.now s.work-1.now in
-    list_asks s.points.now s.faces.now r _ at-loops-refusal.loops_refusal.ensures at-prepare.in-Fine.is at-prepare.prepare.ensures _ c.in-Ready.is
+    list_asks s.points.now s.faces.now r _ c.loops_refusal.ensures c.in-Fine.is c.prepare.ensures _ c.in-Ready.is
 
 pub returns-in-Ready : goal.returns-in-Ready
-returns-in-Ready c = let at_list = c.before.before.before.before.before.before in
-    let at-prepare = at_list.before.before.before.before.before.before.before.before in
-    let at-loops-refusal = at-prepare.before.before.before.before in
-    let start = at-loops-refusal.before.before.before.before.before.before in
-    let s = start.args in
+returns-in-Ready c = let s = c.args in
     let r = rooms_of s.loop_vertices-1.now s.loop_ends-1.now s.work-1.now in
-    is_done s.points.now s.faces.now r _ at-loops-refusal.loops_refusal.ensures at-prepare.in-Fine.is at-prepare.prepare.ensures _ at_list.in-Ready.is at_list.list-found.ensures
+    is_done s.points.now s.faces.now r _ c.loops_refusal.ensures c.in-Fine.is c.prepare.ensures _ c.in-Ready.is c.list-found.ensures
 
 pub returns-in-Refused-prepare : goal.returns-in-Refused-prepare
-returns-in-Refused-prepare c = let at-prepare = c.before.before.before.before.before in
-    let at-loops-refusal = at-prepare.before.before.before.before in
-    let start = at-loops-refusal.before.before.before.before.before.before in
-    let s = start.args in
+returns-in-Refused-prepare c = let s = c.args in
     let r = rooms_of s.loop_vertices-1.now s.loop_ends-1.now s.work-1.now in
-    is_judged s.points.now s.faces.now r _ at-loops-refusal.loops_refusal.ensures at-prepare.in-Fine.is at-prepare.prepare.ensures _ _ c.in-Refused-prepare.is
+    is_judged s.points.now s.faces.now r _ c.loops_refusal.ensures c.in-Fine.is c.prepare.ensures _ _ c.in-Refused-prepare.is

@@ -6,13 +6,10 @@ pub returns-then-loops : goal.returns-then-loops
 returns-then-loops c = rw c.if-loops.true c.loop_verdict-found.ensures
 
 pub returns-then-number-eq8 : goal.returns-then-number-eq8
-returns-then-number-eq8 c = let v = c.before.before.before.before.before in
-    rw c.if-loops.false (alone_eight _ _ v.loop_verdict-found.ensures c.in-Refused.is c.if-number-eq8.true)
+returns-then-number-eq8 c = rw c.if-loops.false (alone_eight _ _ c.loop_verdict-found.ensures c.in-Refused.is c.if-number-eq8.true)
 
 pub returns-in-Fine : goal.returns-in-Fine
-returns-in-Fine c = let v = c.before.before.before in
-    rw c.if-loops.false (alone_none _ _ v.loop_verdict-found.ensures c.in-Fine.is)
+returns-in-Fine c = rw c.if-loops.false (alone_none _ _ c.loop_verdict-found.ensures c.in-Fine.is)
 
 pub returns-else-number-eq8 : goal.returns-else-number-eq8
-returns-else-number-eq8 c = let v = c.before.before.before.before.before in
-    rw c.if-loops.false (alone_seven _ _ v.loop_verdict-found.ensures c.in-Refused.is c.if-number-eq8.false)
+returns-else-number-eq8 c = rw c.if-loops.false (alone_seven _ _ c.loop_verdict-found.ensures c.in-Refused.is c.if-number-eq8.false)

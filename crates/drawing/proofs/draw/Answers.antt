@@ -6,15 +6,10 @@ pub table-m-requires : goal.table-m-requires
 table-m-requires c = table_asks c.requires
 
 pub judge-requires : goal.judge-requires
-judge-requires c = let t = c.before.before.before in
-    judge_asks t.requires t.table-m.ensures
+judge-requires c = judge_asks c.requires c.table-m.ensures
 
 pub returns-in-Fine : goal.returns-in-Fine
-returns-in-Fine c = let j = c.before.before.before.before in
-    let t = j.before.before.before.before in
-    is_ready t.requires t.table-m.ensures j.judge.ensures c.in-Fine.is
+returns-in-Fine c = is_ready c.requires c.table-m.ensures c.judge.ensures c.in-Fine.is
 
 pub returns-in-Refused : goal.returns-in-Refused
-returns-in-Refused c = let j = c.before.before.before.before.before in
-    let t = j.before.before.before.before in
-    is_refused t.requires t.table-m.ensures j.judge.ensures c.in-Refused.is
+returns-in-Refused c = is_refused c.requires c.table-m.ensures c.judge.ensures c.in-Refused.is

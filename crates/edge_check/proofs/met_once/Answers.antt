@@ -61,8 +61,7 @@ shape_of-work-then-work-row-ne0 c = c.loop-c.invariant.only.long
 
 pub returns-then-work-row-ne0 : goal.returns-then-work-row-ne0
 returns-then-work-row-ne0 c = let l = c.loop-c.invariant in
-    let t = c.before.before.before.before.before in
-    record { only = l.only; says = again t.requires l t.loop-c-test.true (omega arith) c.if-work-row-ne0.true }
+    record { only = l.only; says = again c.requires l c.loop-c-test.true (omega arith) c.if-work-row-ne0.true }
 
 pub overflow_add-work : goal.overflow_add-work
 overflow_add-work c = omega (arith, turn c.requires c.loop-c.invariant c.loop-c-test.true)
@@ -77,9 +76,7 @@ pub overflow_add-c : goal.overflow_add-c
 overflow_add-c c = omega (arith, turn c.requires c.loop-c.invariant c.loop-c-test.true)
 
 pub loop-c-preserved : goal.loop-c-preserved
-loop-c-preserved c = let t = c.before.before in
-    let a = t.before in
-    elim c.if-work-leads.branch [ then-work-leads w ↦ rw w.4 (marked a.requires a.loop-c.invariant t.loop-c-test.true (omega (arith, w.if-work-leads.true)) (omega (arith, w.3.left))) | else-work-leads w ↦ rw w.1 (passed a.requires a.loop-c.invariant t.loop-c-test.true w.if-work-leads.false) ]
+loop-c-preserved c = elim c.if-work-leads.branch [ then-work-leads w ↦ rw w.4 (marked c.requires c.loop-c.invariant c.loop-c-test.true (omega (arith, w.if-work-leads.true)) (omega (arith, w.3.left))) | else-work-leads w ↦ rw w.1 (passed c.requires c.loop-c.invariant c.loop-c-test.true w.if-work-leads.false) ]
 
 pub shape_of-work : goal.shape_of-work
 shape_of-work c = c.loop-c.invariant.only.long

@@ -4,25 +4,15 @@ use Rattle.edge_check.proofs.Tabling.{corners_ask, marks_fit, met_asks, met_give
 use Rattle.edge_check.proofs.one_group.Goals as goal
 
 pub lead_corners-requires : goal.lead_corners-requires
-lead_corners-requires c = let start = c.before.before.before in
-    corners_ask start.requires
+lead_corners-requires c = corners_ask c.requires
 
 pub clear-requires : goal.clear-requires
-clear-requires c = let at-lead-corners = c.before.before.before in
-    let start = at-lead-corners.before.before.before.before in
-    omega (arith, marks_fit start.requires at-lead-corners.lead_corners.ensures)
+clear-requires c = omega (arith, marks_fit c.requires c.lead_corners.ensures)
 
 pub met_once-requires : goal.met_once-requires
-met_once-requires c = let at_clear = c.before.before.before in
-    let at-lead-corners = at_clear.before.before.before.before in
-    let start = at-lead-corners.before.before.before.before in
-    let g = at_clear.clear.ensures in
-    met_asks start.requires at-lead-corners.lead_corners.ensures g.only g.filled
+met_once-requires c = let g = c.clear.ensures in
+    met_asks c.requires c.lead_corners.ensures g.only g.filled
 
 pub returns : goal.returns
-returns c = let at-met-once = c.before.before in
-    let at_clear = at-met-once.before.before.before.before in
-    let at-lead-corners = at_clear.before.before.before.before in
-    let start = at-lead-corners.before.before.before.before in
-    let g = at_clear.clear.ensures in
-    met_gives start.requires at-lead-corners.lead_corners.ensures g.only g.filled at-met-once.met_once.ensures
+returns c = let g = c.clear.ensures in
+    met_gives c.requires c.lead_corners.ensures g.only g.filled c.met_once.ensures

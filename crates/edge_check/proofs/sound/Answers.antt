@@ -12,12 +12,7 @@ pub table-requires : goal.table-requires
 table-requires c = table_asks c.requires
 
 pub returns-then-table-faces : goal.returns-then-table-faces
-returns-then-table-faces c = let t = c.before.before.before in
-    let d = t.before.before in
-    not_once d.requires (sym (not-false _ d.if-not-distinct.false) ∙ d.distinct.ensures) t.table.ensures c.if-table-faces.true
+returns-then-table-faces c = not_once c.requires (sym (not-false _ c.if-not-distinct.false) ∙ c.distinct.ensures) c.table.ensures c.if-table-faces.true
 
 pub returns : goal.returns
-returns c = let g = c.before.before in
-    let t = g.before.before.before.before.before in
-    let d = t.before.before in
-    by_groups d.requires (sym (not-false _ d.if-not-distinct.false) ∙ d.distinct.ensures) t.table.ensures (omega arith) g.one_group.ensures
+returns c = by_groups c.requires (sym (not-false _ c.if-not-distinct.false) ∙ c.distinct.ensures) c.table.ensures (omega arith) c.one_group.ensures

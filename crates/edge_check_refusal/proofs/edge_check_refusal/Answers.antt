@@ -13,25 +13,19 @@ returns-in_default c = go_past _ _ _ (thirds _ _ c.if-faces-ne0.false)
     (hand_on _ _ _ _ _ c.counts-found.ensures c.in_default.is)
 
 pub returns-in_default-found : goal.returns-in_default-found
-returns-in_default-found c = let t1 = c.before.before.before in
-    go_past _ _ _ (thirds _ _ t1.if-faces-ne0.false)
-    (go_on _ _ _ _ t1.counts-found.ensures t1.in-Fine.is
+returns-in_default-found c = go_past _ _ _ (thirds _ _ c.if-faces-ne0.false)
+    (go_on _ _ _ _ c.counts-found.ensures c.in-Fine.is
     (hand_on_one _ _ _ _ _ c.corners-found.ensures c.in_default-found.is))
 
 pub stated_work-requires : goal.stated_work-requires
-stated_work-requires c = let t1 = c.before.before.before in
-    counts_fine _ _ (found_none _ _ t1.counts-found.ensures t1.in-Fine.is)
+stated_work-requires c = counts_fine _ _ (found_none _ _ c.counts-found.ensures c.in-Fine.is)
 
 pub returns-then-work-stated_work : goal.returns-then-work-stated_work
-returns-then-work-stated_work c = let t2 = c.before.before in
-    let t1 = t2.before.before.before in
-    go_past _ _ _ (thirds _ _ t1.if-faces-ne0.false)
-    (go_on _ _ _ _ t1.counts-found.ensures t1.in-Fine.is
-    (go_on_one _ _ _ _ t2.corners-found.ensures t2.in-Fine-found.is (last _ _ (short_0 _ _ _ (omega arith)))))
+returns-then-work-stated_work c = go_past _ _ _ (thirds _ _ c.if-faces-ne0.false)
+    (go_on _ _ _ _ c.counts-found.ensures c.in-Fine.is
+    (go_on_one _ _ _ _ c.corners-found.ensures c.in-Fine-found.is (last _ _ (short_0 _ _ _ (omega arith)))))
 
 pub returns : goal.returns
-returns c = let t2 = c.before.before in
-    let t1 = t2.before.before.before in
-    go_past _ _ _ (thirds _ _ t1.if-faces-ne0.false)
-    (go_on _ _ _ _ t1.counts-found.ensures t1.in-Fine.is
-    (go_on_one _ _ _ _ t2.corners-found.ensures t2.in-Fine-found.is (last _ _ (long _ _ _ (omega arith)))))
+returns c = go_past _ _ _ (thirds _ _ c.if-faces-ne0.false)
+    (go_on _ _ _ _ c.counts-found.ensures c.in-Fine.is
+    (go_on_one _ _ _ _ c.corners-found.ensures c.in-Fine-found.is (last _ _ (long _ _ _ (omega arith)))))

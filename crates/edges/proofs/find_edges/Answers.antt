@@ -6,50 +6,32 @@ use Rattle.edges.proofs.Ending.{is_refused, draw_asks, is_judged, list_asks, is_
 use Rattle.edges.proofs.find_edges.Goals as goal
 
 pub returns-in-Refused : goal.returns-in-Refused
-returns-in-Refused c = let at-edges-refusal = c.before.before.before in
-    let start = at-edges-refusal.before.before.before.before.before.before.before in
-    let s = start.args in
+returns-in-Refused c = let s = c.args in
     let r = rooms_of s.edges-1.now s.lengths-1.now s.face_edges-1.now s.work-1.now in
-    is_refused s.points.now s.faces.now r _ at-edges-refusal.edges_refusal.ensures _ _ c.in-Refused.is
+    is_refused s.points.now s.faces.now r _ c.edges_refusal.ensures _ _ c.in-Refused.is
 
 pub prepare-requires : goal.prepare-requires
-prepare-requires c = let at-edges-refusal = c.before.before.before in
-    let start = at-edges-refusal.before.before.before.before.before.before.before in
-    let s = start.args in
+prepare-requires c = let s = c.args in
     let r = rooms_of s.edges-1.now s.lengths-1.now s.face_edges-1.now s.work-1.now in
-    draw_asks s.points.now s.faces.now r _ at-edges-refusal.edges_refusal.ensures c.in-Fine.is
+    draw_asks s.points.now s.faces.now r _ c.edges_refusal.ensures c.in-Fine.is
 
 pub list-requires : goal.list-requires
-list-requires c = let at-prepare = c.before.before.before.before.before.before.before.before.before in
-    let at-edges-refusal = at-prepare.before.before.before.before in
-    let start = at-edges-refusal.before.before.before.before.before.before.before in
-    let s = start.args in
+list-requires c = let s = c.args in
     let r = rooms_of s.edges-1.now s.lengths-1.now s.face_edges-1.now s.work-1.now in
-    list_asks s.points.now s.faces.now r _ at-edges-refusal.edges_refusal.ensures at-prepare.in-Fine.is at-prepare.prepare.ensures _ c.in-Ready.is
+    list_asks s.points.now s.faces.now r _ c.edges_refusal.ensures c.in-Fine.is c.prepare.ensures _ c.in-Ready.is
 
 pub overflow_mul-result : goal.overflow_mul-result
-overflow_mul-result c = let at_list = c.before.before.before.before.before.before.before.before in
-    let at-prepare = at_list.before.before.before.before.before.before.before.before.before.before in
-    let at-edges-refusal = at-prepare.before.before.before.before in
-    let start = at-edges-refusal.before.before.before.before.before.before.before in
-    let s = start.args in
+overflow_mul-result c = let s = c.args in
     let r = rooms_of s.edges-1.now s.lengths-1.now s.face_edges-1.now s.work-1.now in
-    let a = list_asks s.points.now s.faces.now r _ at-edges-refusal.edges_refusal.ensures at-prepare.in-Fine.is at-prepare.prepare.ensures _ at_list.in-Ready.is in
+    let a = list_asks s.points.now s.faces.now r _ c.edges_refusal.ensures c.in-Fine.is c.prepare.ensures _ c.in-Ready.is in
     omega (arith, few_edges a, sizes a)
 
 pub returns-in-Ready : goal.returns-in-Ready
-returns-in-Ready c = let at_list = c.before.before.before.before.before.before.before.before in
-    let at-prepare = at_list.before.before.before.before.before.before.before.before.before.before in
-    let at-edges-refusal = at-prepare.before.before.before.before in
-    let start = at-edges-refusal.before.before.before.before.before.before.before in
-    let s = start.args in
+returns-in-Ready c = let s = c.args in
     let r = rooms_of s.edges-1.now s.lengths-1.now s.face_edges-1.now s.work-1.now in
-    is_done s.points.now s.faces.now r _ at-edges-refusal.edges_refusal.ensures at-prepare.in-Fine.is at-prepare.prepare.ensures _ at_list.in-Ready.is at_list.list.ensures
+    is_done s.points.now s.faces.now r _ c.edges_refusal.ensures c.in-Fine.is c.prepare.ensures _ c.in-Ready.is c.list.ensures
 
 pub returns-in-Refused-prepare : goal.returns-in-Refused-prepare
-returns-in-Refused-prepare c = let at-prepare = c.before.before.before.before.before in
-    let at-edges-refusal = at-prepare.before.before.before.before in
-    let start = at-edges-refusal.before.before.before.before.before.before.before in
-    let s = start.args in
+returns-in-Refused-prepare c = let s = c.args in
     let r = rooms_of s.edges-1.now s.lengths-1.now s.face_edges-1.now s.work-1.now in
-    is_judged s.points.now s.faces.now r _ at-edges-refusal.edges_refusal.ensures at-prepare.in-Fine.is at-prepare.prepare.ensures _ _ c.in-Refused-prepare.is
+    is_judged s.points.now s.faces.now r _ c.edges_refusal.ensures c.in-Fine.is c.prepare.ensures _ _ c.in-Refused-prepare.is

@@ -3,31 +3,16 @@ use Rattle.edges.proofs.Writing.{edges-asks, lengths_asks, face-edges-asks, clea
 use Rattle.edges.proofs.list.Goals as goal
 
 pub list_edges-requires : goal.list_edges-requires
-list_edges-requires c = let start = c.before.before.before.before.before.before.before.before in
-    edges-asks start.requires
+list_edges-requires c = edges-asks c.requires
 
 pub list_lengths-requires : goal.list_lengths-requires
-list_lengths-requires c = let at-list-edges = c.before.before.before.before in
-    let start = at-list-edges.before.before.before.before.before.before.before.before.before in
-    lengths_asks start.requires at-list-edges.list_edges.ensures
+list_lengths-requires c = lengths_asks c.requires c.list_edges.ensures
 
 pub list_face_edges-requires : goal.list_face_edges-requires
-list_face_edges-requires c = let at-list-lengths = c.before.before.before.before in
-    let at-list-edges = at-list-lengths.before.before.before.before.before in
-    let start = at-list-edges.before.before.before.before.before.before.before.before.before in
-    face-edges-asks start.requires
+list_face_edges-requires c = face-edges-asks c.requires
 
 pub wipe-requires : goal.wipe-requires
-wipe-requires c = let at-list-face-edges = c.before.before.before in
-    let at-list-lengths = at-list-face-edges.before.before.before.before.before in
-    let at-list-edges = at-list-lengths.before.before.before.before.before in
-    let start = at-list-edges.before.before.before.before.before.before.before.before.before in
-    clear_fits start.requires
+wipe-requires c = clear_fits c.requires
 
 pub returns : goal.returns
-returns c = let at-wipe = c.before.before in
-    let at-list-face-edges = at-wipe.before.before.before.before in
-    let at-list-lengths = at-list-face-edges.before.before.before.before.before in
-    let at-list-edges = at-list-lengths.before.before.before.before.before in
-    let start = at-list-edges.before.before.before.before.before.before.before.before.before in
-    all_done start.requires at-list-edges.list_edges.ensures at-list-lengths.list_lengths.ensures at-list-face-edges.list_face_edges.ensures at-wipe.wipe.ensures.only at-wipe.wipe.ensures.filled
+returns c = all_done c.requires c.list_edges.ensures c.list_lengths.ensures c.list_face_edges.ensures c.wipe.ensures.only c.wipe.ensures.filled

@@ -7,28 +7,16 @@ use Rattle.fates.proofs.Options.{bit_set, bit_clear, lowest, takes1}
 use Rattle.fates.proofs.pass1.Goals as goal
 
 pub mark-marked-requires : goal.mark-marked-requires
-mark-marked-requires c = let start = c.before.before.before.before.before.before.before in
-    asks start.requires _ (takes1 start.requires)
+mark-marked-requires c = asks c.requires _ (takes1 c.requires)
 
 pub record_degenerate-requires : goal.record_degenerate-requires
-record_degenerate-requires c = let at_mark = c.before.before.before.before.before in
-    let start = at_mark.before.before.before.before.before.before.before.before in
-    record { flag_asks = flag_asks start.requires (takes1 start.requires) at_mark.mark-marked.ensures.mark_gives (omega arith); n_in_bounds = start.requires.fit }
+record_degenerate-requires c = record { flag_asks = flag_asks c.requires (takes1 c.requires) c.mark-marked.ensures.mark_gives (omega arith); n_in_bounds = c.requires.fit }
 
 pub leave-requires : goal.leave-requires
-leave-requires c = let at-record-degenerate = c.before.before.before.before.before in
-    let at_mark = at-record-degenerate.before.before.before.before.before.before in
-    let start = at_mark.before.before.before.before.before.before.before.before in
-    leave_asks start.requires (takes1 start.requires) at_mark.mark-marked.ensures.mark_gives at-record-degenerate.record_degenerate.ensures
+leave-requires c = leave_asks c.requires (takes1 c.requires) c.mark-marked.ensures.mark_gives c.record_degenerate.ensures
 
 pub returns-then-options-eq1 : goal.returns-then-options-eq1
-returns-then-options-eq1 c = let at-leave = c.before.before.before.before in
-    let at-record-degenerate = at-leave.before.before.before.before.before.before in
-    let at_mark = at-record-degenerate.before.before.before.before.before.before in
-    let set = at_mark.before.before.before in
-    let start = set.before.before.before.before.before in
-    rw (bit_set 0 start.args.options (lowest start.args.options ∙ set.if-options-eq1.true)) (on1 start.requires start.args.s at_mark.mark-marked.ensures.mark_gives at-record-degenerate.record_degenerate.ensures (left_marked start.requires (takes1 start.requires) at_mark.mark-marked.ensures.mark_gives at-record-degenerate.record_degenerate.ensures at-leave.leave.ensures))
+returns-then-options-eq1 c = rw (bit_set 0 c.args.options (lowest c.args.options ∙ c.if-options-eq1.true)) (on1 c.requires c.args.s c.mark-marked.ensures.mark_gives c.record_degenerate.ensures (left_marked c.requires (takes1 c.requires) c.mark-marked.ensures.mark_gives c.record_degenerate.ensures c.leave.ensures))
 
 pub returns : goal.returns
-returns c = let start = c.before.before.before.before.before in
-    rw (bit_clear 0 start.args.options (λ e. c.if-options-eq1.false (sym (lowest start.args.options) ∙ e))) (off1 start.requires start.args.s)
+returns c = rw (bit_clear 0 c.args.options (λ e. c.if-options-eq1.false (sym (lowest c.args.options) ∙ e))) (off1 c.requires c.args.s)

@@ -6,28 +6,16 @@ use Rattle.fates.proofs.Options.{bit_set, bit_clear, takes3}
 use Rattle.fates.proofs.pass3.Goals as goal
 
 pub mark-marked-requires : goal.mark-marked-requires
-mark-marked-requires c = let start = c.before.before.before.before.before.before.before in
-    asks start.requires _ (takes3 start.requires)
+mark-marked-requires c = asks c.requires _ (takes3 c.requires)
 
 pub record-requires : goal.record-requires
-record-requires c = let at_mark = c.before.before.before.before in
-    let start = at_mark.before.before.before.before.before.before.before.before in
-    record { flag_asks = flag_asks start.requires (takes3 start.requires) at_mark.mark-marked.ensures.fact (omega arith); code_bound = omega arith }
+record-requires c = record { flag_asks = flag_asks c.requires (takes3 c.requires) c.mark-marked.ensures.fact (omega arith); code_bound = omega arith }
 
 pub leave-requires : goal.leave-requires
-leave-requires c = let at-record = c.before.before.before.before.before in
-    let at_mark = at-record.before.before.before.before.before in
-    let start = at_mark.before.before.before.before.before.before.before.before in
-    leave_asks start.requires (takes3 start.requires) at_mark.mark-marked.ensures.fact at-record.record.ensures
+leave-requires c = leave_asks c.requires (takes3 c.requires) c.mark-marked.ensures.fact c.record.ensures
 
 pub returns-then-options-eq1 : goal.returns-then-options-eq1
-returns-then-options-eq1 c = let at-leave = c.before.before.before.before in
-    let at-record = at-leave.before.before.before.before.before.before in
-    let at_mark = at-record.before.before.before.before.before in
-    let set = at_mark.before.before.before in
-    let start = set.before.before.before.before.before in
-    rw (bit_set 2 start.args.options set.if-options-eq1.true) (on3 start.requires (takes3 start.requires) at_mark.mark-marked.ensures.fact at-record.record.ensures (left_marked start.requires (takes3 start.requires) at_mark.mark-marked.ensures.fact at-record.record.ensures at-leave.leave.ensures))
+returns-then-options-eq1 c = rw (bit_set 2 c.args.options c.if-options-eq1.true) (on3 c.requires (takes3 c.requires) c.mark-marked.ensures.fact c.record.ensures (left_marked c.requires (takes3 c.requires) c.mark-marked.ensures.fact c.record.ensures c.leave.ensures))
 
 pub returns : goal.returns
-returns c = let start = c.before.before.before.before.before in
-    rw (bit_clear 2 start.args.options c.if-options-eq1.false) (off3 start.requires)
+returns c = rw (bit_clear 2 c.args.options c.if-options-eq1.false) (off3 c.requires)

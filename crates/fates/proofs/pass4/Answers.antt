@@ -7,54 +7,25 @@ use Rattle.fates.proofs.Options.{bit_set, bit_clear, takes4}
 use Rattle.fates.proofs.pass4.Goals as goal
 
 pub settle-requires : goal.settle-requires
-settle-requires c = let start = c.before.before.before.before.before.before.before.before in
-    reads start.requires.stands _ (takes4 start.requires.stands)
+settle-requires c = reads c.requires.stands _ (takes4 c.requires.stands)
 
 pub record_turned-requires : goal.record_turned-requires
-record_turned-requires c = let at-settle = c.before.before.before.before.before.before.before in
-    let start = at-settle.before.before.before.before.before.before.before.before.before in
-    (add_asks (turned_stands start.requires.stands at-settle.settle.ensures.orient_gives) (omega arith), ((turned_stands start.requires.stands at-settle.settle.ensures.orient_gives).fit, start.requires.input_len))
+record_turned-requires c = (add_asks (turned_stands c.requires.stands c.settle.ensures.orient_gives) (omega arith), ((turned_stands c.requires.stands c.settle.ensures.orient_gives).fit, c.requires.input_len))
 
 pub mark-marked-requires : goal.mark-marked-requires
-mark-marked-requires c = let at-record-turned = c.before.before.before.before in
-    let at-settle = at-record-turned.before.before.before.before.before.before.before.before in
-    let start = at-settle.before.before.before.before.before.before.before.before.before in
-    second_reads start.requires.stands at-settle.settle.ensures.orient_gives start.args.input.now at-record-turned.record_turned.ensures
+mark-marked-requires c = second_reads c.requires.stands c.settle.ensures.orient_gives c.args.input.now c.record_turned.ensures
 
 pub record-requires : goal.record-requires
-record-requires c = let at_mark = c.before.before.before.before in
-    let at-record-turned = at_mark.before.before.before.before.before in
-    let at-settle = at-record-turned.before.before.before.before.before.before.before.before in
-    let start = at-settle.before.before.before.before.before.before.before.before.before in
-    record { flag_asks = second_asks start.requires.stands at-settle.settle.ensures.orient_gives start.args.input.now at-record-turned.record_turned.ensures at_mark.mark-marked.ensures.fact; code_bound = omega arith }
+record-requires c = record { flag_asks = second_asks c.requires.stands c.settle.ensures.orient_gives c.args.input.now c.record_turned.ensures c.mark-marked.ensures.fact; code_bound = omega arith }
 
 pub leave-requires : goal.leave-requires
-leave-requires c = let at-record = c.before.before.before.before.before in
-    let at_mark = at-record.before.before.before.before.before in
-    let at-record-turned = at_mark.before.before.before.before.before in
-    let at-settle = at-record-turned.before.before.before.before.before.before.before.before in
-    let start = at-settle.before.before.before.before.before.before.before.before.before in
-    second_leave start.requires.stands at-settle.settle.ensures.orient_gives start.args.input.now at-record-turned.record_turned.ensures at_mark.mark-marked.ensures.fact at-record.record.ensures
+leave-requires c = second_leave c.requires.stands c.settle.ensures.orient_gives c.args.input.now c.record_turned.ensures c.mark-marked.ensures.fact c.record.ensures
 
 pub shape_of-faces-then-options-eq1 : goal.shape_of-faces-then-options-eq1
-shape_of-faces-then-options-eq1 c = let at-leave = c.before.before.before.before in
-    let at-record = at-leave.before.before.before.before.before.before in
-    let at_mark = at-record.before.before.before.before.before in
-    let at-record-turned = at_mark.before.before.before.before.before in
-    let at-settle = at-record-turned.before.before.before.before.before.before.before.before in
-    let start = at-settle.before.before.before.before.before.before.before.before.before in
-    (second_left start.requires.stands at-settle.settle.ensures.orient_gives start.args.input.now at-record-turned.record_turned.ensures at_mark.mark-marked.ensures.fact at-record.record.ensures at-leave.leave.ensures).only_faces.long ∙ at-settle.settle.ensures.orient_gives.only_faces.long
+shape_of-faces-then-options-eq1 c = (second_left c.requires.stands c.settle.ensures.orient_gives c.args.input.now c.record_turned.ensures c.mark-marked.ensures.fact c.record.ensures c.leave.ensures).only_faces.long ∙ c.settle.ensures.orient_gives.only_faces.long
 
 pub returns-then-options-eq1 : goal.returns-then-options-eq1
-returns-then-options-eq1 c = let at-leave = c.before.before.before.before in
-    let at-record = at-leave.before.before.before.before.before.before in
-    let at_mark = at-record.before.before.before.before.before in
-    let at-record-turned = at_mark.before.before.before.before.before in
-    let at-settle = at-record-turned.before.before.before.before.before.before.before.before in
-    let set = at-settle.before.before.before in
-    let start = set.before.before.before.before.before.before in
-    on4 start.requires.stands at-settle.settle.ensures.orient_gives start.args.input.now at-record-turned.record_turned.ensures at_mark.mark-marked.ensures.fact at-record.record.ensures start.args.options (bit_set 4 start.args.options set.if-options-eq1.true) (second_left start.requires.stands at-settle.settle.ensures.orient_gives start.args.input.now at-record-turned.record_turned.ensures at_mark.mark-marked.ensures.fact at-record.record.ensures at-leave.leave.ensures)
+returns-then-options-eq1 c = on4 c.requires.stands c.settle.ensures.orient_gives c.args.input.now c.record_turned.ensures c.mark-marked.ensures.fact c.record.ensures c.args.options (bit_set 4 c.args.options c.if-options-eq1.true) (second_left c.requires.stands c.settle.ensures.orient_gives c.args.input.now c.record_turned.ensures c.mark-marked.ensures.fact c.record.ensures c.leave.ensures)
 
 pub returns : goal.returns
-returns c = let start = c.before.before.before.before.before.before in
-    off4 start.requires.stands start.args.options start.args.input.now (bit_clear 4 start.args.options c.if-options-eq1.false)
+returns c = off4 c.requires.stands c.args.options c.args.input.now (bit_clear 4 c.args.options c.if-options-eq1.false)

@@ -5,98 +5,52 @@ use Rattle.fates.proofs.Sums.{begin, turn, again, done, flag_small, code_read}
 use Rattle.fates.proofs.record.Goals as goal
 
 pub loop-i-init : goal.loop-i-init
-loop-i-init c = let start = c.before.before in
-    begin _ (flag_small start.args.work.now start.args.marks start.args.code start.requires.code_bound) start.requires.flag_asks.add
+loop-i-init c = begin _ (flag_small c.args.work.now c.args.marks c.args.code c.requires.code_bound) c.requires.flag_asks.add
 
 pub overflow_add-marks : goal.overflow_add-marks
-overflow_add-marks c = let head = c.before in
-    let start = head.before.before.before in
-    omega (arith, turn start.requires.flag_asks.add head.loop-i.invariant c.loop-i-test.true, start.requires.flag_asks.flags)
+overflow_add-marks c = omega (arith, turn c.requires.flag_asks.add c.loop-i.invariant c.loop-i-test.true, c.requires.flag_asks.flags)
 
 pub offset_bounds-work-marks : goal.offset_bounds-work-marks
-offset_bounds-work-marks c = let head = c.before in
-    let start = head.before.before.before in
-    omega (arith, turn start.requires.flag_asks.add head.loop-i.invariant c.loop-i-test.true, start.requires.flag_asks.flags)
+offset_bounds-work-marks c = omega (arith, turn c.requires.flag_asks.add c.loop-i.invariant c.loop-i-test.true, c.requires.flag_asks.flags)
 
 pub bounds-work-marks : goal.bounds-work-marks
-bounds-work-marks c = let turning = c.before in
-    let head = turning.before in
-    let start = head.before.before.before in
-    omega (arith, turn start.requires.flag_asks.add head.loop-i.invariant turning.loop-i-test.true, start.requires.flag_asks.flags)
+bounds-work-marks c = omega (arith, turn c.requires.flag_asks.add c.loop-i.invariant c.loop-i-test.true, c.requires.flag_asks.flags)
 
 pub offset_bounds-origins-i : goal.offset_bounds-origins-i
-offset_bounds-origins-i c = let turning = c.before.before in
-    let head = turning.before in
-    let start = head.before.before.before in
-    omega (arith, turn start.requires.flag_asks.add head.loop-i.invariant turning.loop-i-test.true, start.requires.flag_asks.flags)
+offset_bounds-origins-i c = omega (arith, turn c.requires.flag_asks.add c.loop-i.invariant c.loop-i-test.true, c.requires.flag_asks.flags)
 
 pub bounds-origins-i : goal.bounds-origins-i
-bounds-origins-i c = let turning = c.before.before.before in
-    let head = turning.before in
-    let start = head.before.before.before in
-    omega (arith, turn start.requires.flag_asks.add head.loop-i.invariant turning.loop-i-test.true, start.requires.flag_asks.flags)
+bounds-origins-i c = omega (arith, turn c.requires.flag_asks.add c.loop-i.invariant c.loop-i-test.true, c.requires.flag_asks.flags)
 
 pub overflow_cast-at : goal.overflow_cast-at
-overflow_cast-at c = let turning = c.before.before.before in
-    let head = turning.before in
-    let start = head.before.before.before in
-    omega (arith, turn start.requires.flag_asks.add head.loop-i.invariant turning.loop-i-test.true, start.requires.flag_asks.flags)
+overflow_cast-at c = omega (arith, turn c.requires.flag_asks.add c.loop-i.invariant c.loop-i-test.true, c.requires.flag_asks.flags)
 
 pub overflow_add-at : goal.overflow_add-at
-overflow_add-at c = let turning = c.before.before.before in
-    let head = turning.before in
-    let start = head.before.before.before in
-    omega (arith, turn start.requires.flag_asks.add head.loop-i.invariant turning.loop-i-test.true, start.requires.flag_asks.flags)
+overflow_add-at c = omega (arith, turn c.requires.flag_asks.add c.loop-i.invariant c.loop-i-test.true, c.requires.flag_asks.flags)
 
 pub offset_bounds-work-at : goal.offset_bounds-work-at
-offset_bounds-work-at c = let turning = c.before.before.before in
-    let head = turning.before in
-    let start = head.before.before.before in
-    omega (arith, turn start.requires.flag_asks.add head.loop-i.invariant turning.loop-i-test.true, start.requires.flag_asks.flags)
+offset_bounds-work-at c = omega (arith, turn c.requires.flag_asks.add c.loop-i.invariant c.loop-i-test.true, c.requires.flag_asks.flags)
 
 pub bounds-work-at : goal.bounds-work-at
-bounds-work-at c = let turning = c.before.before.before.before in
-    let head = turning.before in
-    let start = head.before.before.before in
-    omega (arith, turn start.requires.flag_asks.add head.loop-i.invariant turning.loop-i-test.true, start.requires.flag_asks.flags)
+bounds-work-at c = omega (arith, turn c.requires.flag_asks.add c.loop-i.invariant c.loop-i-test.true, c.requires.flag_asks.flags)
 
 pub overflow_add-work : goal.overflow_add-work
-overflow_add-work c = let at-flagged = c.before.before in
-    let turning = at-flagged.before.before in
-    let head = turning.before in
-    let start = head.before.before.before in
-    omega (arith, turn start.requires.flag_asks.add head.loop-i.invariant turning.loop-i-test.true, code_read start.requires.flag_asks head.loop-i.invariant turning.loop-i-test.true _ _ at-flagged.flagged-told.ensures)
+overflow_add-work c = omega (arith, turn c.requires.flag_asks.add c.loop-i.invariant c.loop-i-test.true, code_read c.requires.flag_asks c.loop-i.invariant c.loop-i-test.true _ _ c.flagged-told.ensures)
 
 pub offset_bounds-work-at-in-loop-i : goal.offset_bounds-work-at-in-loop-i
-offset_bounds-work-at-in-loop-i c = let turning = c.before.before.before.before in
-    let head = turning.before in
-    let start = head.before.before.before in
-    omega (arith, turn start.requires.flag_asks.add head.loop-i.invariant turning.loop-i-test.true, start.requires.flag_asks.flags)
+offset_bounds-work-at-in-loop-i c = omega (arith, turn c.requires.flag_asks.add c.loop-i.invariant c.loop-i-test.true, c.requires.flag_asks.flags)
 
 pub bounds-work-at-in-loop-i : goal.bounds-work-at-in-loop-i
-bounds-work-at-in-loop-i c = let turning = c.before.before.before.before in
-    let head = turning.before in
-    let start = head.before.before.before in
-    omega (arith, turn start.requires.flag_asks.add head.loop-i.invariant turning.loop-i-test.true, start.requires.flag_asks.flags)
+bounds-work-at-in-loop-i c = omega (arith, turn c.requires.flag_asks.add c.loop-i.invariant c.loop-i-test.true, c.requires.flag_asks.flags)
 
 pub overflow_add-i : goal.overflow_add-i
-overflow_add-i c = let turning = c.before.before.before.before in
-    let head = turning.before in
-    let start = head.before.before.before in
-    omega (arith, turn start.requires.flag_asks.add head.loop-i.invariant turning.loop-i-test.true, start.requires.flag_asks.flags)
+overflow_add-i c = omega (arith, turn c.requires.flag_asks.add c.loop-i.invariant c.loop-i-test.true, c.requires.flag_asks.flags)
 
 pub loop-i-preserved : goal.loop-i-preserved
-loop-i-preserved c = let at-flagged = c.before.before in
-    let turning = at-flagged.before.before in
-    let head = turning.before in
-    let start = head.before.before.before in
-    again start.requires.flag_asks.add head.loop-i.invariant turning.loop-i-test.true _ (code_read start.requires.flag_asks head.loop-i.invariant turning.loop-i-test.true _ _ at-flagged.flagged-told.ensures)
+loop-i-preserved c = again c.requires.flag_asks.add c.loop-i.invariant c.loop-i-test.true _ (code_read c.requires.flag_asks c.loop-i.invariant c.loop-i-test.true _ _ c.flagged-told.ensures)
 
 pub shape_of-work : goal.shape_of-work
-shape_of-work c = let head = c.before in
-    head.loop-i.invariant.only.long
+shape_of-work c = c.loop-i.invariant.only.long
 
 pub returns : goal.returns
-returns c = let head = c.before in
-    let start = head.before.before.before in
-    done start.requires.flag_asks.add head.loop-i.invariant c.loop-i-test.false
+returns c = done c.requires.flag_asks.add c.loop-i.invariant c.loop-i-test.false

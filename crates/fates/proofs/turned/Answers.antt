@@ -4,9 +4,7 @@ use borrow.Author.Tests.{eq-eqb, ne_eqb}
 use Rattle.fates.proofs.turned.Goals as goal
 
 pub returns-then-b-was : goal.returns-then-b-was
-returns-then-b-was c = let start = c.before in
-    rw (eq-eqb start.args.b start.args.was c.if-b-was.true) refl
+returns-then-b-was c = rw (eq-eqb c.args.b c.args.was c.if-b-was.true) refl
 
 pub returns : goal.returns
-returns c = let start = c.before in
-    rw (ne_eqb start.args.b start.args.was c.if-b-was.false) refl
+returns c = rw (ne_eqb c.args.b c.args.was c.if-b-was.false) refl

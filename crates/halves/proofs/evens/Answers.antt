@@ -72,9 +72,7 @@ pub overflow_add-i : goal.overflow_add-i
 overflow_add-i c = omega (arith, c.requires, c.loop-i.invariant.fewer, c.loop-i-test.true)
 
 pub loop-i-preserved : goal.loop-i-preserved
-loop-i-preserved c = let t = c.before.before in
-    let a = t.before in
-    elim c.if-buffer-s-eq0.branch [ then-buffer-s-eq0 w ↦ rw w.1 (counts a.requires a.loop-i.invariant t.loop-i-test.true w.if-buffer-s-eq0.true) | else-buffer-s-eq0 w ↦ rw w.1 (skips a.requires a.loop-i.invariant t.loop-i-test.true w.if-buffer-s-eq0.false) ]
+loop-i-preserved c = elim c.if-buffer-s-eq0.branch [ then-buffer-s-eq0 w ↦ rw w.1 (counts c.requires c.loop-i.invariant c.loop-i-test.true w.if-buffer-s-eq0.true) | else-buffer-s-eq0 w ↦ rw w.1 (skips c.requires c.loop-i.invariant c.loop-i-test.true w.if-buffer-s-eq0.false) ]
 
 pub returns : goal.returns
 returns c = done c.requires c.loop-i.invariant c.loop-i-test.false

@@ -19,48 +19,19 @@ pub number-requires : goal.number-requires
 number-requires c = numbers_faces c.requires
 
 pub in_turn-requires : goal.in_turn-requires
-in_turn-requires c = let at_number = c.before.before.before.before.before.before in
-    let at-faces = at_number.before.before.before.before in
-    let at-points = at-faces.before.before.before.before in
-    let start = at-points.before.before.before.before.before.before.before.before in
-    turns_ask start.requires at-points.copy_points.ensures at-faces.copy_row.ensures (at_number.number.ensures.only, at_number.number.ensures.holds)
+in_turn-requires c = turns_ask c.requires c.copy_points.ensures c.copy_row.ensures (c.number.ensures.only, c.number.ensures.holds)
 
 pub shape_of-out_points : goal.shape_of-out_points
-shape_of-out_points c = let at-turns = c.before.before.before.before.before.before.before.before in
-    let at_number = at-turns.before.before.before.before.before.before.before in
-    let at-faces = at_number.before.before.before.before in
-    let at-points = at-faces.before.before.before.before in
-    let start = at-points.before.before.before.before.before.before.before.before in
-    (mend_done start.requires at-points.copy_points.ensures at-faces.copy_row.ensures (at_number.number.ensures.only, at_number.number.ensures.holds) at-turns.in_turn.ensures).only_points.long
+shape_of-out_points c = (mend_done c.requires c.copy_points.ensures c.copy_row.ensures (c.number.ensures.only, c.number.ensures.holds) c.in_turn.ensures).only_points.long
 
 pub shape_of-out_faces : goal.shape_of-out_faces
-shape_of-out_faces c = let at-turns = c.before.before.before.before.before.before.before.before in
-    let at_number = at-turns.before.before.before.before.before.before.before in
-    let at-faces = at_number.before.before.before.before in
-    let at-points = at-faces.before.before.before.before in
-    let start = at-points.before.before.before.before.before.before.before.before in
-    (mend_done start.requires at-points.copy_points.ensures at-faces.copy_row.ensures (at_number.number.ensures.only, at_number.number.ensures.holds) at-turns.in_turn.ensures).only_faces.long
+shape_of-out_faces c = (mend_done c.requires c.copy_points.ensures c.copy_row.ensures (c.number.ensures.only, c.number.ensures.holds) c.in_turn.ensures).only_faces.long
 
 pub shape_of-origins : goal.shape_of-origins
-shape_of-origins c = let at-turns = c.before.before.before.before.before.before.before.before in
-    let at_number = at-turns.before.before.before.before.before.before.before in
-    let at-faces = at_number.before.before.before.before in
-    let at-points = at-faces.before.before.before.before in
-    let start = at-points.before.before.before.before.before.before.before.before in
-    (mend_done start.requires at-points.copy_points.ensures at-faces.copy_row.ensures (at_number.number.ensures.only, at_number.number.ensures.holds) at-turns.in_turn.ensures).only_origins.long
+shape_of-origins c = (mend_done c.requires c.copy_points.ensures c.copy_row.ensures (c.number.ensures.only, c.number.ensures.holds) c.in_turn.ensures).only_origins.long
 
 pub shape_of-work : goal.shape_of-work
-shape_of-work c = let at-turns = c.before.before.before.before.before.before.before.before in
-    let at_number = at-turns.before.before.before.before.before.before.before in
-    let at-faces = at_number.before.before.before.before in
-    let at-points = at-faces.before.before.before.before in
-    let start = at-points.before.before.before.before.before.before.before.before in
-    (mend_done start.requires at-points.copy_points.ensures at-faces.copy_row.ensures (at_number.number.ensures.only, at_number.number.ensures.holds) at-turns.in_turn.ensures).only_work.long
+shape_of-work c = (mend_done c.requires c.copy_points.ensures c.copy_row.ensures (c.number.ensures.only, c.number.ensures.holds) c.in_turn.ensures).only_work.long
 
 pub returns : goal.returns
-returns c = let at-turns = c.before.before.before.before.before.before.before.before in
-    let at_number = at-turns.before.before.before.before.before.before.before in
-    let at-faces = at_number.before.before.before.before in
-    let at-points = at-faces.before.before.before.before in
-    let start = at-points.before.before.before.before.before.before.before.before in
-    mend_done start.requires at-points.copy_points.ensures at-faces.copy_row.ensures (at_number.number.ensures.only, at_number.number.ensures.holds) at-turns.in_turn.ensures
+returns c = mend_done c.requires c.copy_points.ensures c.copy_row.ensures (c.number.ensures.only, c.number.ensures.holds) c.in_turn.ensures

@@ -3,20 +3,10 @@ use Rattle.list_changes.proofs.Finishing.{number_asks, renumber_asks, finish_giv
 use Rattle.list_changes.proofs.finish.Goals as goal
 
 pub number_kept-requires : goal.number_kept-requires
-number_kept-requires c = let at-retain = c.before.before.before in
-    let start = at-retain.before.before.before.before.before.before in
-    number_asks start.requires at-retain.retain-kept.ensures
+number_kept-requires c = number_asks c.requires c.retain-kept.ensures
 
 pub renumber-requires : goal.renumber-requires
-renumber-requires c = let at-number-kept = c.before.before.before.before in
-    let at-retain = at-number-kept.before.before.before.before in
-    let start = at-retain.before.before.before.before.before.before in
-    renumber_asks start.requires at-retain.retain-kept.ensures at-number-kept.number_kept.ensures
+renumber-requires c = renumber_asks c.requires c.retain-kept.ensures c.number_kept.ensures
 
 pub returns : goal.returns
-returns c = let at-retain-points = c.before.before in
-    let at-renumber = at-retain-points.before.before.before.before.before in
-    let at-number-kept = at-renumber.before.before.before.before.before in
-    let at-retain = at-number-kept.before.before.before.before in
-    let start = at-retain.before.before.before.before.before.before in
-    λ q. finish_gives q at-retain.retain-kept.ensures at-number-kept.number_kept.ensures at-renumber.renumber.ensures at-retain-points.retain_points-left.ensures
+returns c = λ q. finish_gives q c.retain-kept.ensures c.number_kept.ensures c.renumber.ensures c.retain_points-left.ensures

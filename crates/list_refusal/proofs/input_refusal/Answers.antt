@@ -6,12 +6,9 @@ pub returns-in_default : goal.returns-in_default
 returns-in_default c = hand_on _ _ _ _ _ c.sizes-found.ensures c.in_default.is
 
 pub returns-in_default-found : goal.returns-in_default-found
-returns-in_default-found c = let t1 = c.before.before.before in
-    go_on _ _ _ _ t1.sizes-found.ensures t1.in-Fine.is
+returns-in_default-found c = go_on _ _ _ _ c.sizes-found.ensures c.in-Fine.is
     (hand_on _ _ _ _ _ c.settings-found.ensures c.in_default-found.is)
 
 pub returns : goal.returns
-returns c = let t2 = c.before in
-    let t1 = t2.before.before.before in
-    go_on _ _ _ _ t1.sizes-found.ensures t1.in-Fine.is
-    (go_on _ _ _ _ t2.settings-found.ensures t2.in-Fine-found.is c.contents.ensures)
+returns c = go_on _ _ _ _ c.sizes-found.ensures c.in-Fine.is
+    (go_on _ _ _ _ c.settings-found.ensures c.in-Fine-found.is c.contents.ensures)

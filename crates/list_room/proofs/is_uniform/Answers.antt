@@ -3,9 +3,7 @@ use Rattle.list_room.proofs.Uniforms.{told_last, told_first, told_second}
 use Rattle.list_room.proofs.is_uniform.Goals as goal
 
 pub returns-then-all_are-2 : goal.returns-then-all_are-2
-returns-then-all_are-2 c = let second = c.before in
-    let first = second.before.before in
-    told_last first.all_are.ensures first.if-all_are.true second.all_are-then-all_are.ensures second.if-all_are-2.true c.all_are-then-all_are-2.ensures
+returns-then-all_are-2 c = told_last c.all_are.ensures c.if-all_are.true c.all_are-then-all_are.ensures c.if-all_are-2.true c.all_are-then-all_are-2.ensures
 
 pub returns-else-all_are-2 : goal.returns-else-all_are-2
 returns-else-all_are-2 c = told_second c.all_are-then-all_are.ensures c.if-all_are-2.false

@@ -4,11 +4,7 @@ use Rattle.list_rows.proofs.ByOption.{bit_on, bit_off, flags_on, flags_off}
 use Rattle.list_rows.proofs.flag.Goals as goal
 
 pub returns-then-options-eq1 : goal.returns-then-options-eq1
-returns-then-options-eq1 c = let at_call = c.before.before in
-    let start = at_call.before.before.before.before.before in
-    flags_on (bit_on 5 start.args.options (omega arith)) at_call.mark_unused.ensures
+returns-then-options-eq1 c = flags_on (bit_on 5 c.args.options (omega arith)) c.mark_unused.ensures
 
 pub returns : goal.returns
-returns c = let at_call = c.before.before in
-    let start = at_call.before.before.before.before.before in
-    flags_off (bit_off 5 start.args.options (omega arith)) at_call.clear.ensures.only at_call.clear.ensures.filled
+returns c = flags_off (bit_off 5 c.args.options (omega arith)) c.clear.ensures.only c.clear.ensures.filled

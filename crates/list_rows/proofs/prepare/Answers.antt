@@ -3,27 +3,13 @@ use Rattle.list_rows.proofs.Prepared.{split_asks, takers_ask, flags_ask, prepare
 use Rattle.list_rows.proofs.prepare.Goals as goal
 
 pub split-splits-requires : goal.split-splits-requires
-split-splits-requires c = let at-four = c.before.before.before.before.before.before.before.before in
-    let start = at-four.before.before.before.before.before.before.before.before.before in
-    split_asks start.requires at-four.first_four-left.ensures
+split-splits-requires c = split_asks c.requires c.first_four-left.ensures
 
 pub sort_takers-requires : goal.sort_takers-requires
-sort_takers-requires c = let at_split = c.before.before.before.before.before.before in
-    let at-four = at_split.before.before.before.before.before.before.before.before.before in
-    let start = at-four.before.before.before.before.before.before.before.before.before in
-    takers_ask start.requires at-four.first_four-left.ensures at_split.split-splits.ensures
+sort_takers-requires c = takers_ask c.requires c.first_four-left.ensures c.split-splits.ensures
 
 pub flag-requires : goal.flag-requires
-flag-requires c = let at-sort = c.before.before.before.before in
-    let at_split = at-sort.before.before.before.before.before.before.before in
-    let at-four = at_split.before.before.before.before.before.before.before.before.before in
-    let start = at-four.before.before.before.before.before.before.before.before.before in
-    flags_ask start.requires at-four.first_four-left.ensures at_split.split-splits.ensures at-sort.sort_takers.ensures
+flag-requires c = flags_ask c.requires c.first_four-left.ensures c.split-splits.ensures c.sort_takers.ensures
 
 pub returns : goal.returns
-returns c = let at_flag = c.before.before in
-    let at-sort = at_flag.before.before.before.before.before in
-    let at_split = at-sort.before.before.before.before.before.before.before in
-    let at-four = at_split.before.before.before.before.before.before.before.before.before in
-    let start = at-four.before.before.before.before.before.before.before.before.before in
-    prepared start.requires at-four.first_four-left.ensures at_split.split-splits.ensures at-sort.sort_takers.ensures at_flag.flag.ensures
+returns c = prepared c.requires c.first_four-left.ensures c.split-splits.ensures c.sort_takers.ensures c.flag.ensures

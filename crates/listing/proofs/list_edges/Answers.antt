@@ -16,10 +16,7 @@ overflow_sub-faces c = let p = c.requires in
     omega (arith, fewer p, p.room)
 
 pub wipe-requires : goal.wipe-requires
-wipe-requires c = let at-put-edges = c.before.before.before in
-    rest_fits at-put-edges.requires at-put-edges.put_edges.ensures
+wipe-requires c = rest_fits c.requires c.put_edges.ensures
 
 pub returns : goal.returns
-returns c = let at-wipe = c.before.before in
-    let at-put-edges = at-wipe.before.before.before.before in
-    λ q. room_done q at-put-edges.put_edges.ensures at-wipe.wipe.ensures.only at-wipe.wipe.ensures.filled
+returns c = λ q. room_done q c.put_edges.ensures c.wipe.ensures.only c.wipe.ensures.filled

@@ -10,41 +10,22 @@ pub returns-then-n-eq0 : goal.returns-then-n-eq0
 returns-then-n-eq0 c = λ q. nothing q c.walk-n.ensures c.if-n-eq0.true
 
 pub mirror-requires : goal.mirror-requires
-mirror-requires c = let e = c.before.before in
-    let a = e.before.before.before in
-    mirror_asks a.requires a.walk-n.ensures e.if-n-eq0.false
+mirror-requires c = mirror_asks c.requires c.walk-n.ensures c.if-n-eq0.false
 
 pub overflow_add-total : goal.overflow_add-total
-overflow_add-total c = let m = c.before.before in
-    let e = m.before.before.before in
-    let a = e.before.before.before in
-    omega (arith, fits a.requires a.walk-n.ensures e.if-n-eq0.false)
+overflow_add-total c = omega (arith, fits c.requires c.walk-n.ensures c.if-n-eq0.false)
 
 pub overflow_cast-loop_ends : goal.overflow_cast-loop_ends
-overflow_cast-loop_ends c = let m = c.before.before in
-    let e = m.before.before.before in
-    let a = e.before.before.before in
-    omega (arith, fits a.requires a.walk-n.ensures e.if-n-eq0.false)
+overflow_cast-loop_ends c = omega (arith, fits c.requires c.walk-n.ensures c.if-n-eq0.false)
 
 pub offset_bounds-loop_ends-count : goal.offset_bounds-loop_ends-count
-offset_bounds-loop_ends-count c = let m = c.before.before in
-    let e = m.before.before.before in
-    let a = e.before.before.before in
-    omega (arith, fits a.requires a.walk-n.ensures e.if-n-eq0.false)
+offset_bounds-loop_ends-count c = omega (arith, fits c.requires c.walk-n.ensures c.if-n-eq0.false)
 
 pub bounds-loop_ends-count : goal.bounds-loop_ends-count
-bounds-loop_ends-count c = let m = c.before.before in
-    let e = m.before.before.before in
-    let a = e.before.before.before in
-    omega (arith, fits a.requires a.walk-n.ensures e.if-n-eq0.false)
+bounds-loop_ends-count c = omega (arith, fits c.requires c.walk-n.ensures c.if-n-eq0.false)
 
 pub overflow_add-result : goal.overflow_add-result
-overflow_add-result c = let m = c.before.before in
-    let e = m.before.before.before in
-    let a = e.before.before.before in
-    omega (arith, fits a.requires a.walk-n.ensures e.if-n-eq0.false)
+overflow_add-result c = omega (arith, fits c.requires c.walk-n.ensures c.if-n-eq0.false)
 
 pub returns : goal.returns
-returns c = let m = c.before.before in
-    let e = m.before.before.before in
-    λ q. something q e.walk-n.ensures e.if-n-eq0.false m.mirror.ensures
+returns c = λ q. something q c.walk-n.ensures c.if-n-eq0.false c.mirror.ensures

@@ -7,23 +7,16 @@ pub trace-found-requires : goal.trace-found-requires
 trace-found-requires c = trace_asks c.requires
 
 pub overflow_sub-faces : goal.overflow_sub-faces
-overflow_sub-faces c = let t = c.before.before.before.before.before.before.before.before in
-    omega (arith, (fits t.requires t.trace-found.ensures).0)
+overflow_sub-faces c = omega (arith, (fits c.requires c.trace-found.ensures).0)
 
 pub wipe-requires : goal.wipe-requires
-wipe-requires c = let t = c.before.before.before.before.before.before.before.before in
-    (fits t.requires t.trace-found.ensures).2
+wipe-requires c = (fits c.requires c.trace-found.ensures).2
 
 pub overflow_sub-faces-2 : goal.overflow_sub-faces-2
-overflow_sub-faces-2 c = let t = c.before.before.before.before.before.before.before.before.before.before.before.before.before in
-    omega (arith, (fits t.requires t.trace-found.ensures).1)
+overflow_sub-faces-2 c = omega (arith, (fits c.requires c.trace-found.ensures).1)
 
 pub wipe-requires-2 : goal.wipe-requires-2
-wipe-requires-2 c = let t = c.before.before.before.before.before.before.before.before.before.before.before.before.before in
-    (fits t.requires t.trace-found.ensures).3
+wipe-requires-2 c = (fits c.requires c.trace-found.ensures).3
 
 pub returns : goal.returns
-returns c = let u = c.before.before in
-    let r = u.before.before.before.before.before in
-    let t = r.before.before.before.before.before.before.before.before.before in
-    done t.requires t.trace-found.ensures r.wipe.ensures.only r.wipe.ensures.filled u.wipe-2.ensures.only u.wipe-2.ensures.filled
+returns c = done c.requires c.trace-found.ensures c.wipe.ensures.only c.wipe.ensures.filled c.wipe-2.ensures.only c.wipe-2.ensures.filled

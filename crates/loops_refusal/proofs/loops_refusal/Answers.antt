@@ -7,16 +7,12 @@ pub returns-in_default : goal.returns-in_default
 returns-in_default c = hand_on _ _ _ _ _ c.sizes-found.ensures c.in_default.is
 
 pub returns-in_default-found : goal.returns-in_default-found
-returns-in_default-found c = let t1 = c.before.before.before in
-    go_on _ _ _ _ t1.sizes-found.ensures t1.in-Fine.is
+returns-in_default-found c = go_on _ _ _ _ c.sizes-found.ensures c.in-Fine.is
     (hand_on _ _ _ _ _ c.contents-found.ensures c.in_default-found.is)
 
 pub short_room-requires : goal.short_room-requires
-short_room-requires c = let t1 = c.before.before.before in
-    sizes_fine _ _ (found_none _ _ t1.sizes-found.ensures t1.in-Fine.is)
+short_room-requires c = sizes_fine _ _ (found_none _ _ c.sizes-found.ensures c.in-Fine.is)
 
 pub returns : goal.returns
-returns c = let t2 = c.before in
-    let t1 = t2.before.before.before in
-    go_on _ _ _ _ t1.sizes-found.ensures t1.in-Fine.is
-    (go_on _ _ _ _ t2.contents-found.ensures t2.in-Fine-found.is (last _ _ c.short_room.ensures))
+returns c = go_on _ _ _ _ c.sizes-found.ensures c.in-Fine.is
+    (go_on _ _ _ _ c.contents-found.ensures c.in-Fine-found.is (last _ _ c.short_room.ensures))

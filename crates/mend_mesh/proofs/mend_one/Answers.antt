@@ -4,36 +4,21 @@ use Rattle.mend_mesh.proofs.One.{few_points, few_faces, mended, near, turned_awa
 use Rattle.mend_mesh.proofs.mend_one.Goals as goal
 
 pub overflow_cast-a : goal.overflow_cast-a
-overflow_cast-a c = let told = c.before.before in
-    let at-repair = c.before.before.before.before.before.before.before.before.before.before.before.before.before.before in
-    let start = c.before.before.before.before.before.before.before.before.before.before.before.before.before.before.before.before.before.before.before.before.before.before.before.before.before.before.before.before in
-    let a = start.args in
-    omega (arith, few_points a.points.now a.faces.now a.s a.options a.out_points-1.now a.out_faces-1.now a.report-1.now a.origins-1.now a.four-1.now a.work-1.now start.requires (rw told.in-Done.is at at-repair.repair.ensures))
+overflow_cast-a c = let a = c.args in
+    omega (arith, few_points a.points.now a.faces.now a.s a.options a.out_points-1.now a.out_faces-1.now a.report-1.now a.origins-1.now a.four-1.now a.work-1.now c.requires (rw c.in-Done.is at c.repair.ensures))
 
 pub overflow_cast-b : goal.overflow_cast-b
-overflow_cast-b c = let told = c.before.before in
-    let at-repair = c.before.before.before.before.before.before.before.before.before.before.before.before.before.before in
-    let start = c.before.before.before.before.before.before.before.before.before.before.before.before.before.before.before.before.before.before.before.before.before.before.before.before.before.before.before.before in
-    let a = start.args in
-    omega (arith, few_faces a.points.now a.faces.now a.s a.options a.out_points-1.now a.out_faces-1.now a.report-1.now a.origins-1.now a.four-1.now a.work-1.now start.requires (rw told.in-Done.is at at-repair.repair.ensures))
+overflow_cast-b c = let a = c.args in
+    omega (arith, few_faces a.points.now a.faces.now a.s a.options a.out_points-1.now a.out_faces-1.now a.report-1.now a.origins-1.now a.four-1.now a.work-1.now c.requires (rw c.in-Done.is at c.repair.ensures))
 
 pub overflow_cast-place : goal.overflow_cast-place
-overflow_cast-place c = let told = c.before.before in
-    let at-repair = c.before.before.before.before.before.before.before.before.before.before.before.before.before.before in
-    let start = c.before.before.before.before.before.before.before.before.before.before.before.before.before.before.before.before.before.before.before.before.before.before.before.before.before.before.before.before in
-    let a = start.args in
-    omega (arith, near a.points.now a.faces.now a.s a.options a.out_points-1.now a.out_faces-1.now a.report-1.now a.origins-1.now a.four-1.now a.work-1.now start.requires (rw told.in-Refused.is at at-repair.repair.ensures))
+overflow_cast-place c = let a = c.args in
+    omega (arith, near a.points.now a.faces.now a.s a.options a.out_points-1.now a.out_faces-1.now a.report-1.now a.origins-1.now a.four-1.now a.work-1.now c.requires (rw c.in-Refused.is at c.repair.ensures))
 
 pub returns-in-Done : goal.returns-in-Done
-returns-in-Done c = let told = c.before.before.before.before.before in
-    let at-repair = c.before.before.before.before.before.before.before.before.before.before.before.before.before.before.before.before.before in
-    let start = c.before.before.before.before.before.before.before.before.before.before.before.before.before.before.before.before.before.before.before.before.before.before.before.before.before.before.before.before.before.before.before in
-    let a = start.args in
-    mended a.points.now a.faces.now a.s a.options a.out_points-1.now a.out_faces-1.now a.report-1.now a.origins-1.now a.four-1.now a.work-1.now start.requires (rw told.in-Done.is at at-repair.repair.ensures) c.put_four.ensures
+returns-in-Done c = let a = c.args in
+    mended a.points.now a.faces.now a.s a.options a.out_points-1.now a.out_faces-1.now a.report-1.now a.origins-1.now a.four-1.now a.work-1.now c.requires (rw c.in-Done.is at c.repair.ensures) c.put_four.ensures
 
 pub returns-in-Refused : goal.returns-in-Refused
-returns-in-Refused c = let told = c.before.before.before.before.before in
-    let at-repair = c.before.before.before.before.before.before.before.before.before.before.before.before.before.before.before.before.before in
-    let start = c.before.before.before.before.before.before.before.before.before.before.before.before.before.before.before.before.before.before.before.before.before.before.before.before.before.before.before.before.before.before.before in
-    let a = start.args in
-    turned_away a.points.now a.faces.now a.s a.options a.out_points-1.now a.out_faces-1.now a.report-1.now a.origins-1.now a.four-1.now a.work-1.now start.requires (rw told.in-Refused.is at at-repair.repair.ensures) c.put_four-in-Refused.ensures
+returns-in-Refused c = let a = c.args in
+    turned_away a.points.now a.faces.now a.s a.options a.out_points-1.now a.out_faces-1.now a.report-1.now a.origins-1.now a.four-1.now a.work-1.now c.requires (rw c.in-Refused.is at c.repair.ensures) c.put_four-in-Refused.ensures

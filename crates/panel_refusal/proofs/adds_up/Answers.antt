@@ -14,10 +14,10 @@ pub overflow_mul-taken : goal.overflow_mul-taken
 overflow_mul-taken c = omega (arith, c.shared_slice_known-1.given c.loop-k.k)
 
 pub returns-then-left-taken : goal.returns-then-left-taken
-returns-then-left-taken c = let l = c.before.before in too_much l.loop-k.invariant l.loop-k-test.true c.if-left-taken.true
+returns-then-left-taken c = too_much c.loop-k.invariant c.loop-k-test.true c.if-left-taken.true
 
 pub loop-k-preserved : goal.loop-k-preserved
-loop-k-preserved c = let l = c.before.before in again l.loop-k.invariant l.loop-k-test.true (omega arith)
+loop-k-preserved c = again c.loop-k.invariant c.loop-k-test.true (omega arith)
 
 pub returns : goal.returns
 returns c = done c.loop-k.invariant c.loop-k-test.false

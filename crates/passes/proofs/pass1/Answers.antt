@@ -12,28 +12,17 @@ pub mark-marked-requires : goal.mark-marked-requires
 mark-marked-requires c = reads1 c.requires
 
 pub leave-left-requires : goal.leave-left-requires
-leave-left-requires c = let at_mark = c.before.before.before.before.before in
-    let start = at_mark.before.before.before.before.before.before.before.before.before in
-    leaves1 start.requires at_mark.mark-marked.ensures.mark_gives
+leave-left-requires c = leaves1 c.requires c.mark-marked.ensures.mark_gives
 
 pub overflow_sub-result : goal.overflow_sub-result
-overflow_sub-result c = let at-leave = c.before.before.before.before in
-    let at_mark = at-leave.before.before.before.before.before.before in
-    left_fewer (left_by at_mark.mark-marked.ensures.mark_gives at-leave.leave-left.ensures)
+overflow_sub-result c = left_fewer (left_by c.mark-marked.ensures.mark_gives c.leave-left.ensures)
 
 pub overflow_sub-result-then-options-eq1 : goal.overflow_sub-result-then-options-eq1
-overflow_sub-result-then-options-eq1 c = let at-leave = c.before.before.before.before.before in
-    let at_mark = at-leave.before.before.before.before.before.before in
-    let start = at_mark.before.before.before.before.before.before.before.before.before in
-    fewer_repeated start.requires start.args.s (left_by at_mark.mark-marked.ensures.mark_gives at-leave.leave-left.ensures) at_mark.mark-marked.ensures.found_value
+overflow_sub-result-then-options-eq1 c = fewer_repeated c.requires c.args.s (left_by c.mark-marked.ensures.mark_gives c.leave-left.ensures) c.mark-marked.ensures.found_value
 
 pub returns-then-options-eq1 : goal.returns-then-options-eq1
-returns-then-options-eq1 c = let at-leave = c.before.before.before.before.before in
-    let at_mark = at-leave.before.before.before.before.before.before in
-    let start = at_mark.before.before.before.before.before.before.before.before.before in
-    rw (bit_set 0 start.args.options (lowest start.args.options ∙ at_mark.if-options-eq1.true))
-    (on1 start.requires start.args.s at_mark.mark-marked.ensures.mark_gives (left_by at_mark.mark-marked.ensures.mark_gives at-leave.leave-left.ensures) at_mark.mark-marked.ensures.found_value)
+returns-then-options-eq1 c = rw (bit_set 0 c.args.options (lowest c.args.options ∙ c.if-options-eq1.true))
+    (on1 c.requires c.args.s c.mark-marked.ensures.mark_gives (left_by c.mark-marked.ensures.mark_gives c.leave-left.ensures) c.mark-marked.ensures.found_value)
 
 pub returns : goal.returns
-returns c = let start = c.before.before.before.before.before in
-    rw (bit_clear 0 start.args.options (λ e. c.if-options-eq1.false (sym (lowest start.args.options) ∙ e))) (off1 start.requires start.args.s)
+returns c = rw (bit_clear 0 c.args.options (λ e. c.if-options-eq1.false (sym (lowest c.args.options) ∙ e))) (off1 c.requires c.args.s)

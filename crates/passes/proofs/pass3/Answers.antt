@@ -12,22 +12,14 @@ pub mark-marked-requires : goal.mark-marked-requires
 mark-marked-requires c = reads3 c.requires
 
 pub leave-left-requires : goal.leave-left-requires
-leave-left-requires c = let at_mark = c.before.before.before.before.before in
-    let start = at_mark.before.before.before.before.before.before.before.before.before in
-    leaves3 start.requires at_mark.mark-marked.ensures.fact
+leave-left-requires c = leaves3 c.requires c.mark-marked.ensures.fact
 
 pub overflow_sub-result : goal.overflow_sub-result
-overflow_sub-result c = let at-leave = c.before.before.before.before in
-    let at_mark = at-leave.before.before.before.before.before.before in
-    left_fewer (left_by at_mark.mark-marked.ensures.fact at-leave.leave-left.ensures)
+overflow_sub-result c = left_fewer (left_by c.mark-marked.ensures.fact c.leave-left.ensures)
 
 pub returns-then-options-eq1 : goal.returns-then-options-eq1
-returns-then-options-eq1 c = let at-leave = c.before.before.before.before in
-    let at_mark = at-leave.before.before.before.before.before.before in
-    let start = at_mark.before.before.before.before.before.before.before.before.before in
-    rw (bit_set 2 start.args.options at_mark.if-options-eq1.true)
-    (on3 start.requires at_mark.mark-marked.ensures.fact (left_by at_mark.mark-marked.ensures.fact at-leave.leave-left.ensures) at_mark.mark-marked.ensures.found_value)
+returns-then-options-eq1 c = rw (bit_set 2 c.args.options c.if-options-eq1.true)
+    (on3 c.requires c.mark-marked.ensures.fact (left_by c.mark-marked.ensures.fact c.leave-left.ensures) c.mark-marked.ensures.found_value)
 
 pub returns : goal.returns
-returns c = let start = c.before.before.before.before.before in
-    rw (bit_clear 2 start.args.options c.if-options-eq1.false) (off3 start.requires)
+returns c = rw (bit_clear 2 c.args.options c.if-options-eq1.false) (off3 c.requires)

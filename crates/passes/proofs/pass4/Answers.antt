@@ -15,19 +15,13 @@ pub slice_bounds-drop_collisions-end-then-options-eq1 : goal.slice_bounds-drop_c
 slice_bounds-drop_collisions-end-then-options-eq1 c = omega (arith, as_long c.requires)
 
 pub drop_collisions-left-requires : goal.drop_collisions-left-requires
-drop_collisions-left-requires c = let at-settle = c.before.before.before.before.before.before.before.before in
-    let start = at-settle.before.before.before.before.before.before.before.before in
-    (turned_reads start.requires at-settle.settle-turned.ensures.orient_gives, (start.requires.own, at-settle.settle-turned.ensures.once))
+drop_collisions-left-requires c = (turned_reads c.requires c.settle-turned.ensures.orient_gives, (c.requires.own, c.settle-turned.ensures.once))
 
 pub overflow_sub-result : goal.overflow_sub-result
 overflow_sub-result c = left_fewer c.drop_collisions-left.ensures.leave_gives
 
 pub returns-then-options-eq1 : goal.returns-then-options-eq1
-returns-then-options-eq1 c = let at_drop = c.before.before.before.before.before.before in
-    let at-settle = at_drop.before.before.before.before.before.before.before.before.before in
-    let start = at-settle.before.before.before.before.before.before.before.before in
-    rw (bit_set 4 start.args.options at-settle.if-options-eq1.true) (on4 start.requires at-settle.settle-turned.ensures.orient_gives at_drop.drop_collisions-left.ensures.only at_drop.drop_collisions-left.ensures.leave_gives)
+returns-then-options-eq1 c = rw (bit_set 4 c.args.options c.if-options-eq1.true) (on4 c.requires c.settle-turned.ensures.orient_gives c.drop_collisions-left.ensures.only c.drop_collisions-left.ensures.leave_gives)
 
 pub returns : goal.returns
-returns c = let start = c.before.before.before.before.before in
-    rw (bit_clear 4 start.args.options c.if-options-eq1.false) (off4 start.requires)
+returns c = rw (bit_clear 4 c.args.options c.if-options-eq1.false) (off4 c.requires)

@@ -10,10 +10,7 @@ pub overflow_sub-result : goal.overflow_sub-result
 overflow_sub-result c = c.split_bowtie_vertices-split.ensures.least
 
 pub returns-then-options-eq1 : goal.returns-then-options-eq1
-returns-then-options-eq1 c = let at_call = c.before.before.before.before.before.before in
-    let start = at_call.before.before.before.before.before.before.before.before.before in
-    rw (bit_set 3 start.args.options at_call.if-options-eq1.true) (on5 start.requires at_call.split_bowtie_vertices-split.ensures)
+returns-then-options-eq1 c = rw (bit_set 3 c.args.options c.if-options-eq1.true) (on5 c.requires c.split_bowtie_vertices-split.ensures)
 
 pub returns : goal.returns
-returns c = let start = c.before.before.before.before.before in
-    rw (bit_clear 3 start.args.options c.if-options-eq1.false) (off5 start.requires)
+returns c = rw (bit_clear 3 c.args.options c.if-options-eq1.false) (off5 c.requires)

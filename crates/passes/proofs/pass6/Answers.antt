@@ -11,10 +11,7 @@ pub overflow_sub-result : goal.overflow_sub-result
 overflow_sub-result c = omega (arith, c.drop_isolated_vertices-left.ensures.number)
 
 pub returns-then-options-eq1 : goal.returns-then-options-eq1
-returns-then-options-eq1 c = let at_call = c.before.before.before.before.before.before in
-    let start = at_call.before.before.before.before.before.before.before.before.before in
-    rw (bit_set 5 start.args.options at_call.if-options-eq1.true) (on6 _ start.requires at_call.drop_isolated_vertices-left.ensures)
+returns-then-options-eq1 c = rw (bit_set 5 c.args.options c.if-options-eq1.true) (on6 _ c.requires c.drop_isolated_vertices-left.ensures)
 
 pub returns : goal.returns
-returns c = let start = c.before.before.before.before.before in
-    rw (bit_clear 5 start.args.options c.if-options-eq1.false) (off6 _ start.requires)
+returns c = rw (bit_clear 5 c.args.options c.if-options-eq1.false) (off6 _ c.requires)

@@ -6,7 +6,4 @@ pub with_face-s-requires : goal.with_face-s-requires
 with_face-s-requires c = corners_in c.requires
 
 pub returns : goal.returns
-returns c = let w = c.before.before in
-    let f = w.before.before in
-    let r = f.before.before.before.before in
-    added r.requires r.read-r.ensures f.with_face-s.ensures w.write.ensures.only_of w.write.ensures.k_after
+returns c = added c.requires c.read-r.ensures c.with_face-s.ensures c.write.ensures.only_of c.write.ensures.k_after

@@ -19,12 +19,10 @@ pub bounds-labels-i : goal.bounds-labels-i
 bounds-labels-i c = c.loop-i-test.true
 
 pub overflow_cast-label : goal.overflow_cast-label
-overflow_cast-label c = let a = c.before.before.before.before in
-    omega (arith, label_in a.requires a.begin.ensures a.loop-i.invariant c.loop-i-test.true c.if-label.true, a.requires.few)
+overflow_cast-label c = omega (arith, label_in c.requires c.begin.ensures c.loop-i.invariant c.loop-i-test.true c.if-label.true, c.requires.few)
 
 pub add_face-requires : goal.add_face-requires
-add_face-requires c = let a = c.before.before.before.before in
-    add_asks a.requires a.begin.ensures a.loop-i.invariant c.loop-i-test.true c.if-label.true
+add_face-requires c = add_asks c.requires c.begin.ensures c.loop-i.invariant c.loop-i-test.true c.if-label.true
 
 pub overflow_add-i : goal.overflow_add-i
 overflow_add-i c = omega (arith, c.loop-i-test.true, c.requires.short)
@@ -33,9 +31,7 @@ pub loop-i-smaller : goal.loop-i-smaller
 loop-i-smaller c = omega (arith, c.loop-i-test.true)
 
 pub loop-i-preserved : goal.loop-i-preserved
-loop-i-preserved c = let t = c.before.before in
-    let a = t.before in
-    elim c.if-label.branch [ then-label w ↦ rw w.5 (adds a.requires a.begin.ensures a.loop-i.invariant t.loop-i-test.true w.if-label.true w.2.ensures) | else-label w ↦ rw w.1 (skips a.requires a.begin.ensures a.loop-i.invariant t.loop-i-test.true w.if-label.false) ]
+loop-i-preserved c = elim c.if-label.branch [ then-label w ↦ rw w.5 (adds c.requires c.begin.ensures c.loop-i.invariant c.loop-i-test.true w.if-label.true w.2.ensures) | else-label w ↦ rw w.1 (skips c.requires c.begin.ensures c.loop-i.invariant c.loop-i-test.true w.if-label.false) ]
 
 pub shape_of-numbers : goal.shape_of-numbers
 shape_of-numbers c = c.loop-i.invariant.only.long ∙ c.begin.ensures.only.long

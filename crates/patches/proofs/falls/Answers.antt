@@ -10,14 +10,10 @@ pub returns-then-under : goal.returns-then-under
 returns-then-under c = second_test _ _ _ _ (sym c.few.ensures ∙ c.if-few.false) (sym c.under.ensures ∙ c.if-under.true)
 
 pub returns-then-under-2 : goal.returns-then-under-2
-returns-then-under-2 c = let d = c.before.before in
-    let u = d.before.before in
-    third_test _ _ _ _ (sym u.few.ensures ∙ u.if-few.false) (sym u.under.ensures ∙ d.if-under.false)
-    (sym (rw d.diagonal.ensures at c.under-2.ensures) ∙ c.if-under-2.true)
+returns-then-under-2 c = third_test _ _ _ _ (sym c.few.ensures ∙ c.if-few.false) (sym c.under.ensures ∙ c.if-under.false)
+    (sym (rw c.diagonal.ensures at c.under-2.ensures) ∙ c.if-under-2.true)
 
 pub returns : goal.returns
-returns c = let d = c.before.before.before in
-    let u = d.before.before in
-    c.under-3.ensures
-    ∙ last_test _ _ _ _ (sym u.few.ensures ∙ u.if-few.false) (sym u.under.ensures ∙ d.if-under.false)
-    (sym (rw d.diagonal.ensures at c.under-2.ensures) ∙ c.if-under-2.false)
+returns c = c.under-3.ensures
+    ∙ last_test _ _ _ _ (sym c.few.ensures ∙ c.if-few.false) (sym c.under.ensures ∙ c.if-under.false)
+    (sym (rw c.diagonal.ensures at c.under-2.ensures) ∙ c.if-under-2.false)

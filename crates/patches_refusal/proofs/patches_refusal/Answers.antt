@@ -7,31 +7,21 @@ pub returns-in_default : goal.returns-in_default
 returns-in_default c = hand_on _ _ _ _ _ c.sizes-found.ensures c.in_default.is
 
 pub returns-then-count-gt-MOST_PATCHES : goal.returns-then-count-gt-MOST_PATCHES
-returns-then-count-gt-MOST_PATCHES c = let t1 = c.before in
-    go_on _ _ _ _ t1.sizes-found.ensures t1.in-Fine.is (stop_at _ _ _ _ (many _ _ _ c.if-count-gt-MOST_PATCHES.true))
+returns-then-count-gt-MOST_PATCHES c = go_on _ _ _ _ c.sizes-found.ensures c.in-Fine.is (stop_at _ _ _ _ (many _ _ _ c.if-count-gt-MOST_PATCHES.true))
 
 pub returns-in_default-found : goal.returns-in_default-found
-returns-in_default-found c = let i = c.before.before.before in
-    let t1 = i.before in
-    go_on _ _ _ _ t1.sizes-found.ensures t1.in-Fine.is
-    (go_past _ _ _ (few _ _ _ i.if-count-gt-MOST_PATCHES.false)
+returns-in_default-found c = go_on _ _ _ _ c.sizes-found.ensures c.in-Fine.is
+    (go_past _ _ _ (few _ _ _ c.if-count-gt-MOST_PATCHES.false)
     (hand_on _ _ _ _ _ c.contents-found.ensures c.in_default-found.is))
 
 pub returns-in_default-found-2 : goal.returns-in_default-found-2
-returns-in_default-found-2 c = let t2 = c.before.before.before in
-    let i = t2.before.before.before in
-    let t1 = i.before in
-    go_on _ _ _ _ t1.sizes-found.ensures t1.in-Fine.is
-    (go_past _ _ _ (few _ _ _ i.if-count-gt-MOST_PATCHES.false)
-    (go_on _ _ _ _ t2.contents-found.ensures t2.in-Fine-found.is
+returns-in_default-found-2 c = go_on _ _ _ _ c.sizes-found.ensures c.in-Fine.is
+    (go_past _ _ _ (few _ _ _ c.if-count-gt-MOST_PATCHES.false)
+    (go_on _ _ _ _ c.contents-found.ensures c.in-Fine-found.is
     (hand_on _ _ _ _ _ c.labelling-found.ensures c.in_default-found-2.is)))
 
 pub returns : goal.returns
-returns c = let t3 = c.before in
-    let t2 = t3.before.before.before in
-    let i = t2.before.before.before in
-    let t1 = i.before in
-    go_on _ _ _ _ t1.sizes-found.ensures t1.in-Fine.is
-    (go_past _ _ _ (few _ _ _ i.if-count-gt-MOST_PATCHES.false)
-    (go_on _ _ _ _ t2.contents-found.ensures t2.in-Fine-found.is
-    (go_on _ _ _ _ t3.labelling-found.ensures t3.in-Fine-found-2.is (last _ _ c.short_room.ensures))))
+returns c = go_on _ _ _ _ c.sizes-found.ensures c.in-Fine.is
+    (go_past _ _ _ (few _ _ _ c.if-count-gt-MOST_PATCHES.false)
+    (go_on _ _ _ _ c.contents-found.ensures c.in-Fine-found.is
+    (go_on _ _ _ _ c.labelling-found.ensures c.in-Fine-found-2.is (last _ _ c.short_room.ensures))))

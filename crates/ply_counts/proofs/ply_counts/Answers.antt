@@ -8,15 +8,11 @@ pub returns-in_default : goal.returns-in_default
 returns-in_default c = is_other _ (subst (Heads _) c.in_default.is c.head.ensures)
 
 pub returns-in-Fine : goal.returns-in-Fine
-returns-in-Fine c = let at-counts = c.before.before in
-    let at_p = at-counts.before.before in
-    let file = at_p.args.file.now in
-    let w : Whole file _ _ _ = subst (Heads file) at_p.in-Is.is at_p.head.ensures in
-    is_done w _ at-counts.counts.ensures c.in-Fine.is
+returns-in-Fine c = let file = c.args.file.now in
+    let w : Whole file _ _ _ = subst (Heads file) c.in-Is.is c.head.ensures in
+    is_done w _ c.counts.ensures c.in-Fine.is
 
 pub returns-in-Refused : goal.returns-in-Refused
-returns-in-Refused c = let at-counts = c.before.before.before in
-    let at_p = at-counts.before.before in
-    let file = at_p.args.file.now in
-    let w : Whole file _ _ _ = subst (Heads file) at_p.in-Is.is at_p.head.ensures in
-    is_refused w _ at-counts.counts.ensures _ _ c.in-Refused.is
+returns-in-Refused c = let file = c.args.file.now in
+    let w : Whole file _ _ _ = subst (Heads file) c.in-Is.is c.head.ensures in
+    is_refused w _ c.counts.ensures _ _ c.in-Refused.is

@@ -14,150 +14,88 @@ returns-then-not-stands c = let file = c.args.file.now in
 
 pub read_line-requires : goal.read_line-requires
 unfolding before_vertices bytes
-read_line-requires c = let else1 = c in
-    let start = else1.before.before.before.before in
-    let file = start.args.file.now in
-    first_fits file (omega arith) else1.stands.ensures (not_false else1.stands.result else1.if-not-stands.false)
+read_line-requires c = let file = c.args.file.now in
+    first_fits file (omega arith) c.stands.ensures (not_false c.stands.result c.if-not-stands.false)
 
 pub returns-in_default : goal.returns-in_default
-returns-in_default c = let else1 = c.before.before.before in
-    let start = else1.before.before.before.before in
-    let file = start.args.file.now in
+returns-in_default c = let file = c.args.file.now in
     no_vertices file (omega arith) (subst (Lines file 51) c.in_default.is c.read_line.ensures)
 
 pub stands-requires-2 : goal.stands-requires-2
-stands-requires-2 c = let at_p = c.before.before in
-    let else1 = at_p.before.before.before in
-    let start = else1.before.before.before.before in
-    let file = start.args.file.now in
-    let k : LineIs file 51 _ _ = subst (Lines file 51) at_p.in-Is.is at_p.read_line.ensures in
+stands-requires-2 c = let file = c.args.file.now in
+    let k : LineIs file 51 _ _ = subst (Lines file 51) c.in-Is.is c.read_line.ensures in
     k.inside
 
 pub returns-then-not-stands-2 : goal.returns-then-not-stands-2
 unfolding before_faces bytes
-returns-then-not-stands-2 c = let at_p = c.before.before.before.before in
-    let else1 = at_p.before.before.before in
-    let start = else1.before.before.before.before in
-    let file = start.args.file.now in
-    let k : LineIs file 51 _ _ = subst (Lines file 51) at_p.in-Is.is at_p.read_line.ensures in
+returns-then-not-stands-2 c = let file = c.args.file.now in
+    let k : LineIs file 51 _ _ = subst (Lines file 51) c.in-Is.is c.read_line.ensures in
     no_second file (omega arith) k c.stands-2.ensures (not_true c.stands-2.result c.if-not-stands-2.true)
 
 pub overflow_add-a : goal.overflow_add-a
 unfolding before_faces bytes
-overflow_add-a c = let else2 = c in
-    let at_p = else2.before.before.before.before in
-    let else1 = at_p.before.before.before in
-    let start = else1.before.before.before.before in
-    let file = start.args.file.now in
-    let k : LineIs file 51 _ _ = subst (Lines file 51) at_p.in-Is.is at_p.read_line.ensures in
-    omega (arith, second_fits file (omega arith) k else2.stands-2.ensures (not_false else2.stands-2.result else2.if-not-stands-2.false))
+overflow_add-a c = let file = c.args.file.now in
+    let k : LineIs file 51 _ _ = subst (Lines file 51) c.in-Is.is c.read_line.ensures in
+    omega (arith, second_fits file (omega arith) k c.stands-2.ensures (not_false c.stands-2.result c.if-not-stands-2.false))
 
 pub read_line-requires-2 : goal.read_line-requires-2
 unfolding before_faces bytes
-read_line-requires-2 c = let else2 = c in
-    let at_p = else2.before.before.before.before in
-    let else1 = at_p.before.before.before in
-    let start = else1.before.before.before.before in
-    let file = start.args.file.now in
-    let k : LineIs file 51 _ _ = subst (Lines file 51) at_p.in-Is.is at_p.read_line.ensures in
-    second_fits file (omega arith) k else2.stands-2.ensures (not_false else2.stands-2.result else2.if-not-stands-2.false)
+read_line-requires-2 c = let file = c.args.file.now in
+    let k : LineIs file 51 _ _ = subst (Lines file 51) c.in-Is.is c.read_line.ensures in
+    second_fits file (omega arith) k c.stands-2.ensures (not_false c.stands-2.result c.if-not-stands-2.false)
 
 pub returns-in_default-read_line : goal.returns-in_default-read_line
-returns-in_default-read_line c = let else2 = c.before.before.before in
-    let at_p = else2.before.before.before.before in
-    let else1 = at_p.before.before.before in
-    let start = else1.before.before.before.before in
-    let file = start.args.file.now in
-    let k : LineIs file 51 _ _ = subst (Lines file 51) at_p.in-Is.is at_p.read_line.ensures in
+returns-in_default-read_line c = let file = c.args.file.now in
+    let k : LineIs file 51 _ _ = subst (Lines file 51) c.in-Is.is c.read_line.ensures in
     no_faces file (omega arith) k (subst (Lines file _) c.in_default-read_line.is c.read_line-2.ensures)
 
 pub stands-requires-3 : goal.stands-requires-3
-stands-requires-3 c = let at_f = c.before.before in
-    let else2 = at_f.before.before.before in
-    let at_p = else2.before.before.before.before in
-    let else1 = at_p.before.before.before in
-    let start = else1.before.before.before.before in
-    let file = start.args.file.now in
-    let k : LineIs file 51 _ _ = subst (Lines file 51) at_p.in-Is.is at_p.read_line.ensures in
-    let m : LineIs file _ _ _ = subst (Lines file _) at_f.in-Is-read_line.is at_f.read_line-2.ensures in
+stands-requires-3 c = let file = c.args.file.now in
+    let k : LineIs file 51 _ _ = subst (Lines file 51) c.in-Is.is c.read_line.ensures in
+    let m : LineIs file _ _ _ = subst (Lines file _) c.in-Is-read_line.is c.read_line-2.ensures in
     m.inside
 
 pub returns-then-not-stands-3 : goal.returns-then-not-stands-3
 unfolding after_counts bytes
-returns-then-not-stands-3 c = let at_f = c.before.before.before.before in
-    let else2 = at_f.before.before.before in
-    let at_p = else2.before.before.before.before in
-    let else1 = at_p.before.before.before in
-    let start = else1.before.before.before.before in
-    let file = start.args.file.now in
-    let k : LineIs file 51 _ _ = subst (Lines file 51) at_p.in-Is.is at_p.read_line.ensures in
-    let m : LineIs file _ _ _ = subst (Lines file _) at_f.in-Is-read_line.is at_f.read_line-2.ensures in
+returns-then-not-stands-3 c = let file = c.args.file.now in
+    let k : LineIs file 51 _ _ = subst (Lines file 51) c.in-Is.is c.read_line.ensures in
+    let m : LineIs file _ _ _ = subst (Lines file _) c.in-Is-read_line.is c.read_line-2.ensures in
     no_third file (omega arith) k m c.stands-3.ensures (not_true c.stands-3.result c.if-not-stands-3.true)
 
 pub overflow_add-b : goal.overflow_add-b
 unfolding after_counts bytes
-overflow_add-b c = let else3 = c in
-    let at_f = else3.before.before.before.before in
-    let else2 = at_f.before.before.before in
-    let at_p = else2.before.before.before.before in
-    let else1 = at_p.before.before.before in
-    let start = else1.before.before.before.before in
-    let file = start.args.file.now in
-    let k : LineIs file 51 _ _ = subst (Lines file 51) at_p.in-Is.is at_p.read_line.ensures in
-    let m : LineIs file _ _ _ = subst (Lines file _) at_f.in-Is-read_line.is at_f.read_line-2.ensures in
-    omega (arith, third_fits file (omega arith) k m else3.stands-3.ensures (not_false else3.stands-3.result else3.if-not-stands-3.false))
+overflow_add-b c = let file = c.args.file.now in
+    let k : LineIs file 51 _ _ = subst (Lines file 51) c.in-Is.is c.read_line.ensures in
+    let m : LineIs file _ _ _ = subst (Lines file _) c.in-Is-read_line.is c.read_line-2.ensures in
+    omega (arith, third_fits file (omega arith) k m c.stands-3.ensures (not_false c.stands-3.result c.if-not-stands-3.false))
 
 pub overflow_sub-file : goal.overflow_sub-file
 unfolding after_counts bytes
-overflow_sub-file c = let else3 = c in
-    let at_f = else3.before.before.before.before in
-    let else2 = at_f.before.before.before in
-    let at_p = else2.before.before.before.before in
-    let else1 = at_p.before.before.before in
-    let start = else1.before.before.before.before in
-    let file = start.args.file.now in
-    let k : LineIs file 51 _ _ = subst (Lines file 51) at_p.in-Is.is at_p.read_line.ensures in
-    let m : LineIs file _ _ _ = subst (Lines file _) at_f.in-Is-read_line.is at_f.read_line-2.ensures in
-    omega (arith, third_fits file (omega arith) k m else3.stands-3.ensures (not_false else3.stands-3.result else3.if-not-stands-3.false))
+overflow_sub-file c = let file = c.args.file.now in
+    let k : LineIs file 51 _ _ = subst (Lines file 51) c.in-Is.is c.read_line.ensures in
+    let m : LineIs file _ _ _ = subst (Lines file _) c.in-Is-read_line.is c.read_line-2.ensures in
+    omega (arith, third_fits file (omega arith) k m c.stands-3.ensures (not_false c.stands-3.result c.if-not-stands-3.false))
 
 pub overflow_add-result : goal.overflow_add-result
 unfolding after_counts bytes
-overflow_add-result c = let else3 = c.before.before in
-    let at_f = else3.before.before.before.before in
-    let else2 = at_f.before.before.before in
-    let at_p = else2.before.before.before.before in
-    let else1 = at_p.before.before.before in
-    let start = else1.before.before.before.before in
-    let file = start.args.file.now in
-    let k : LineIs file 51 _ _ = subst (Lines file 51) at_p.in-Is.is at_p.read_line.ensures in
-    let m : LineIs file _ _ _ = subst (Lines file _) at_f.in-Is-read_line.is at_f.read_line-2.ensures in
-    omega (arith, third_fits file (omega arith) k m else3.stands-3.ensures (not_false else3.stands-3.result else3.if-not-stands-3.false))
+overflow_add-result c = let file = c.args.file.now in
+    let k : LineIs file 51 _ _ = subst (Lines file 51) c.in-Is.is c.read_line.ensures in
+    let m : LineIs file _ _ _ = subst (Lines file _) c.in-Is-read_line.is c.read_line-2.ensures in
+    omega (arith, third_fits file (omega arith) k m c.stands-3.ensures (not_false c.stands-3.result c.if-not-stands-3.false))
 
 pub returns-then-fills : goal.returns-then-fills
 unfolding before_vertices before_faces after_counts bytes
-returns-then-fills c = let else3 = c.before.before in
-    let at_f = else3.before.before.before.before in
-    let else2 = at_f.before.before.before in
-    let at_p = else2.before.before.before.before in
-    let else1 = at_p.before.before.before in
-    let start = else1.before.before.before.before in
-    let file = start.args.file.now in
-    let k : LineIs file 51 _ _ = subst (Lines file 51) at_p.in-Is.is at_p.read_line.ensures in
-    let m : LineIs file _ _ _ = subst (Lines file _) at_f.in-Is-read_line.is at_f.read_line-2.ensures in
-    is_whole file (omega arith) k m else1.stands.ensures (not_false else1.stands.result else1.if-not-stands.false)
-    else2.stands-2.ensures (not_false else2.stands-2.result else2.if-not-stands-2.false)
-    else3.stands-3.ensures (not_false else3.stands-3.result else3.if-not-stands-3.false)
-    (third_fits file (omega arith) k m else3.stands-3.ensures (not_false else3.stands-3.result else3.if-not-stands-3.false)) c.fills.ensures c.if-fills.true
+returns-then-fills c = let file = c.args.file.now in
+    let k : LineIs file 51 _ _ = subst (Lines file 51) c.in-Is.is c.read_line.ensures in
+    let m : LineIs file _ _ _ = subst (Lines file _) c.in-Is-read_line.is c.read_line-2.ensures in
+    is_whole file (omega arith) k m c.stands.ensures (not_false c.stands.result c.if-not-stands.false)
+    c.stands-2.ensures (not_false c.stands-2.result c.if-not-stands-2.false)
+    c.stands-3.ensures (not_false c.stands-3.result c.if-not-stands-3.false)
+    (third_fits file (omega arith) k m c.stands-3.ensures (not_false c.stands-3.result c.if-not-stands-3.false)) c.fills.ensures c.if-fills.true
 
 pub returns : goal.returns
 unfolding after_counts bytes
-returns c = let else3 = c.before.before in
-    let at_f = else3.before.before.before.before in
-    let else2 = at_f.before.before.before in
-    let at_p = else2.before.before.before.before in
-    let else1 = at_p.before.before.before in
-    let start = else1.before.before.before.before in
-    let file = start.args.file.now in
-    let k : LineIs file 51 _ _ = subst (Lines file 51) at_p.in-Is.is at_p.read_line.ensures in
-    let m : LineIs file _ _ _ = subst (Lines file _) at_f.in-Is-read_line.is at_f.read_line-2.ensures in
-    no_body file (omega arith) k m (third_fits file (omega arith) k m else3.stands-3.ensures (not_false else3.stands-3.result else3.if-not-stands-3.false)) c.fills.ensures c.if-fills.false
+returns c = let file = c.args.file.now in
+    let k : LineIs file 51 _ _ = subst (Lines file 51) c.in-Is.is c.read_line.ensures in
+    let m : LineIs file _ _ _ = subst (Lines file _) c.in-Is-read_line.is c.read_line-2.ensures in
+    no_body file (omega arith) k m (third_fits file (omega arith) k m c.stands-3.ensures (not_false c.stands-3.result c.if-not-stands-3.false)) c.fills.ensures c.if-fills.false

@@ -9,40 +9,29 @@ pub returns-in_default : goal.returns-in_default
 returns-in_default c = is_formless _ _ (subst (Heads _) c.in_default.is c.head.ensures)
 
 pub returns-in_default-found : goal.returns-in_default-found
-returns-in_default-found c = let t2 = c in
-    let at_p = t2.before.before.before.before in
-    let file = at_p.args.file.now in
-    let w : Whole file _ _ _ = subst (Heads file) at_p.in-Is.is at_p.head.ensures in
+returns-in_default-found c = let file = c.args.file.now in
+    let w : Whole file _ _ _ = subst (Heads file) c.in-Is.is c.head.ensures in
     hand_on _ _ _ _ _ (is_opened w c.counts-found.result c.counts-found.ensures) c.in_default-found.is
 
 pub contents-found-requires : goal.contents-found-requires
-contents-found-requires c = let t2 = c in
-    let at_p = t2.before.before.before.before in
-    let file = at_p.args.file.now in
-    let w : Whole file _ _ _ = subst (Heads file) at_p.in-Is.is at_p.head.ensures in
+contents-found-requires c = let file = c.args.file.now in
+    let w : Whole file _ _ _ = subst (Heads file) c.in-Is.is c.head.ensures in
     body_asks w _ c.counts-found.ensures c.in-Fine.is
 
 pub returns-in_default-found-2 : goal.returns-in_default-found-2
-returns-in_default-found-2 c = let t2 = c.before.before.before in
-    let at_p = t2.before.before.before.before in
-    let file = at_p.args.file.now in
-    let w : Whole file _ _ _ = subst (Heads file) at_p.in-Is.is at_p.head.ensures in
-    go_on _ _ _ _ (is_opened w t2.counts-found.result t2.counts-found.ensures) t2.in-Fine.is
+returns-in_default-found-2 c = let file = c.args.file.now in
+    let w : Whole file _ _ _ = subst (Heads file) c.in-Is.is c.head.ensures in
+    go_on _ _ _ _ (is_opened w c.counts-found.result c.counts-found.ensures) c.in-Fine.is
     (hand_on _ _ _ _ _ c.contents-found.ensures c.in_default-found-2.is)
 
 pub short_room-requires : goal.short_room-requires
-short_room-requires c = let t2 = c.before.before.before in
-    let at_p = t2.before.before.before.before in
-    let file = at_p.args.file.now in
-    let w : Whole file _ _ _ = subst (Heads file) at_p.in-Is.is at_p.head.ensures in
-    (body_asks w _ t2.counts-found.ensures t2.in-Fine.is).limits
+short_room-requires c = let file = c.args.file.now in
+    let w : Whole file _ _ _ = subst (Heads file) c.in-Is.is c.head.ensures in
+    (body_asks w _ c.counts-found.ensures c.in-Fine.is).limits
 
 pub returns : goal.returns
-returns c = let t3 = c.before in
-    let t2 = t3.before.before.before in
-    let at_p = t2.before.before.before.before in
-    let file = at_p.args.file.now in
-    let w : Whole file _ _ _ = subst (Heads file) at_p.in-Is.is at_p.head.ensures in
-    let b = body_asks w _ t2.counts-found.ensures t2.in-Fine.is in
-    go_on _ _ _ _ (is_opened w t2.counts-found.result t2.counts-found.ensures) t2.in-Fine.is
-    (go_on _ _ _ _ t3.contents-found.ensures t3.in-Fine-found.is (last _ _ (six b _ _ _ c.short_room.ensures)))
+returns c = let file = c.args.file.now in
+    let w : Whole file _ _ _ = subst (Heads file) c.in-Is.is c.head.ensures in
+    let b = body_asks w _ c.counts-found.ensures c.in-Fine.is in
+    go_on _ _ _ _ (is_opened w c.counts-found.result c.counts-found.ensures) c.in-Fine.is
+    (go_on _ _ _ _ c.contents-found.ensures c.in-Fine-found.is (last _ _ (six b _ _ _ c.short_room.ensures)))

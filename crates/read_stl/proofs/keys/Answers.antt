@@ -6,8 +6,7 @@ use Rattle.read_stl.proofs.Keying.{begin, turn, read_at, read_first, again, done
 use Rattle.read_stl.proofs.keys.Goals as goal
 
 pub loop-c-init : goal.loop-c-init
-loop-c-init c = let start = c.before.before in
-    begin start.requires
+loop-c-init c = begin c.requires
 
 pub place_of-i-requires : goal.place_of-i-requires
 place_of-i-requires c = omega (arith, turn c.requires c.loop-c.invariant c.loop-c-test.true)

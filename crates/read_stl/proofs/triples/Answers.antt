@@ -5,8 +5,7 @@ use Rattle.read_stl.proofs.Numbering.{begin, turn, again, done}
 use Rattle.read_stl.proofs.triples.Goals as goal
 
 pub loop-c-init : goal.loop-c-init
-loop-c-init c = let start = c in
-    begin start.requires
+loop-c-init c = begin c.requires
 
 pub overflow_mul-j : goal.overflow_mul-j
 overflow_mul-j c = omega (arith, turn c.requires c.loop-c.invariant c.loop-c-test.true)

@@ -3,168 +3,80 @@ use Rattle.repair_panel.proofs.Ending.{is_refused, is_accepted, sizes, is_done}
 use Rattle.repair_panel.proofs.repair_panel.Goals as goal
 
 pub returns-in-Refused : goal.returns-in-Refused
-returns-in-Refused c = let refusal = c.before.before.before in
-    let start = c.before.before.before.before.before.before.before.before.before.before.before.before.before.before in
-    let a = start.args in
-    is_refused a.points.now a.faces.now a.point-counts.now a.face_counts.now a.s a.options a.out_points-1.now a.out_faces-1.now a.report-1.now a.origins-1.now a.meshes-1.now a.work-1.now _ refusal.panel_refusal.ensures _ _ c.in-Refused.is
+returns-in-Refused c = let a = c.args in
+    is_refused a.points.now a.faces.now a.point-counts.now a.face_counts.now a.s a.options a.out_points-1.now a.out_faces-1.now a.report-1.now a.origins-1.now a.meshes-1.now a.work-1.now _ c.panel_refusal.ensures _ _ c.in-Refused.is
 
 pub largest-largest-requires : goal.largest-largest-requires
-largest-largest-requires c = let refusal = c.before.before in
-    let fine = c in
-    let start = c.before.before.before.before.before.before.before.before.before.before.before.before.before in
-    let a = start.args in
-    (is_accepted a.points.now a.faces.now a.point-counts.now a.face_counts.now a.s a.options a.out_points-1.now a.out_faces-1.now a.report-1.now a.origins-1.now a.meshes-1.now a.work-1.now _ refusal.panel_refusal.ensures fine.in-Fine.is).rows.same
+largest-largest-requires c = let a = c.args in
+    (is_accepted a.points.now a.faces.now a.point-counts.now a.face_counts.now a.s a.options a.out_points-1.now a.out_faces-1.now a.report-1.now a.origins-1.now a.meshes-1.now a.work-1.now _ c.panel_refusal.ensures c.in-Fine.is).rows.same
 
 pub mend_all-at-requires : goal.mend_all-at-requires
-mend_all-at-requires c = let refusal = c.before.before.before.before.before.before.before.before.before in
-    let fine = c.before.before.before.before.before.before.before in
-    let start = c.before.before.before.before.before.before.before.before.before.before.before.before.before.before.before.before.before.before.before.before in
-    let a = start.args in
-    is_accepted a.points.now a.faces.now a.point-counts.now a.face_counts.now a.s a.options a.out_points-1.now a.out_faces-1.now a.report-1.now a.origins-1.now a.meshes-1.now a.work-1.now _ refusal.panel_refusal.ensures fine.in-Fine.is
+mend_all-at-requires c = let a = c.args in
+    is_accepted a.points.now a.faces.now a.point-counts.now a.face_counts.now a.s a.options a.out_points-1.now a.out_faces-1.now a.report-1.now a.origins-1.now a.meshes-1.now a.work-1.now _ c.panel_refusal.ensures c.in-Fine.is
 
 pub overflow_mul-f : goal.overflow_mul-f
-overflow_mul-f c = let refusal = c.before.before.before.before.before.before.before.before.before.before.before.before.before.before.before.before.before.before.before.before.before.before.before in
-    let fine = c.before.before.before.before.before.before.before.before.before.before.before.before.before.before.before.before.before.before.before.before.before in
-    let mended = c.before.before.before.before.before.before.before.before.before.before.before.before.before in
-    let largest = c.before.before.before.before.before.before.before.before.before.before.before.before.before.before.before.before.before.before.before.before in
-    let start = c.before.before.before.before.before.before.before.before.before.before.before.before.before.before.before.before.before.before.before.before.before.before.before.before.before.before.before.before.before.before.before.before.before.before in
-    let a = start.args in
-    record { fits = (sizes a.points.now a.faces.now a.point-counts.now a.face_counts.now a.s a.options a.out_points-1.now a.out_faces-1.now a.report-1.now a.origins-1.now a.meshes-1.now a.work-1.now _ refusal.panel_refusal.ensures fine.in-Fine.is mended.mend_all-at.ensures start.well_formed.1.1.1.1.1.1.0.0 _ largest.largest-largest.ensures).three_faces }
+overflow_mul-f c = let a = c.args in
+    record { fits = (sizes a.points.now a.faces.now a.point-counts.now a.face_counts.now a.s a.options a.out_points-1.now a.out_faces-1.now a.report-1.now a.origins-1.now a.meshes-1.now a.work-1.now _ c.panel_refusal.ensures c.in-Fine.is c.mend_all-at.ensures c.well_formed.1.1.1.1.1.1.0.0 _ c.largest-largest.ensures).three_faces }
 
 pub overflow_add-p : goal.overflow_add-p
-overflow_add-p c = let refusal = c.before.before.before.before.before.before.before.before.before.before.before.before.before.before.before.before.before.before.before.before.before.before.before in
-    let fine = c.before.before.before.before.before.before.before.before.before.before.before.before.before.before.before.before.before.before.before.before.before in
-    let mended = c.before.before.before.before.before.before.before.before.before.before.before.before.before in
-    let largest = c.before.before.before.before.before.before.before.before.before.before.before.before.before.before.before.before.before.before.before.before in
-    let start = c.before.before.before.before.before.before.before.before.before.before.before.before.before.before.before.before.before.before.before.before.before.before.before.before.before.before.before.before.before.before.before.before.before.before in
-    let a = start.args in
-    record { fits = (sizes a.points.now a.faces.now a.point-counts.now a.face_counts.now a.s a.options a.out_points-1.now a.out_faces-1.now a.report-1.now a.origins-1.now a.meshes-1.now a.work-1.now _ refusal.panel_refusal.ensures fine.in-Fine.is mended.mend_all-at.ensures start.well_formed.1.1.1.1.1.1.0.0 _ largest.largest-largest.ensures).all_points }
+overflow_add-p c = let a = c.args in
+    record { fits = (sizes a.points.now a.faces.now a.point-counts.now a.face_counts.now a.s a.options a.out_points-1.now a.out_faces-1.now a.report-1.now a.origins-1.now a.meshes-1.now a.work-1.now _ c.panel_refusal.ensures c.in-Fine.is c.mend_all-at.ensures c.well_formed.1.1.1.1.1.1.0.0 _ c.largest-largest.ensures).all_points }
 
 pub overflow_mul-p : goal.overflow_mul-p
-overflow_mul-p c = let refusal = c.before.before.before.before.before.before.before.before.before.before.before.before.before.before.before.before.before.before.before.before.before.before.before in
-    let fine = c.before.before.before.before.before.before.before.before.before.before.before.before.before.before.before.before.before.before.before.before.before in
-    let mended = c.before.before.before.before.before.before.before.before.before.before.before.before.before in
-    let largest = c.before.before.before.before.before.before.before.before.before.before.before.before.before.before.before.before.before.before.before.before in
-    let start = c.before.before.before.before.before.before.before.before.before.before.before.before.before.before.before.before.before.before.before.before.before.before.before.before.before.before.before.before.before.before.before.before.before.before in
-    let a = start.args in
-    record { fits = (sizes a.points.now a.faces.now a.point-counts.now a.face_counts.now a.s a.options a.out_points-1.now a.out_faces-1.now a.report-1.now a.origins-1.now a.meshes-1.now a.work-1.now _ refusal.panel_refusal.ensures fine.in-Fine.is mended.mend_all-at.ensures start.well_formed.1.1.1.1.1.1.0.0 _ largest.largest-largest.ensures).three_points }
+overflow_mul-p c = let a = c.args in
+    record { fits = (sizes a.points.now a.faces.now a.point-counts.now a.face_counts.now a.s a.options a.out_points-1.now a.out_faces-1.now a.report-1.now a.origins-1.now a.meshes-1.now a.work-1.now _ c.panel_refusal.ensures c.in-Fine.is c.mend_all-at.ensures c.well_formed.1.1.1.1.1.1.0.0 _ c.largest-largest.ensures).three_points }
 
 pub overflow_sub-p : goal.overflow_sub-p
-overflow_sub-p c = let refusal = c.before.before.before.before.before.before.before.before.before.before.before.before.before.before.before.before.before.before.before.before.before.before.before in
-    let fine = c.before.before.before.before.before.before.before.before.before.before.before.before.before.before.before.before.before.before.before.before.before in
-    let mended = c.before.before.before.before.before.before.before.before.before.before.before.before.before in
-    let largest = c.before.before.before.before.before.before.before.before.before.before.before.before.before.before.before.before.before.before.before.before in
-    let start = c.before.before.before.before.before.before.before.before.before.before.before.before.before.before.before.before.before.before.before.before.before.before.before.before.before.before.before.before.before.before.before.before.before.before in
-    let a = start.args in
-    (sizes a.points.now a.faces.now a.point-counts.now a.face_counts.now a.s a.options a.out_points-1.now a.out_faces-1.now a.report-1.now a.origins-1.now a.meshes-1.now a.work-1.now _ refusal.panel_refusal.ensures fine.in-Fine.is mended.mend_all-at.ensures start.well_formed.1.1.1.1.1.1.0.0 _ largest.largest-largest.ensures).points_end
+overflow_sub-p c = let a = c.args in
+    (sizes a.points.now a.faces.now a.point-counts.now a.face_counts.now a.s a.options a.out_points-1.now a.out_faces-1.now a.report-1.now a.origins-1.now a.meshes-1.now a.work-1.now _ c.panel_refusal.ensures c.in-Fine.is c.mend_all-at.ensures c.well_formed.1.1.1.1.1.1.0.0 _ c.largest-largest.ensures).points_end
 
 pub wipe_points-requires : goal.wipe_points-requires
-wipe_points-requires c = let refusal = c.before.before.before.before.before.before.before.before.before.before.before.before.before.before.before.before.before.before.before.before.before.before.before in
-    let fine = c.before.before.before.before.before.before.before.before.before.before.before.before.before.before.before.before.before.before.before.before.before in
-    let mended = c.before.before.before.before.before.before.before.before.before.before.before.before.before in
-    let largest = c.before.before.before.before.before.before.before.before.before.before.before.before.before.before.before.before.before.before.before.before in
-    let start = c.before.before.before.before.before.before.before.before.before.before.before.before.before.before.before.before.before.before.before.before.before.before.before.before.before.before.before.before.before.before.before.before.before.before in
-    let a = start.args in
-    (sizes a.points.now a.faces.now a.point-counts.now a.face_counts.now a.s a.options a.out_points-1.now a.out_faces-1.now a.report-1.now a.origins-1.now a.meshes-1.now a.work-1.now _ refusal.panel_refusal.ensures fine.in-Fine.is mended.mend_all-at.ensures start.well_formed.1.1.1.1.1.1.0.0 _ largest.largest-largest.ensures).points_room
+wipe_points-requires c = let a = c.args in
+    (sizes a.points.now a.faces.now a.point-counts.now a.face_counts.now a.s a.options a.out_points-1.now a.out_faces-1.now a.report-1.now a.origins-1.now a.meshes-1.now a.work-1.now _ c.panel_refusal.ensures c.in-Fine.is c.mend_all-at.ensures c.well_formed.1.1.1.1.1.1.0.0 _ c.largest-largest.ensures).points_room
 
 pub overflow_mul-f-2 : goal.overflow_mul-f-2
-overflow_mul-f-2 c = let refusal = c.before.before.before.before.before.before.before.before.before.before.before.before.before.before.before.before.before.before.before.before.before.before.before.before.before.before.before in
-    let fine = c.before.before.before.before.before.before.before.before.before.before.before.before.before.before.before.before.before.before.before.before.before.before.before.before.before in
-    let mended = c.before.before.before.before.before.before.before.before.before.before.before.before.before.before.before.before.before in
-    let largest = c.before.before.before.before.before.before.before.before.before.before.before.before.before.before.before.before.before.before.before.before.before.before.before.before in
-    let start = c.before.before.before.before.before.before.before.before.before.before.before.before.before.before.before.before.before.before.before.before.before.before.before.before.before.before.before.before.before.before.before.before.before.before.before.before.before.before in
-    let a = start.args in
-    record { fits = (sizes a.points.now a.faces.now a.point-counts.now a.face_counts.now a.s a.options a.out_points-1.now a.out_faces-1.now a.report-1.now a.origins-1.now a.meshes-1.now a.work-1.now _ refusal.panel_refusal.ensures fine.in-Fine.is mended.mend_all-at.ensures start.well_formed.1.1.1.1.1.1.0.0 _ largest.largest-largest.ensures).three_faces }
+overflow_mul-f-2 c = let a = c.args in
+    record { fits = (sizes a.points.now a.faces.now a.point-counts.now a.face_counts.now a.s a.options a.out_points-1.now a.out_faces-1.now a.report-1.now a.origins-1.now a.meshes-1.now a.work-1.now _ c.panel_refusal.ensures c.in-Fine.is c.mend_all-at.ensures c.well_formed.1.1.1.1.1.1.0.0 _ c.largest-largest.ensures).three_faces }
 
 pub overflow_sub-f : goal.overflow_sub-f
-overflow_sub-f c = let refusal = c.before.before.before.before.before.before.before.before.before.before.before.before.before.before.before.before.before.before.before.before.before.before.before.before.before.before.before in
-    let fine = c.before.before.before.before.before.before.before.before.before.before.before.before.before.before.before.before.before.before.before.before.before.before.before.before.before in
-    let mended = c.before.before.before.before.before.before.before.before.before.before.before.before.before.before.before.before.before in
-    let largest = c.before.before.before.before.before.before.before.before.before.before.before.before.before.before.before.before.before.before.before.before.before.before.before.before in
-    let start = c.before.before.before.before.before.before.before.before.before.before.before.before.before.before.before.before.before.before.before.before.before.before.before.before.before.before.before.before.before.before.before.before.before.before.before.before.before.before in
-    let a = start.args in
-    (sizes a.points.now a.faces.now a.point-counts.now a.face_counts.now a.s a.options a.out_points-1.now a.out_faces-1.now a.report-1.now a.origins-1.now a.meshes-1.now a.work-1.now _ refusal.panel_refusal.ensures fine.in-Fine.is mended.mend_all-at.ensures start.well_formed.1.1.1.1.1.1.0.0 _ largest.largest-largest.ensures).faces_end
+overflow_sub-f c = let a = c.args in
+    (sizes a.points.now a.faces.now a.point-counts.now a.face_counts.now a.s a.options a.out_points-1.now a.out_faces-1.now a.report-1.now a.origins-1.now a.meshes-1.now a.work-1.now _ c.panel_refusal.ensures c.in-Fine.is c.mend_all-at.ensures c.well_formed.1.1.1.1.1.1.0.0 _ c.largest-largest.ensures).faces_end
 
 pub wipe-requires : goal.wipe-requires
-wipe-requires c = let refusal = c.before.before.before.before.before.before.before.before.before.before.before.before.before.before.before.before.before.before.before.before.before.before.before.before.before.before.before in
-    let fine = c.before.before.before.before.before.before.before.before.before.before.before.before.before.before.before.before.before.before.before.before.before.before.before.before.before in
-    let mended = c.before.before.before.before.before.before.before.before.before.before.before.before.before.before.before.before.before in
-    let largest = c.before.before.before.before.before.before.before.before.before.before.before.before.before.before.before.before.before.before.before.before.before.before.before.before in
-    let start = c.before.before.before.before.before.before.before.before.before.before.before.before.before.before.before.before.before.before.before.before.before.before.before.before.before.before.before.before.before.before.before.before.before.before.before.before.before.before in
-    let a = start.args in
-    (sizes a.points.now a.faces.now a.point-counts.now a.face_counts.now a.s a.options a.out_points-1.now a.out_faces-1.now a.report-1.now a.origins-1.now a.meshes-1.now a.work-1.now _ refusal.panel_refusal.ensures fine.in-Fine.is mended.mend_all-at.ensures start.well_formed.1.1.1.1.1.1.0.0 _ largest.largest-largest.ensures).faces_room
+wipe-requires c = let a = c.args in
+    (sizes a.points.now a.faces.now a.point-counts.now a.face_counts.now a.s a.options a.out_points-1.now a.out_faces-1.now a.report-1.now a.origins-1.now a.meshes-1.now a.work-1.now _ c.panel_refusal.ensures c.in-Fine.is c.mend_all-at.ensures c.well_formed.1.1.1.1.1.1.0.0 _ c.largest-largest.ensures).faces_room
 
 pub overflow_mul-m : goal.overflow_mul-m
-overflow_mul-m c = let refusal = c.before.before.before.before.before.before.before.before.before.before.before.before.before.before.before.before.before.before.before.before.before.before.before.before.before.before.before.before.before.before.before in
-    let fine = c.before.before.before.before.before.before.before.before.before.before.before.before.before.before.before.before.before.before.before.before.before.before.before.before.before.before.before.before.before in
-    let mended = c.before.before.before.before.before.before.before.before.before.before.before.before.before.before.before.before.before.before.before.before.before in
-    let largest = c.before.before.before.before.before.before.before.before.before.before.before.before.before.before.before.before.before.before.before.before.before.before.before.before.before.before.before.before in
-    let start = c.before.before.before.before.before.before.before.before.before.before.before.before.before.before.before.before.before.before.before.before.before.before.before.before.before.before.before.before.before.before.before.before.before.before.before.before.before.before.before.before.before.before in
-    let a = start.args in
-    record { fits = (sizes a.points.now a.faces.now a.point-counts.now a.face_counts.now a.s a.options a.out_points-1.now a.out_faces-1.now a.report-1.now a.origins-1.now a.meshes-1.now a.work-1.now _ refusal.panel_refusal.ensures fine.in-Fine.is mended.mend_all-at.ensures start.well_formed.1.1.1.1.1.1.0.0 _ largest.largest-largest.ensures).all_counts }
+overflow_mul-m c = let a = c.args in
+    record { fits = (sizes a.points.now a.faces.now a.point-counts.now a.face_counts.now a.s a.options a.out_points-1.now a.out_faces-1.now a.report-1.now a.origins-1.now a.meshes-1.now a.work-1.now _ c.panel_refusal.ensures c.in-Fine.is c.mend_all-at.ensures c.well_formed.1.1.1.1.1.1.0.0 _ c.largest-largest.ensures).all_counts }
 
 pub overflow_sub-m : goal.overflow_sub-m
-overflow_sub-m c = let refusal = c.before.before.before.before.before.before.before.before.before.before.before.before.before.before.before.before.before.before.before.before.before.before.before.before.before.before.before.before.before.before.before in
-    let fine = c.before.before.before.before.before.before.before.before.before.before.before.before.before.before.before.before.before.before.before.before.before.before.before.before.before.before.before.before.before in
-    let mended = c.before.before.before.before.before.before.before.before.before.before.before.before.before.before.before.before.before.before.before.before.before in
-    let largest = c.before.before.before.before.before.before.before.before.before.before.before.before.before.before.before.before.before.before.before.before.before.before.before.before.before.before.before.before in
-    let start = c.before.before.before.before.before.before.before.before.before.before.before.before.before.before.before.before.before.before.before.before.before.before.before.before.before.before.before.before.before.before.before.before.before.before.before.before.before.before.before.before.before.before in
-    let a = start.args in
-    (sizes a.points.now a.faces.now a.point-counts.now a.face_counts.now a.s a.options a.out_points-1.now a.out_faces-1.now a.report-1.now a.origins-1.now a.meshes-1.now a.work-1.now _ refusal.panel_refusal.ensures fine.in-Fine.is mended.mend_all-at.ensures start.well_formed.1.1.1.1.1.1.0.0 _ largest.largest-largest.ensures).counts_end
+overflow_sub-m c = let a = c.args in
+    (sizes a.points.now a.faces.now a.point-counts.now a.face_counts.now a.s a.options a.out_points-1.now a.out_faces-1.now a.report-1.now a.origins-1.now a.meshes-1.now a.work-1.now _ c.panel_refusal.ensures c.in-Fine.is c.mend_all-at.ensures c.well_formed.1.1.1.1.1.1.0.0 _ c.largest-largest.ensures).counts_end
 
 pub wipe-requires-2 : goal.wipe-requires-2
-wipe-requires-2 c = let refusal = c.before.before.before.before.before.before.before.before.before.before.before.before.before.before.before.before.before.before.before.before.before.before.before.before.before.before.before.before.before.before.before in
-    let fine = c.before.before.before.before.before.before.before.before.before.before.before.before.before.before.before.before.before.before.before.before.before.before.before.before.before.before.before.before.before in
-    let mended = c.before.before.before.before.before.before.before.before.before.before.before.before.before.before.before.before.before.before.before.before.before in
-    let largest = c.before.before.before.before.before.before.before.before.before.before.before.before.before.before.before.before.before.before.before.before.before.before.before.before.before.before.before.before in
-    let start = c.before.before.before.before.before.before.before.before.before.before.before.before.before.before.before.before.before.before.before.before.before.before.before.before.before.before.before.before.before.before.before.before.before.before.before.before.before.before.before.before.before.before in
-    let a = start.args in
-    (sizes a.points.now a.faces.now a.point-counts.now a.face_counts.now a.s a.options a.out_points-1.now a.out_faces-1.now a.report-1.now a.origins-1.now a.meshes-1.now a.work-1.now _ refusal.panel_refusal.ensures fine.in-Fine.is mended.mend_all-at.ensures start.well_formed.1.1.1.1.1.1.0.0 _ largest.largest-largest.ensures).counts_room
+wipe-requires-2 c = let a = c.args in
+    (sizes a.points.now a.faces.now a.point-counts.now a.face_counts.now a.s a.options a.out_points-1.now a.out_faces-1.now a.report-1.now a.origins-1.now a.meshes-1.now a.work-1.now _ c.panel_refusal.ensures c.in-Fine.is c.mend_all-at.ensures c.well_formed.1.1.1.1.1.1.0.0 _ c.largest-largest.ensures).counts_room
 
 pub overflow_sub-f-2 : goal.overflow_sub-f-2
-overflow_sub-f-2 c = let refusal = c.before.before.before.before.before.before.before.before.before.before.before.before.before.before.before.before.before.before.before.before.before.before.before.before.before.before.before.before.before.before.before.before.before.before.before in
-    let fine = c.before.before.before.before.before.before.before.before.before.before.before.before.before.before.before.before.before.before.before.before.before.before.before.before.before.before.before.before.before.before.before.before.before in
-    let mended = c.before.before.before.before.before.before.before.before.before.before.before.before.before.before.before.before.before.before.before.before.before.before.before.before.before in
-    let largest = c.before.before.before.before.before.before.before.before.before.before.before.before.before.before.before.before.before.before.before.before.before.before.before.before.before.before.before.before.before.before.before.before in
-    let start = c.before.before.before.before.before.before.before.before.before.before.before.before.before.before.before.before.before.before.before.before.before.before.before.before.before.before.before.before.before.before.before.before.before.before.before.before.before.before.before.before.before.before.before.before.before.before in
-    let a = start.args in
-    (sizes a.points.now a.faces.now a.point-counts.now a.face_counts.now a.s a.options a.out_points-1.now a.out_faces-1.now a.report-1.now a.origins-1.now a.meshes-1.now a.work-1.now _ refusal.panel_refusal.ensures fine.in-Fine.is mended.mend_all-at.ensures start.well_formed.1.1.1.1.1.1.0.0 _ largest.largest-largest.ensures).origins_end
+overflow_sub-f-2 c = let a = c.args in
+    (sizes a.points.now a.faces.now a.point-counts.now a.face_counts.now a.s a.options a.out_points-1.now a.out_faces-1.now a.report-1.now a.origins-1.now a.meshes-1.now a.work-1.now _ c.panel_refusal.ensures c.in-Fine.is c.mend_all-at.ensures c.well_formed.1.1.1.1.1.1.0.0 _ c.largest-largest.ensures).origins_end
 
 pub wipe-requires-3 : goal.wipe-requires-3
-wipe-requires-3 c = let refusal = c.before.before.before.before.before.before.before.before.before.before.before.before.before.before.before.before.before.before.before.before.before.before.before.before.before.before.before.before.before.before.before.before.before.before.before in
-    let fine = c.before.before.before.before.before.before.before.before.before.before.before.before.before.before.before.before.before.before.before.before.before.before.before.before.before.before.before.before.before.before.before.before.before in
-    let mended = c.before.before.before.before.before.before.before.before.before.before.before.before.before.before.before.before.before.before.before.before.before.before.before.before.before in
-    let largest = c.before.before.before.before.before.before.before.before.before.before.before.before.before.before.before.before.before.before.before.before.before.before.before.before.before.before.before.before.before.before.before.before in
-    let start = c.before.before.before.before.before.before.before.before.before.before.before.before.before.before.before.before.before.before.before.before.before.before.before.before.before.before.before.before.before.before.before.before.before.before.before.before.before.before.before.before.before.before.before.before.before.before in
-    let a = start.args in
-    (sizes a.points.now a.faces.now a.point-counts.now a.face_counts.now a.s a.options a.out_points-1.now a.out_faces-1.now a.report-1.now a.origins-1.now a.meshes-1.now a.work-1.now _ refusal.panel_refusal.ensures fine.in-Fine.is mended.mend_all-at.ensures start.well_formed.1.1.1.1.1.1.0.0 _ largest.largest-largest.ensures).origins_room
+wipe-requires-3 c = let a = c.args in
+    (sizes a.points.now a.faces.now a.point-counts.now a.face_counts.now a.s a.options a.out_points-1.now a.out_faces-1.now a.report-1.now a.origins-1.now a.meshes-1.now a.work-1.now _ c.panel_refusal.ensures c.in-Fine.is c.mend_all-at.ensures c.well_formed.1.1.1.1.1.1.0.0 _ c.largest-largest.ensures).origins_room
 
 pub wipe-requires-4 : goal.wipe-requires-4
-wipe-requires-4 c = let refusal = c.before.before.before.before.before.before.before.before.before.before.before.before.before.before.before.before.before.before.before.before.before.before.before.before.before.before.before.before.before.before.before.before.before.before.before.before.before.before.before in
-    let fine = c.before.before.before.before.before.before.before.before.before.before.before.before.before.before.before.before.before.before.before.before.before.before.before.before.before.before.before.before.before.before.before.before.before.before.before.before.before in
-    let mended = c.before.before.before.before.before.before.before.before.before.before.before.before.before.before.before.before.before.before.before.before.before.before.before.before.before.before.before.before.before in
-    let largest = c.before.before.before.before.before.before.before.before.before.before.before.before.before.before.before.before.before.before.before.before.before.before.before.before.before.before.before.before.before.before.before.before.before.before.before.before in
-    let start = c.before.before.before.before.before.before.before.before.before.before.before.before.before.before.before.before.before.before.before.before.before.before.before.before.before.before.before.before.before.before.before.before.before.before.before.before.before.before.before.before.before.before.before.before.before.before.before.before.before.before in
-    let a = start.args in
-    (sizes a.points.now a.faces.now a.point-counts.now a.face_counts.now a.s a.options a.out_points-1.now a.out_faces-1.now a.report-1.now a.origins-1.now a.meshes-1.now a.work-1.now _ refusal.panel_refusal.ensures fine.in-Fine.is mended.mend_all-at.ensures start.well_formed.1.1.1.1.1.1.0.0 _ largest.largest-largest.ensures).work_room
+wipe-requires-4 c = let a = c.args in
+    (sizes a.points.now a.faces.now a.point-counts.now a.face_counts.now a.s a.options a.out_points-1.now a.out_faces-1.now a.report-1.now a.origins-1.now a.meshes-1.now a.work-1.now _ c.panel_refusal.ensures c.in-Fine.is c.mend_all-at.ensures c.well_formed.1.1.1.1.1.1.0.0 _ c.largest-largest.ensures).work_room
 
 pub overflow_mul-result : goal.overflow_mul-result
-overflow_mul-result c = let refusal = c.before.before.before.before.before.before.before.before.before.before.before.before.before.before.before.before.before.before.before.before.before.before.before.before.before.before.before.before.before.before.before.before.before.before.before.before.before.before.before.before.before.before in
-    let fine = c.before.before.before.before.before.before.before.before.before.before.before.before.before.before.before.before.before.before.before.before.before.before.before.before.before.before.before.before.before.before.before.before.before.before.before.before.before.before.before.before in
-    let mended = c.before.before.before.before.before.before.before.before.before.before.before.before.before.before.before.before.before.before.before.before.before.before.before.before.before.before.before.before.before.before.before.before in
-    let largest = c.before.before.before.before.before.before.before.before.before.before.before.before.before.before.before.before.before.before.before.before.before.before.before.before.before.before.before.before.before.before.before.before.before.before.before.before.before.before.before in
-    let start = c.before.before.before.before.before.before.before.before.before.before.before.before.before.before.before.before.before.before.before.before.before.before.before.before.before.before.before.before.before.before.before.before.before.before.before.before.before.before.before.before.before.before.before.before.before.before.before.before.before.before.before.before.before in
-    let a = start.args in
-    record { fits = (sizes a.points.now a.faces.now a.point-counts.now a.face_counts.now a.s a.options a.out_points-1.now a.out_faces-1.now a.report-1.now a.origins-1.now a.meshes-1.now a.work-1.now _ refusal.panel_refusal.ensures fine.in-Fine.is mended.mend_all-at.ensures start.well_formed.1.1.1.1.1.1.0.0 _ largest.largest-largest.ensures).all_fours }
+overflow_mul-result c = let a = c.args in
+    record { fits = (sizes a.points.now a.faces.now a.point-counts.now a.face_counts.now a.s a.options a.out_points-1.now a.out_faces-1.now a.report-1.now a.origins-1.now a.meshes-1.now a.work-1.now _ c.panel_refusal.ensures c.in-Fine.is c.mend_all-at.ensures c.well_formed.1.1.1.1.1.1.0.0 _ c.largest-largest.ensures).all_fours }
 
 pub returns : goal.returns
-returns c = let refusal = c.before.before.before.before.before.before.before.before.before.before.before.before.before.before.before.before.before.before.before.before.before.before.before.before.before.before.before.before.before.before.before.before.before.before.before.before.before.before.before.before.before.before in
-    let fine = c.before.before.before.before.before.before.before.before.before.before.before.before.before.before.before.before.before.before.before.before.before.before.before.before.before.before.before.before.before.before.before.before.before.before.before.before.before.before.before.before in
-    let mended = c.before.before.before.before.before.before.before.before.before.before.before.before.before.before.before.before.before.before.before.before.before.before.before.before.before.before.before.before.before.before.before.before in
-    let largest = c.before.before.before.before.before.before.before.before.before.before.before.before.before.before.before.before.before.before.before.before.before.before.before.before.before.before.before.before.before.before.before.before.before.before.before.before.before.before.before in
-    let start = c.before.before.before.before.before.before.before.before.before.before.before.before.before.before.before.before.before.before.before.before.before.before.before.before.before.before.before.before.before.before.before.before.before.before.before.before.before.before.before.before.before.before.before.before.before.before.before.before.before.before.before.before.before in
-    let a = start.args in
-    is_done a.points.now a.faces.now a.point-counts.now a.face_counts.now a.s a.options a.out_points-1.now a.out_faces-1.now a.report-1.now a.origins-1.now a.meshes-1.now a.work-1.now _ refusal.panel_refusal.ensures fine.in-Fine.is mended.mend_all-at.ensures start.well_formed.1.1.1.1.1.1.0.0 _ largest.largest-largest.ensures
+returns c = let a = c.args in
+    is_done a.points.now a.faces.now a.point-counts.now a.face_counts.now a.s a.options a.out_points-1.now a.out_faces-1.now a.report-1.now a.origins-1.now a.meshes-1.now a.work-1.now _ c.panel_refusal.ensures c.in-Fine.is c.mend_all-at.ensures c.well_formed.1.1.1.1.1.1.0.0 _ c.largest-largest.ensures
     c.wipe_points.ensures.only_of c.wipe_points.ensures.holds_of
     c.wipe.ensures.only c.wipe.ensures.filled
     c.wipe-2.ensures.only c.wipe-2.ensures.filled

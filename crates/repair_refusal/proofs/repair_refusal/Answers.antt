@@ -7,25 +7,18 @@ pub returns-in_default : goal.returns-in_default
 returns-in_default c = hand_on _ _ _ _ _ c.sizes-found.ensures c.in_default.is
 
 pub returns-in_default-found : goal.returns-in_default-found
-returns-in_default-found c = let t1 = c.before.before.before in
-    go_on _ _ _ _ t1.sizes-found.ensures t1.in-Fine.is
+returns-in_default-found c = go_on _ _ _ _ c.sizes-found.ensures c.in-Fine.is
     (hand_on _ _ _ _ _ c.settings-found.ensures c.in_default-found.is)
 
 pub returns-in_default-found-2 : goal.returns-in_default-found-2
-returns-in_default-found-2 c = let t2 = c.before.before.before in
-    let t1 = t2.before.before.before in
-    go_on _ _ _ _ t1.sizes-found.ensures t1.in-Fine.is
-    (go_on _ _ _ _ t2.settings-found.ensures t2.in-Fine-found.is
+returns-in_default-found-2 c = go_on _ _ _ _ c.sizes-found.ensures c.in-Fine.is
+    (go_on _ _ _ _ c.settings-found.ensures c.in-Fine-found.is
     (hand_on _ _ _ _ _ c.contents-found.ensures c.in_default-found-2.is))
 
 pub short_room-requires : goal.short_room-requires
-short_room-requires c = let t1 = c.before.before.before.before.before.before in
-    sizes_fine _ _ (found_none _ _ t1.sizes-found.ensures t1.in-Fine.is)
+short_room-requires c = sizes_fine _ _ (found_none _ _ c.sizes-found.ensures c.in-Fine.is)
 
 pub returns : goal.returns
-returns c = let t3 = c.before in
-    let t2 = t3.before.before.before in
-    let t1 = t2.before.before.before in
-    go_on _ _ _ _ t1.sizes-found.ensures t1.in-Fine.is
-    (go_on _ _ _ _ t2.settings-found.ensures t2.in-Fine-found.is
-    (go_on _ _ _ _ t3.contents-found.ensures t3.in-Fine-found-2.is (last _ _ c.short_room.ensures)))
+returns c = go_on _ _ _ _ c.sizes-found.ensures c.in-Fine.is
+    (go_on _ _ _ _ c.settings-found.ensures c.in-Fine-found.is
+    (go_on _ _ _ _ c.contents-found.ensures c.in-Fine-found-2.is (last _ _ c.short_room.ensures)))

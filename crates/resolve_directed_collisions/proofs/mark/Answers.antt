@@ -10,5 +10,4 @@ pub mark_edges-requires : goal.mark_edges-requires
 mark_edges-requires c = mark_ok c.requires
 
 pub returns : goal.returns
-returns c = let at_mark = c.before.before in
-    record { fact = marks_are at_mark.requires at_mark.mark_edges.ensures; found_value = refl }
+returns c = record { fact = marks_are c.requires c.mark_edges.ensures; found_value = refl }

@@ -73,10 +73,9 @@ pub overflow_add-k : goal.overflow_add-k
 overflow_add-k c = omega (arith, turn _ c.requires c.loop-k.invariant.added c.loop-k-test.true)
 
 pub loop-k-preserved : goal.loop-k-preserved
-loop-k-preserved c = let a = c.before.before.before.before in
-    let p = a.requires in
+loop-k-preserved c = let p = c.requires in
     let h = c.loop-k-test.true in
-    elim c.if-stays.branch [ then-stays w ↦ rw (w.work-is, w.seen-is) (passes p a.loop-k.invariant h c.stays.ensures w.if-stays.true) | else-stays w ↦ rw (w.work-is, w.seen-is) (loses p a.loop-k.invariant h c.stays.ensures w.if-stays.false) ]
+    elim c.if-stays.branch [ then-stays w ↦ rw (w.work-is, w.seen-is) (passes p c.loop-k.invariant h c.stays.ensures w.if-stays.true) | else-stays w ↦ rw (w.work-is, w.seen-is) (loses p c.loop-k.invariant h c.stays.ensures w.if-stays.false) ]
 
 pub shape_of-work : goal.shape_of-work
 shape_of-work c = c.loop-k.invariant.added.only.long

@@ -76,3 +76,7 @@ returns-then-b-a-gt1 c = more_uses c.requires c.best-one.ensures c.mark_rest.ens
 
 pub returns-else-b-a-gt1 : goal.returns-else-b-a-gt1
 returns-else-b-a-gt1 c = one_use c.requires c.if-b-a-gt1.false
+
+-- the run's places end within the work room
+pub slice_bounds-best-end : goal.slice_bounds-best-end
+slice_bounds-best-end c = omega (arith, bounds c.requires)

@@ -56,16 +56,13 @@ next_face-g-requires-in-loop-g c = record { next_asks = next_asks c.requires.cro
 
 -- src/lib.rt:75:5
 pub loop-g-smaller : goal.loop-g-smaller
-loop-g-smaller c = let a = c.before.before.before.before.before in
-    omega (arith, c.next_face-g-in-loop-g.ensures.least, a.loop-g.invariant.long, c.loop-g-test.true)
+loop-g-smaller c = omega (arith, c.next_face-g-in-loop-g.ensures.least, c.loop-g.invariant.long, c.loop-g-test.true)
 
 -- src/lib.rt:75:5
 pub loop-g-preserved : goal.loop-g-preserved
-loop-g-preserved c = let t = c.before.before.before.before in
-    let a = t.before in
-    let p = a.requires.cross_asks in
+loop-g-preserved c = let p = c.requires.cross_asks in
     let q = c.next_face-g-in-loop-g.ensures in
-    elim c.if-meets.branch [ then-meets w ↦ rw w.words-is (hit p a.loop-g.invariant t.loop-g-test.true q (sym c.meets.ensures ∙ w.if-meets.true)) | else-meets w ↦ rw w.words-is (miss p a.loop-g.invariant t.loop-g-test.true q (sym c.meets.ensures ∙ w.if-meets.false)) ]
+    elim c.if-meets.branch [ then-meets w ↦ rw w.words-is (hit p c.loop-g.invariant c.loop-g-test.true q (sym c.meets.ensures ∙ w.if-meets.true)) | else-meets w ↦ rw w.words-is (miss p c.loop-g.invariant c.loop-g-test.true q (sym c.meets.ensures ∙ w.if-meets.false)) ]
 
 -- src/lib.rt:67:1
 pub shape_of-words : goal.shape_of-words

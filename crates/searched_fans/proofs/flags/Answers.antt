@@ -9,20 +9,18 @@ use Rattle.searched_fans.proofs.flags.Goals as goal
 
 -- src/lib.rt:123:5
 pub overflow_add-result : goal.overflow_add-result
-overflow_add-result c = let start = c.before.before in
-    omega (arith, c.flag.ensures, c.flag-2.ensures, flag_most (eqb start.args.a start.args.v) 16, flag_most (eqb start.args.b start.args.v) 32)
+overflow_add-result c = omega (arith, c.flag.ensures, c.flag-2.ensures, flag_most (eqb c.args.a c.args.v) 16, flag_most (eqb c.args.b c.args.v) 32)
 
 -- src/lib.rt:123:5
 pub overflow_add-result-2 : goal.overflow_add-result-2
-overflow_add-result-2 c = let start = c.before.before.before in
-    omega (
+overflow_add-result-2 c = omega (
       arith,
       c.flag.ensures,
       c.flag-2.ensures,
       c.flag-3.ensures,
-      flag_most (eqb start.args.a start.args.v) 16,
-      flag_most (eqb start.args.b start.args.v) 32,
-      flag_most (eqb start.args.c start.args.v) 64,
+      flag_most (eqb c.args.a c.args.v) 16,
+      flag_most (eqb c.args.b c.args.v) 32,
+      flag_most (eqb c.args.c c.args.v) 64,
     )
 
 -- src/lib.rt:120:1

@@ -12,32 +12,23 @@ use Rattle.searched_fans.proofs.meets.Goals as goal
 
 -- src/lib.rt:44:9
 pub returns-then-words-g-ne0 : goal.returns-then-words-g-ne0
-returns-then-words-g-ne0 c = let start = c.before.before.before.before in
-    was_met start.args.faces.now start.args.words.now start.args.v start.args.x start.args.g c.if-words-g-ne0.true
+returns-then-words-g-ne0 c = was_met c.args.faces.now c.args.words.now c.args.v c.args.x c.args.g c.if-words-g-ne0.true
 
 -- src/lib.rt:47:9
 pub returns-then-not-stands : goal.returns-then-not-stands
-returns-then-not-stands c = let start = c.before.before.before.before.before.before in
-    is_gone start.args.faces.now start.args.words.now start.args.v start.args.x start.args.g
+returns-then-not-stands c = is_gone c.args.faces.now c.args.words.now c.args.v c.args.x c.args.g
     (sym c.stands.ensures ∙ off c.stands.result c.if-not-stands.true)
 
 -- src/lib.rt:51:9
 pub returns-then-among : goal.returns-then-among
-returns-then-among c = let at-among = c.before.before in
-    let at-view = at-among.before in
-    let at-stands = at-view.before.before in
-    let start = at-stands.before.before.before.before.before in
-    let xs = start.args.faces.now in
-    let w = start.args.words.now in
+returns-then-among c = let xs = c.args.faces.now in
+    let w = c.args.words.now in
     c.among-then-among.ensures
-    ∙ ap (λ f. has start.args.x (corners f)) at-view.view-c.ensures
-    ∙ has_both xs w start.args.v start.args.x start.args.g at-stands.if-words-g-ne0.false (sym at-stands.stands.ensures ∙ on at-stands.stands.result at-view.if-not-stands.false)
-    (sym (at-among.among.ensures ∙ ap (λ f. has start.args.v (corners f)) at-view.view-c.ensures) ∙ c.if-among.true)
+    ∙ ap (λ f. has c.args.x (corners f)) c.view-c.ensures
+    ∙ has_both xs w c.args.v c.args.x c.args.g c.if-words-g-ne0.false (sym c.stands.ensures ∙ on c.stands.result c.if-not-stands.false)
+    (sym (c.among.ensures ∙ ap (λ f. has c.args.v (corners f)) c.view-c.ensures) ∙ c.if-among.true)
 
 -- src/lib.rt:39:1
 pub returns : goal.returns
-returns c = let at-among = c.before in
-    let at-view = at-among.before in
-    let start = at-view.before.before.before.before.before.before.before in
-    has_not start.args.faces.now start.args.words.now start.args.v start.args.x start.args.g
-    (sym (at-among.among.ensures ∙ ap (λ f. has start.args.v (corners f)) at-view.view-c.ensures) ∙ c.if-among.false)
+returns c = has_not c.args.faces.now c.args.words.now c.args.v c.args.x c.args.g
+    (sym (c.among.ensures ∙ ap (λ f. has c.args.v (corners f)) c.view-c.ensures) ∙ c.if-among.false)

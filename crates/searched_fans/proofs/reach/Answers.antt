@@ -36,42 +36,33 @@ loop-i-init c = λ base q e. subst (λ w. Spread q w c.args.f) (sym e) (begin q)
 
 -- src/lib.rt:154:9
 pub go_through-requires : goal.go_through-requires
-go_through-requires c = let a = c.before.before in
-    let p = a.requires.reach_asks in
-    record { through_asks = asks p (a.loop-i.invariant _ p refl) c.loop-i-test.true; indexed = a.requires.indexed }
+go_through-requires c = let p = c.requires.reach_asks in
+    record { through_asks = asks p (c.loop-i.invariant _ p refl) c.loop-i-test.true; indexed = c.requires.indexed }
 
 -- src/lib.rt:155:9
 pub next_waiting-i-requires : goal.next_waiting-i-requires
-next_waiting-i-requires c = let a = c.before.before.before.before.before.before in
-    let p = a.requires.reach_asks in
-    omega (arith, c.go_through.ensures.long, (a.loop-i.invariant _ p refl).long, p.worded.few)
+next_waiting-i-requires c = let p = c.requires.reach_asks in
+    omega (arith, c.go_through.ensures.long, (c.loop-i.invariant _ p refl).long, p.worded.few)
 
 -- src/lib.rt:153:5
 pub loop-i-smaller : goal.loop-i-smaller
-loop-i-smaller c = let t = c.before.before.before.before.before.before in
-    let a = t.before in
-    let p = a.requires.reach_asks in
-    fewer p (a.loop-i.invariant _ p refl) t.loop-i-test.true c.go_through.ensures
+loop-i-smaller c = let p = c.requires.reach_asks in
+    fewer p (c.loop-i.invariant _ p refl) c.loop-i-test.true c.go_through.ensures
 
 -- src/lib.rt:153:5
 pub loop-i-preserved : goal.loop-i-preserved
-loop-i-preserved c = let t = c.before.before.before.before.before.before in
-    let a = t.before in
-    λ base q e. again q (a.loop-i.invariant base q e) t.loop-i-test.true c.go_through.ensures c.next_waiting-i.ensures
+loop-i-preserved c = λ base q e. again q (c.loop-i.invariant base q e) c.loop-i-test.true c.go_through.ensures c.next_waiting-i.ensures
 
 -- src/lib.rt:157:5
 pub settle-requires : goal.settle-requires
-settle-requires c = let a = c.before.before in
-    let p = a.requires.reach_asks in
-    settle_asks p (a.loop-i.invariant _ p refl) c.loop-i-test.false
+settle-requires c = let p = c.requires.reach_asks in
+    settle_asks p (c.loop-i.invariant _ p refl) c.loop-i-test.false
 
 -- src/lib.rt:147:1
 pub shape_of-words : goal.shape_of-words
-shape_of-words c = let a = c.before.before.before.before.before in
-    let p = a.requires.reach_asks in
-    c.settle.ensures.long ∙ (a.loop-i.invariant _ p refl).long
+shape_of-words c = let p = c.requires.reach_asks in
+    c.settle.ensures.long ∙ (c.loop-i.invariant _ p refl).long
 
 -- src/lib.rt:147:1
 pub returns : goal.returns
-returns c = let a = c.before.before.before.before.before in
-    λ q. done q (a.loop-i.invariant _ q refl) c.loop-i-test.false c.settle.ensures
+returns c = λ q. done q (c.loop-i.invariant _ q refl) c.loop-i-test.false c.settle.ensures

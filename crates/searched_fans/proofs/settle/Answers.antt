@@ -45,9 +45,8 @@ flags-requires c = tt
 
 -- src/lib.rt:136:24
 pub overflow_add-words : goal.overflow_add-words
-overflow_add-words c = let a = c.before.before.before.before.before.before.before in
-    let v = c.view-c.result in
-    omega (arith, turn a.requires a.loop-g.invariant c.loop-g-test.true, c.flags.ensures, flags_most v.a v.b v.c a.args.v)
+overflow_add-words c = let v = c.view-c.result in
+    omega (arith, turn c.requires c.loop-g.invariant c.loop-g-test.true, c.flags.ensures, flags_most v.a v.b v.c c.args.v)
 
 -- src/lib.rt:136:13
 pub offset_bounds-words-g-then-words-g-eq2-2 : goal.offset_bounds-words-g-then-words-g-eq2-2
@@ -71,8 +70,7 @@ number_length-requires c = tt
 
 -- src/lib.rt:137:21
 pub overflow_add-bytes-then-words-g-eq2 : goal.overflow_add-bytes-then-words-g-eq2
-overflow_add-bytes-then-words-g-eq2 c = let a = c.before.before.before.before.before.before.before.before in
-    omega (arith, turn a.requires a.loop-g.invariant c.loop-g-test.true, c.number_length.ensures, decimal_short a.loop-g.g)
+overflow_add-bytes-then-words-g-eq2 c = omega (arith, turn c.requires c.loop-g.invariant c.loop-g-test.true, c.number_length.ensures, decimal_short c.loop-g.g)
 
 -- src/lib.rt:139:9
 pub overflow_add-g : goal.overflow_add-g
@@ -84,10 +82,8 @@ loop-g-smaller c = omega (arith, c.loop-g.invariant.long, c.loop-g-test.true)
 
 -- src/lib.rt:133:5
 pub loop-g-preserved : goal.loop-g-preserved
-loop-g-preserved c = let t = c.before.before in
-    let a = t.before in
-    let p = a.requires in
-    elim c.if-words-g-eq2.branch [ then-words-g-eq2 w ↦ rw (w.bytes-is, w.7) (flagged p a.loop-g.invariant t.loop-g-test.true w.if-words-g-eq2.true w.slice_known-then-words-g-eq2-1.ensures w.number_length.ensures w.words-is.ensures) | else-words-g-eq2 w ↦ rw (w.1, w.2) (passed p a.loop-g.invariant t.loop-g-test.true w.if-words-g-eq2.false) ]
+loop-g-preserved c = let p = c.requires in
+    elim c.if-words-g-eq2.branch [ then-words-g-eq2 w ↦ rw (w.bytes-is, w.7) (flagged p c.loop-g.invariant c.loop-g-test.true w.if-words-g-eq2.true w.slice_known-then-words-g-eq2-1.ensures w.number_length.ensures w.words-is.ensures) | else-words-g-eq2 w ↦ rw (w.1, w.2) (passed p c.loop-g.invariant c.loop-g-test.true w.if-words-g-eq2.false) ]
 
 -- src/lib.rt:127:1
 pub shape_of-words : goal.shape_of-words

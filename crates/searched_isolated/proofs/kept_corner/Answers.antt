@@ -14,11 +14,7 @@ use Rattle.searched_isolated.proofs.kept_corner.Goals as goal
 
 -- src/lib.rt:37:9
 pub returns-then-met_at : goal.returns-then-met_at
-returns-then-met_at c = let at-met = c.before in
-    let at-pick = at-met.before in
-    let at-view = at-pick.before in
-    let start = at-view.before.before.before.before in
-    corner_met start.requires.corner_asks (at-pick.pick-v.ensures ∙ ap (λ g. pick_of g.a g.b g.c start.args.k) at-view.view-c.ensures) at-met.met_at.ensures c.if-met_at.true
+returns-then-met_at c = corner_met c.requires.corner_asks (c.pick-v.ensures ∙ ap (λ g. pick_of g.a g.b g.c c.args.k) c.view-c.ensures) c.met_at.ensures c.if-met_at.true
 
 -- src/lib.rt:39:5
 pub overflow_add-result : goal.overflow_add-result
@@ -26,8 +22,4 @@ overflow_add-result c = omega (arith, c.number_length.ensures, decimal_short c.p
 
 -- src/lib.rt:30:1
 pub returns : goal.returns
-returns c = let at-met = c.before.before in
-    let at-pick = at-met.before in
-    let at-view = at-pick.before in
-    let start = at-view.before.before.before.before in
-    corner_first start.requires.corner_asks (at-pick.pick-v.ensures ∙ ap (λ g. pick_of g.a g.b g.c start.args.k) at-view.view-c.ensures) at-met.met_at.ensures c.if-met_at.false c.number_length.ensures
+returns c = corner_first c.requires.corner_asks (c.pick-v.ensures ∙ ap (λ g. pick_of g.a g.b g.c c.args.k) c.view-c.ensures) c.met_at.ensures c.if-met_at.false c.number_length.ensures

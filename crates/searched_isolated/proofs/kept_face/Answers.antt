@@ -20,33 +20,24 @@ tested e q t = ap single (sym q) ∙ sym e ∙ t
 
 -- src/lib.rt:49:9
 pub returns-then-same : goal.returns-then-same
-returns-then-same c = let at_same = c.before in
-    let at-view = at_same.before in
-    let start = at-view.before.before.before.before in
-    face_single start.requires.face_asks (tested at_same.same.ensures at-view.view-c.ensures c.if-same.true)
+returns-then-same c = face_single c.requires.face_asks (tested c.same.ensures c.view-c.ensures c.if-same.true)
 
 -- src/lib.rt:51:5
 pub overflow_add-result : goal.overflow_add-result
-overflow_add-result c = let start = c.before.before.before.before.before.before.before.before in
-    omega (arith, c.kept_corner.ensures, c.kept_corner-2.ensures, first_most start.args.faces.now start.args.words.now start.args.f 0, first_most start.args.faces.now start.args.words.now start.args.f 1)
+overflow_add-result c = omega (arith, c.kept_corner.ensures, c.kept_corner-2.ensures, first_most c.args.faces.now c.args.words.now c.args.f 0, first_most c.args.faces.now c.args.words.now c.args.f 1)
 
 -- src/lib.rt:51:5
 pub overflow_add-result-2 : goal.overflow_add-result-2
-overflow_add-result-2 c = let start = c.before.before.before.before.before.before.before.before.before in
-    omega (
+overflow_add-result-2 c = omega (
       arith,
       c.kept_corner.ensures,
       c.kept_corner-2.ensures,
       c.kept_corner-3.ensures,
-      first_most start.args.faces.now start.args.words.now start.args.f 0,
-      first_most start.args.faces.now start.args.words.now start.args.f 1,
-      first_most start.args.faces.now start.args.words.now start.args.f 2,
+      first_most c.args.faces.now c.args.words.now c.args.f 0,
+      first_most c.args.faces.now c.args.words.now c.args.f 1,
+      first_most c.args.faces.now c.args.words.now c.args.f 2,
     )
 
 -- src/lib.rt:43:1
 pub returns : goal.returns
-returns c = let at-else = c.before.before.before in
-    let at_same = at-else.before in
-    let at-view = at_same.before in
-    let start = at-view.before.before.before.before in
-    face_several start.requires.face_asks (tested at_same.same.ensures at-view.view-c.ensures at-else.if-same.false) c.kept_corner.ensures c.kept_corner-2.ensures c.kept_corner-3.ensures
+returns c = face_several c.requires.face_asks (tested c.same.ensures c.view-c.ensures c.if-same.false) c.kept_corner.ensures c.kept_corner-2.ensures c.kept_corner-3.ensures

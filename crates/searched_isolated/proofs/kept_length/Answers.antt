@@ -21,15 +21,11 @@ stands-requires c = c.loop-f-test.true
 
 -- src/lib.rt:65:29
 pub kept_face-bytes-requires : goal.kept_face-bytes-requires
-kept_face-bytes-requires c = let t = c.before.before in
-    let start = t.before.before.before.before.before in
-    record { face_asks = record { worded = start.requires.kept_asks.worded; here = t.loop-f-test.true; standing = subst T (sym (sym c.stands.ensures ∙ c.if-stands.true)) tt }; indexed = start.requires.indexed }
+kept_face-bytes-requires c = record { face_asks = record { worded = c.requires.kept_asks.worded; here = c.loop-f-test.true; standing = subst T (sym (sym c.stands.ensures ∙ c.if-stands.true)) tt }; indexed = c.requires.indexed }
 
 -- src/lib.rt:65:21
 pub overflow_add-bytes : goal.overflow_add-bytes
-overflow_add-bytes c = let t = c.before.before.before in
-    let start = t.before.before.before.before.before in
-    omega (arith, start.requires.kept_asks.worded.few, t.loop-f.invariant.few, t.loop-f-test.true, c.kept_face-bytes.ensures, face_most start.args.faces.now start.args.words.now t.loop-f.f)
+overflow_add-bytes c = omega (arith, c.requires.kept_asks.worded.few, c.loop-f.invariant.few, c.loop-f-test.true, c.kept_face-bytes.ensures, face_most c.args.faces.now c.args.words.now c.loop-f.f)
 
 -- src/lib.rt:67:9
 pub overflow_add-f : goal.overflow_add-f
@@ -41,9 +37,8 @@ loop-f-smaller c = omega (arith, c.loop-f-test.true)
 
 -- src/lib.rt:63:5
 pub loop-f-preserved : goal.loop-f-preserved
-loop-f-preserved c = let t = c.before.before in
-    let i = t.loop-f.invariant in
-    elim c.if-stands.branch [ then-stands w ↦ rw w.2 (kept_more i t.loop-f-test.true (sym c.stands.ensures ∙ w.if-stands.true) w.1.ensures) | else-stands w ↦ rw w.1 (kept_same i t.loop-f-test.true (sym c.stands.ensures ∙ w.if-stands.false)) ]
+loop-f-preserved c = let i = c.loop-f.invariant in
+    elim c.if-stands.branch [ then-stands w ↦ rw w.2 (kept_more i c.loop-f-test.true (sym c.stands.ensures ∙ w.if-stands.true) w.1.ensures) | else-stands w ↦ rw w.1 (kept_same i c.loop-f-test.true (sym c.stands.ensures ∙ w.if-stands.false)) ]
 
 -- src/lib.rt:57:1
 pub returns : goal.returns

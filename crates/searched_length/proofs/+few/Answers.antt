@@ -14,8 +14,7 @@ pub in_rows-r-requires : goal.in_rows-r-requires
 in_rows-r-requires t c = zero_room 4096 8192 c.requires.input (omega (arith, c.requires.few)) (omega arith)
 
 pub few-requires : goal.few-requires
-few-requires t c = let start = c.before.before.before.before.before.before.before.before in
-    let short = text_short start.requires.input start.args.s start.args.options in
+few-requires t c = let short = text_short c.requires.input c.args.s c.args.options in
     let told = c.in_rows-r.ensures in
     let over = c.if-r-gt200000000.true in
     absurd (omega arith)

@@ -14,8 +14,7 @@ pub in_rows-r-requires : goal.in_rows-r-requires
 in_rows-r-requires t c = zero_room 1048576 262144 c.requires c.requires.faces_fine.few (omega arith)
 
 pub many-requires : goal.many-requires
-many-requires t c = let start = c.before.before.before.before.before.before.before.before in
-    let short = text_short start.requires start.args.s start.args.options in
+many-requires t c = let short = text_short c.requires c.args.s c.args.options in
     let told = c.in_rows-r.ensures in
     let over = c.if-r-gt200000000.true in
     absurd (omega arith)

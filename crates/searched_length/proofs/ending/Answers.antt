@@ -11,13 +11,13 @@ use Rattle.searched_unused.proofs.unused_length.Reads as unused-length-reads
 use Rattle.searched_length.proofs.ending.Goals as goal
 
 pub returns-then-not-unused : goal.returns-then-not-unused
-returns-then-not-unused c = let start = c.before.before.before.before.before.before in both_off start.requires.end_asks start.args.split start.args.unused c.if-not-split.true c.if-not-unused.true
+returns-then-not-unused c = both_off c.requires.end_asks c.args.split c.args.unused c.if-not-split.true c.if-not-unused.true
 
 pub returns-then-not-split : goal.returns-then-not-split
-returns-then-not-split c = let start = c.before.before.before.before.before.before.before.before in only_six start.requires.end_asks start.args.split start.args.unused c.if-not-split.true c.if-not-unused.false c.unused_length-sixth.ensures
+returns-then-not-split c = only_six c.requires.end_asks c.args.split c.args.unused c.if-not-split.true c.if-not-unused.false c.unused_length-sixth.ensures
 
 pub returns-then-not-unused-2 : goal.returns-then-not-unused-2
-returns-then-not-unused-2 c = let start = c.before.before.before.before.before.before.before.before.before.before in only_five start.requires.end_asks c.split_length-told.ensures start.args.split start.args.unused c.if-not-split.false c.if-not-unused-2.true
+returns-then-not-unused-2 c = only_five c.requires.end_asks c.split_length-told.ensures c.args.split c.args.unused c.if-not-split.false c.if-not-unused-2.true
 
 pub lost_length-lost-requires : goal.lost_length-lost-requires
 lost_length-lost-requires c = lost-ask c.requires.end_asks c.split_length-told-2.ensures
@@ -29,4 +29,4 @@ pub overflow_add-result : goal.overflow_add-result
 overflow_add-result c = let p = c.requires.end_asks in omega (arith, all_few p c.all_length-every.ensures c.kept_length-kept.ensures, lost_few p c.all_length-every.ensures c.kept_length-kept.ensures (c.lost_length-lost.ensures (lost-ask p c.split_length-told-2.ensures)), p.few)
 
 pub returns : goal.returns
-returns c = let start = c.before.before.before.before.before.before.before.before.before.before.before.before.before.before.before in both_on start.requires.end_asks c.split_length-told-2.ensures start.args.split start.args.unused c.if-not-split.false c.if-not-unused-2.false (six_told start.requires.end_asks c.all_length-every.ensures c.kept_length-kept.ensures (c.lost_length-lost.ensures (lost-ask start.requires.end_asks c.split_length-told-2.ensures)))
+returns c = both_on c.requires.end_asks c.split_length-told-2.ensures c.args.split c.args.unused c.if-not-split.false c.if-not-unused-2.false (six_told c.requires.end_asks c.all_length-every.ensures c.kept_length-kept.ensures (c.lost_length-lost.ensures (lost-ask c.requires.end_asks c.split_length-told-2.ensures)))

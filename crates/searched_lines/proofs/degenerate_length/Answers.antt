@@ -15,10 +15,10 @@ pub degenerate_line-bytes-requires : goal.degenerate_line-bytes-requires
 degenerate_line-bytes-requires c = record { asks = c.requires; here = c.loop-f-test.true }
 
 pub overflow_add-bytes : goal.overflow_add-bytes
-overflow_add-bytes c = let start = c.before.before.before.before.before.before in let at = c.before.before in omega (arith, at.loop-f.invariant, c.degenerate_line-bytes.ensures, degenerate_short start.args.s start.args.points.now start.args.faces.now start.args.words.now c.loop-f.f, start.requires.worded.few)
+overflow_add-bytes c = omega (arith, c.loop-f.invariant, c.degenerate_line-bytes.ensures, degenerate_short c.args.s c.args.points.now c.args.faces.now c.args.words.now c.loop-f.f, c.requires.worded.few)
 
 pub loop-f-preserved : goal.loop-f-preserved
-loop-f-preserved c = let start = c.before.before.before.before.before.before in sum_again c.loop-f.invariant c.loop-f-test.true c.degenerate_line-bytes.ensures (degenerate_short start.args.s start.args.points.now start.args.faces.now start.args.words.now c.loop-f.f)
+loop-f-preserved c = sum_again c.loop-f.invariant c.loop-f-test.true c.degenerate_line-bytes.ensures (degenerate_short c.args.s c.args.points.now c.args.faces.now c.args.words.now c.loop-f.f)
 
 pub returns : goal.returns
 returns c = sum_done c.loop-f.invariant c.loop-f-test.false

@@ -15,22 +15,22 @@ use Rattle.searched_fans.proofs.number_length.Reads as number-length-reads
 use Rattle.searched_lines.proofs.degenerate_line.Goals as goal
 
 pub returns-then-not-stands : goal.returns-then-not-stands
-returns-then-not-stands c = let at = c.before in let start = at.before.before.before.before in gone_none start.args.s start.args.points.now start.args.faces.now start.args.words.now start.args.f at.stands.ensures (not_up at.stands.result c.if-not-stands.true)
+returns-then-not-stands c = gone_none c.args.s c.args.points.now c.args.faces.now c.args.words.now c.args.f c.stands.ensures (not_up c.stands.result c.if-not-stands.true)
 
 pub shape-form-requires : goal.shape-form-requires
 shape-form-requires c = shape_ok c.requires c.view-g.ensures
 
 pub returns-then-kind-eq0 : goal.returns-then-kind-eq0
-returns-then-kind-eq0 c = let start = c.before.before.before.before.before.before.before.before.before in let at = c.before.before.before.before.before in good_none start.args.s start.args.points.now start.args.faces.now start.args.words.now start.args.f at.stands.ensures (not_down at.stands.result c.if-not-stands.false) c.view-g.ensures (shape_of c.shape-form.result) c.shape-form.ensures c.number-kind.ensures c.if-kind-eq0.true
+returns-then-kind-eq0 c = good_none c.args.s c.args.points.now c.args.faces.now c.args.words.now c.args.f c.stands.ensures (not_down c.stands.result c.if-not-stands.false) c.view-g.ensures (shape_of c.shape-form.result) c.shape-form.ensures c.number-kind.ensures c.if-kind-eq0.true
 
 pub overflow_add-result : goal.overflow_add-result
 overflow_add-result c = omega (arith, decimal_short c.args.f, c.number_length-n.ensures)
 
 pub returns-then-kind-eq1 : goal.returns-then-kind-eq1
-returns-then-kind-eq1 c = let start = c.before.before.before.before.before.before.before.before.before.before.before in let at = c.before.before.before.before.before.before.before in repeated_line start.args.s start.args.points.now start.args.faces.now start.args.words.now start.args.f at.stands.ensures (not_down at.stands.result c.if-not-stands.false) c.view-g.ensures (shape_of c.shape-form.result) c.shape-form.ensures c.number-kind.ensures c.number_length-n.ensures c.if-kind-eq1.true
+returns-then-kind-eq1 c = repeated_line c.args.s c.args.points.now c.args.faces.now c.args.words.now c.args.f c.stands.ensures (not_down c.stands.result c.if-not-stands.false) c.view-g.ensures (shape_of c.shape-form.result) c.shape-form.ensures c.number-kind.ensures c.number_length-n.ensures c.if-kind-eq1.true
 
 pub overflow_add-result-2 : goal.overflow_add-result-2
 overflow_add-result-2 c = omega (arith, decimal_short c.args.f, c.number_length-n.ensures)
 
 pub returns : goal.returns
-returns c = let start = c.before.before.before.before.before.before.before.before.before.before.before in let at = c.before.before.before.before.before.before.before in thin_line start.args.s start.args.points.now start.args.faces.now start.args.words.now start.args.f at.stands.ensures (not_down at.stands.result c.if-not-stands.false) c.view-g.ensures (shape_of c.shape-form.result) c.shape-form.ensures c.number-kind.ensures c.number_length-n.ensures c.if-kind-eq0.false c.if-kind-eq1.false
+returns c = thin_line c.args.s c.args.points.now c.args.faces.now c.args.words.now c.args.f c.stands.ensures (not_down c.stands.result c.if-not-stands.false) c.view-g.ensures (shape_of c.shape-form.result) c.shape-form.ensures c.number-kind.ensures c.number_length-n.ensures c.if-kind-eq0.false c.if-kind-eq1.false

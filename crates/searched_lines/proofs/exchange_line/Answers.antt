@@ -10,16 +10,16 @@ use Rattle.searched_fans.proofs.number_length.Reads as number-length-reads
 use Rattle.searched_lines.proofs.exchange_line.Goals as goal
 
 pub returns-then-not-stands : goal.returns-then-not-stands
-returns-then-not-stands c = let start = c.before.before.before.before in let at = c.before in gone_unturned start.args.faces.now start.args.words.now start.args.f at.stands.ensures (not_up at.stands.result c.if-not-stands.true)
+returns-then-not-stands c = gone_unturned c.args.faces.now c.args.words.now c.args.f c.stands.ensures (not_up c.stands.result c.if-not-stands.true)
 
 pub returns-then-words-f-eq0 : goal.returns-then-words-f-eq0
-returns-then-words-f-eq0 c = let start = c.before.before.before.before.before.before in let at = c.before.before.before in straight_none start.args.faces.now start.args.words.now start.args.f at.stands.ensures (not_down at.stands.result c.if-not-stands.false) c.if-words-f-eq0.true
+returns-then-words-f-eq0 c = straight_none c.args.faces.now c.args.words.now c.args.f c.stands.ensures (not_down c.stands.result c.if-not-stands.false) c.if-words-f-eq0.true
 
 pub returns-then-faces-f : goal.returns-then-faces-f
-returns-then-faces-f c = let start = c.before.before.before.before.before.before.before.before.before in let at = c.before.before.before.before.before.before in equal_none start.args.faces.now start.args.words.now start.args.f at.stands.ensures (not_down at.stands.result c.if-not-stands.false) c.if-words-f-eq0.false c.if-faces-f.true
+returns-then-faces-f c = equal_none c.args.faces.now c.args.words.now c.args.f c.stands.ensures (not_down c.stands.result c.if-not-stands.false) c.if-words-f-eq0.false c.if-faces-f.true
 
 pub overflow_add-result : goal.overflow_add-result
 overflow_add-result c = omega (arith, decimal_short c.args.f, c.number_length.ensures)
 
 pub returns : goal.returns
-returns c = let start = c.before.before.before.before.before.before.before.before.before.before in let at = c.before.before.before.before.before.before.before in turned_line start.args.faces.now start.args.words.now start.args.f at.stands.ensures (not_down at.stands.result c.if-not-stands.false) c.if-words-f-eq0.false c.if-faces-f.false c.number_length.ensures
+returns c = turned_line c.args.faces.now c.args.words.now c.args.f c.stands.ensures (not_down c.stands.result c.if-not-stands.false) c.if-words-f-eq0.false c.if-faces-f.false c.number_length.ensures

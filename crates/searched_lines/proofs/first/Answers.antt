@@ -10,10 +10,10 @@ use Rattle.searched_marks.proofs.pass1.Reads as pass1-reads
 use Rattle.searched_lines.proofs.first.Goals as goal
 
 pub returns-then-not-on : goal.returns-then-not-on
-returns-then-not-on c = let start = c.before.before.before.before in off_told 2 (pass1 start.args.s) (lines1 start.args.s) (omega arith) start.requires start.args.on c.if-not-on.true
+returns-then-not-on c = off_told 2 (pass1 c.args.s) (lines1 c.args.s) (omega arith) c.requires c.args.on c.if-not-on.true
 
 pub pass1-requires : goal.pass1-requires
 pass1-requires c = pass_ask c.requires
 
 pub returns : goal.returns
-returns c = let start = c.before.before.before.before.before.before.before.before.before.before in on_told 2 (pass1 start.args.s) (lines1 start.args.s) (first_told start.requires start.args.s c.degenerate_length-bytes.ensures c.pass1.ensures) start.args.on c.if-not-on.false
+returns c = on_told 2 (pass1 c.args.s) (lines1 c.args.s) (first_told c.requires c.args.s c.degenerate_length-bytes.ensures c.pass1.ensures) c.args.on c.if-not-on.false

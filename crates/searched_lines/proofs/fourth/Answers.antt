@@ -14,13 +14,13 @@ use Rattle.searched_walk.proofs.walk.Reads as walk-reads
 use Rattle.searched_lines.proofs.fourth.Goals as goal
 
 pub returns-then-not-on : goal.returns-then-not-on
-returns-then-not-on c = let start = c.before.before.before.before.before in off_told 4 pass4 lines4 (omega arith) start.requires.pass_asks start.args.on c.if-not-on.true
+returns-then-not-on c = off_told 4 pass4 lines4 (omega arith) c.requires.pass_asks c.args.on c.if-not-on.true
 
 pub mark_at_steps-requires : goal.mark_at_steps-requires
-mark_at_steps-requires c = let start = c.before.before.before.before.before.before.before.before.before.before.before.before in record { pass_asks = turn_ask start.requires.pass_asks c.walk.ensures; indexed = start.requires.indexed }
+mark_at_steps-requires c = record { pass_asks = turn_ask c.requires.pass_asks c.walk.ensures; indexed = c.requires.indexed }
 
 pub sweep-requires : goal.sweep-requires
 sweep-requires c = sweep_ok (turn_ask c.requires.pass_asks c.walk.ensures).plain c.mark_at_steps.ensures
 
 pub returns : goal.returns
-returns c = let start = c.before.before.before.before.before.before.before.before.before.before.before.before.before.before.before.before.before.before.before.before.before in on_told 4 pass4 lines4 (fourth_told start.requires.pass_asks c.walk.ensures c.exchange_length-turned.ensures c.mark_at_steps.ensures c.marked_length-bytes.ensures c.sweep.ensures) start.args.on c.if-not-on.false
+returns c = on_told 4 pass4 lines4 (fourth_told c.requires.pass_asks c.walk.ensures c.exchange_length-turned.ensures c.mark_at_steps.ensures c.marked_length-bytes.ensures c.sweep.ensures) c.args.on c.if-not-on.false

@@ -11,7 +11,7 @@ pub overflow_add-result-then-words-f-eq1 : goal.overflow_add-result-then-words-f
 overflow_add-result-then-words-f-eq1 c = omega (arith, decimal_short c.args.f, c.number_length.ensures, c.requires.asks)
 
 pub returns-then-words-f-eq1 : goal.returns-then-words-f-eq1
-returns-then-words-f-eq1 c = let start = c.before.before.before.before in marked_line_is start.args.n start.args.words.now start.args.f c.if-words-f-eq1.true c.number_length.ensures
+returns-then-words-f-eq1 c = marked_line_is c.args.n c.args.words.now c.args.f c.if-words-f-eq1.true c.number_length.ensures
 
 pub returns : goal.returns
-returns c = let start = c.before.before.before in unmarked_none start.args.n start.args.words.now start.args.f c.if-words-f-eq1.false
+returns c = unmarked_none c.args.n c.args.words.now c.args.f c.if-words-f-eq1.false

@@ -12,13 +12,13 @@ use Rattle.searched_marks.proofs.sweep.Reads as sweep-reads
 use Rattle.searched_lines.proofs.third.Goals as goal
 
 pub returns-then-not-on : goal.returns-then-not-on
-returns-then-not-on c = let start = c.before.before.before.before.before in off_told 2 pass3 lines3 (omega arith) start.requires.pass_asks start.args.on c.if-not-on.true
+returns-then-not-on c = off_told 2 pass3 lines3 (omega arith) c.requires.pass_asks c.args.on c.if-not-on.true
 
 pub mark_at_edges-requires : goal.mark_at_edges-requires
-mark_at_edges-requires c = let start = c.before.before.before.before.before.before in record { pass_asks = pass_ask start.requires.pass_asks; indexed = start.requires.indexed }
+mark_at_edges-requires c = record { pass_asks = pass_ask c.requires.pass_asks; indexed = c.requires.indexed }
 
 pub sweep-requires : goal.sweep-requires
 sweep-requires c = sweep_ok (plain c.requires.pass_asks) c.mark_at_edges.ensures
 
 pub returns : goal.returns
-returns c = let start = c.before.before.before.before.before.before.before.before.before.before.before.before.before.before.before in on_told 2 pass3 lines3 (third_told start.requires.pass_asks c.mark_at_edges.ensures c.marked_length-bytes.ensures c.sweep.ensures) start.args.on c.if-not-on.false
+returns c = on_told 2 pass3 lines3 (third_told c.requires.pass_asks c.mark_at_edges.ensures c.marked_length-bytes.ensures c.sweep.ensures) c.args.on c.if-not-on.false

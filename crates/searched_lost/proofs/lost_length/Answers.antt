@@ -19,7 +19,7 @@ pub lost_face-bytes-requires : goal.lost_face-bytes-requires
 lost_face-bytes-requires c = let p = c.requires in face-ask p (c.loop-f.invariant p) c.loop-f-test.true c.stands.ensures c.if-stands.true
 
 pub overflow_add-bytes : goal.overflow_add-bytes
-overflow_add-bytes c = let start = c.before.before.before.before.before.before.before in let p = start.requires in let a = c.before.before.before.before in omega (arith, (a.loop-f.invariant p).few, c.loop-f-test.true, c.lost_face-bytes.ensures (face-ask p (a.loop-f.invariant p) c.loop-f-test.true c.stands.ensures c.if-stands.true), face_most start.args.faces.now p.base start.args.points a.loop-f.f, p.split.worded.few, p.stage.long)
+overflow_add-bytes c = let p = c.requires in omega (arith, (c.loop-f.invariant p).few, c.loop-f-test.true, c.lost_face-bytes.ensures (face-ask p (c.loop-f.invariant p) c.loop-f-test.true c.stands.ensures c.if-stands.true), face_most c.args.faces.now p.base c.args.points c.loop-f.f, p.split.worded.few, p.stage.long)
 
 pub overflow_add-f : goal.overflow_add-f
 overflow_add-f c = omega (arith, c.loop-f-test.true)
@@ -28,7 +28,7 @@ pub loop-f-smaller : goal.loop-f-smaller
 loop-f-smaller c = omega (arith, c.loop-f-test.true)
 
 pub loop-f-preserved : goal.loop-f-preserved
-loop-f-preserved c = let t = c.before.before in let a = t.before in λ q. elim c.if-stands.branch [ then-stands w ↦ rw w.2 (gone_more q (a.loop-f.invariant q) t.loop-f-test.true c.stands.ensures w.if-stands.true (w.1.ensures (face-ask q (a.loop-f.invariant q) t.loop-f-test.true c.stands.ensures w.if-stands.true))) | else-stands w ↦ rw w.1 (gone_same q (a.loop-f.invariant q) t.loop-f-test.true c.stands.ensures w.if-stands.false) ]
+loop-f-preserved c = λ q. elim c.if-stands.branch [ then-stands w ↦ rw w.2 (gone_more q (c.loop-f.invariant q) c.loop-f-test.true c.stands.ensures w.if-stands.true (w.1.ensures (face-ask q (c.loop-f.invariant q) c.loop-f-test.true c.stands.ensures w.if-stands.true))) | else-stands w ↦ rw w.1 (gone_same q (c.loop-f.invariant q) c.loop-f-test.true c.stands.ensures w.if-stands.false) ]
 
 pub returns : goal.returns
 returns c = λ q. gone_done q (c.loop-f.invariant q) c.loop-f-test.false

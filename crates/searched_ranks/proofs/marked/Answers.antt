@@ -7,12 +7,12 @@ use Rattle.searched_ranks.proofs.marked.Goals as goal
 
 pub returns-then-k-eq0 : goal.returns-then-k-eq0
 unfolding marked_in
-returns-then-k-eq0 c = let start = c.before in first start.args.k (eqb (start.args.word / 128 % 2) 1) (eqb (start.args.word / 256 % 2) 1) (eqb (start.args.word / 512 % 2) 1) c.if-k-eq0.true
+returns-then-k-eq0 c = first c.args.k (eqb (c.args.word / 128 % 2) 1) (eqb (c.args.word / 256 % 2) 1) (eqb (c.args.word / 512 % 2) 1) c.if-k-eq0.true
 
 pub returns-then-k-eq1 : goal.returns-then-k-eq1
 unfolding marked_in
-returns-then-k-eq1 c = let start = c.before.before in second start.args.k (eqb (start.args.word / 128 % 2) 1) (eqb (start.args.word / 256 % 2) 1) (eqb (start.args.word / 512 % 2) 1) c.if-k-eq0.false c.if-k-eq1.true
+returns-then-k-eq1 c = second c.args.k (eqb (c.args.word / 128 % 2) 1) (eqb (c.args.word / 256 % 2) 1) (eqb (c.args.word / 512 % 2) 1) c.if-k-eq0.false c.if-k-eq1.true
 
 pub returns : goal.returns
 unfolding marked_in
-returns c = let start = c.before.before in third start.args.k (eqb (start.args.word / 128 % 2) 1) (eqb (start.args.word / 256 % 2) 1) (eqb (start.args.word / 512 % 2) 1) c.if-k-eq0.false c.if-k-eq1.false
+returns c = third c.args.k (eqb (c.args.word / 128 % 2) 1) (eqb (c.args.word / 256 % 2) 1) (eqb (c.args.word / 512 % 2) 1) c.if-k-eq0.false c.if-k-eq1.false

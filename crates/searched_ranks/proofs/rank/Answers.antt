@@ -20,36 +20,27 @@ stands-requires c = c.loop-g-test.true
 
 -- src/lib.rt:65:29
 pub rank_corner-requires : goal.rank_corner-requires
-rank_corner-requires c = let t = c.before.before in
-    record { worded = t.requires.worded; here = t.loop-g-test.true; corner = omega arith }
+rank_corner-requires c = record { worded = c.requires.worded; here = c.loop-g-test.true; corner = omega arith }
 
 -- src/lib.rt:65:21
 pub overflow_add-count : goal.overflow_add-count
-overflow_add-count c = let t = c.before.before.before in
-    let start = t.before.before.before.before in
-    omega (arith, start.requires.worded.few, t.loop-g.invariant.few, t.loop-g-test.true, c.rank_corner.ensures, count_most start.args.faces.now start.args.words.now start.args.v start.args.id t.loop-g.g 0)
+overflow_add-count c = omega (arith, c.requires.worded.few, c.loop-g.invariant.few, c.loop-g-test.true, c.rank_corner.ensures, count_most c.args.faces.now c.args.words.now c.args.v c.args.id c.loop-g.g 0)
 
 -- src/lib.rt:65:70
 pub rank_corner-requires-then-stands : goal.rank_corner-requires-then-stands
-rank_corner-requires-then-stands c = let t = c.before.before.before in
-    record { worded = t.requires.worded; here = t.loop-g-test.true; corner = omega arith }
+rank_corner-requires-then-stands c = record { worded = c.requires.worded; here = c.loop-g-test.true; corner = omega arith }
 
 -- src/lib.rt:65:21
 pub overflow_add-count-then-stands : goal.overflow_add-count-then-stands
-overflow_add-count-then-stands c = let t = c.before.before.before.before in
-    let start = t.before.before.before.before in
-    omega (arith, start.requires.worded.few, t.loop-g.invariant.few, t.loop-g-test.true, c.rank_corner.ensures, c.rank_corner-then-stands.ensures, count_most start.args.faces.now start.args.words.now start.args.v start.args.id t.loop-g.g 0, count_most start.args.faces.now start.args.words.now start.args.v start.args.id t.loop-g.g 1)
+overflow_add-count-then-stands c = omega (arith, c.requires.worded.few, c.loop-g.invariant.few, c.loop-g-test.true, c.rank_corner.ensures, c.rank_corner-then-stands.ensures, count_most c.args.faces.now c.args.words.now c.args.v c.args.id c.loop-g.g 0, count_most c.args.faces.now c.args.words.now c.args.v c.args.id c.loop-g.g 1)
 
 -- src/lib.rt:66:19
 pub rank_corner-requires-then-stands-2 : goal.rank_corner-requires-then-stands-2
-rank_corner-requires-then-stands-2 c = let t = c.before.before.before.before in
-    record { worded = t.requires.worded; here = t.loop-g-test.true; corner = omega arith }
+rank_corner-requires-then-stands-2 c = record { worded = c.requires.worded; here = c.loop-g-test.true; corner = omega arith }
 
 -- src/lib.rt:65:21
 pub overflow_add-count-then-stands-2 : goal.overflow_add-count-then-stands-2
-overflow_add-count-then-stands-2 c = let t = c.before.before.before.before.before in
-    let start = t.before.before.before.before in
-    omega (arith, start.requires.worded.few, t.loop-g.invariant.few, t.loop-g-test.true, c.rank_corner.ensures, c.rank_corner-then-stands.ensures, c.rank_corner-then-stands-2.ensures, count_most start.args.faces.now start.args.words.now start.args.v start.args.id t.loop-g.g 0, count_most start.args.faces.now start.args.words.now start.args.v start.args.id t.loop-g.g 1, count_most start.args.faces.now start.args.words.now start.args.v start.args.id t.loop-g.g 2)
+overflow_add-count-then-stands-2 c = omega (arith, c.requires.worded.few, c.loop-g.invariant.few, c.loop-g-test.true, c.rank_corner.ensures, c.rank_corner-then-stands.ensures, c.rank_corner-then-stands-2.ensures, count_most c.args.faces.now c.args.words.now c.args.v c.args.id c.loop-g.g 0, count_most c.args.faces.now c.args.words.now c.args.v c.args.id c.loop-g.g 1, count_most c.args.faces.now c.args.words.now c.args.v c.args.id c.loop-g.g 2)
 
 -- src/lib.rt:68:9
 pub overflow_add-g : goal.overflow_add-g
@@ -61,9 +52,8 @@ loop-g-smaller c = omega (arith, c.loop-g-test.true)
 
 -- src/lib.rt:63:5
 pub loop-g-preserved : goal.loop-g-preserved
-loop-g-preserved c = let t = c.before.before in
-    let i = t.loop-g.invariant in
-    elim c.if-stands.branch [ then-stands w ↦ rw w.4 (more i t.loop-g-test.true (sym c.stands.ensures ∙ w.if-stands.true) w.1.ensures w.2.ensures w.3.ensures) | else-stands w ↦ rw w.1 (same i t.loop-g-test.true (sym c.stands.ensures ∙ w.if-stands.false)) ]
+loop-g-preserved c = let i = c.loop-g.invariant in
+    elim c.if-stands.branch [ then-stands w ↦ rw w.4 (more i c.loop-g-test.true (sym c.stands.ensures ∙ w.if-stands.true) w.1.ensures w.2.ensures w.3.ensures) | else-stands w ↦ rw w.1 (same i c.loop-g-test.true (sym c.stands.ensures ∙ w.if-stands.false)) ]
 
 -- src/lib.rt:57:1
 pub returns : goal.returns

@@ -16,28 +16,16 @@ use Rattle.searched_ranks.proofs.rank_corner.Goals as goal
 
 -- src/lib.rt:47:9
 pub returns-then-not-marked : goal.returns-then-not-marked
-returns-then-not-marked c = let at-marked = c.before in
-    let start = at-marked.before.before.before.before in
-    unmarked start.args.faces.now start.args.words.now start.args.v start.args.id start.args.g start.args.j (sym at-marked.marked.ensures ∙ off at-marked.marked.result c.if-not-marked.true)
+returns-then-not-marked c = unmarked c.args.faces.now c.args.words.now c.args.v c.args.id c.args.g c.args.j (sym c.marked.ensures ∙ off c.marked.result c.if-not-marked.true)
 
 -- src/lib.rt:51:9
 pub returns-then-comes_before : goal.returns-then-comes_before
-returns-then-comes_before c = let at-order = c.before in
-    let at-pick = at-order.before in
-    let at-view = at-pick.before in
-    let at-marked = at-view.before.before in
-    let start = at-marked.before.before.before.before in
-    let p = start.args in
-    by_order p.faces.now p.words.now p.v p.id p.g p.j true (sym at-marked.marked.ensures ∙ on at-marked.marked.result at-view.if-not-marked.false)
-    (ap (λ x. before_in x p.v (3 * p.g + p.j) p.id) (sym (at-pick.pick.ensures ∙ ap (λ g. pick_of g.a g.b g.c p.j) at-view.view-c.ensures)) ∙ sym at-order.comes_before.ensures ∙ c.if-comes_before.true)
+returns-then-comes_before c = let p = c.args in
+    by_order p.faces.now p.words.now p.v p.id p.g p.j true (sym c.marked.ensures ∙ on c.marked.result c.if-not-marked.false)
+    (ap (λ x. before_in x p.v (3 * p.g + p.j) p.id) (sym (c.pick.ensures ∙ ap (λ g. pick_of g.a g.b g.c p.j) c.view-c.ensures)) ∙ sym c.comes_before.ensures ∙ c.if-comes_before.true)
 
 -- src/lib.rt:35:1
 pub returns : goal.returns
-returns c = let at-order = c.before in
-    let at-pick = at-order.before in
-    let at-view = at-pick.before in
-    let at-marked = at-view.before.before in
-    let start = at-marked.before.before.before.before in
-    let p = start.args in
-    by_order p.faces.now p.words.now p.v p.id p.g p.j false (sym at-marked.marked.ensures ∙ on at-marked.marked.result at-view.if-not-marked.false)
-    (ap (λ x. before_in x p.v (3 * p.g + p.j) p.id) (sym (at-pick.pick.ensures ∙ ap (λ g. pick_of g.a g.b g.c p.j) at-view.view-c.ensures)) ∙ sym at-order.comes_before.ensures ∙ c.if-comes_before.false)
+returns c = let p = c.args in
+    by_order p.faces.now p.words.now p.v p.id p.g p.j false (sym c.marked.ensures ∙ on c.marked.result c.if-not-marked.false)
+    (ap (λ x. before_in x p.v (3 * p.g + p.j) p.id) (sym (c.pick.ensures ∙ ap (λ g. pick_of g.a g.b g.c p.j) c.view-c.ensures)) ∙ sym c.comes_before.ensures ∙ c.if-comes_before.false)

@@ -24,53 +24,25 @@ tested e q t = ap single (sym q) ∙ sym e ∙ t
 
 -- src/lib.rt:145:20
 pub overflow_add-words : goal.overflow_add-words
-overflow_add-words c = let at-bit = c in
-    let at_same = at-bit.before.before.before in
-    let at-view = at_same.before in
-    let start = at-view.before.before.before.before.before in
-    omega (arith, start.requires.close_asks.few start.args.f start.requires.close_asks.here, at-bit.bit.ensures, bit_most start.args.k)
+overflow_add-words c = omega (arith, c.requires.close_asks.few c.args.f c.requires.close_asks.here, c.bit.ensures, bit_most c.args.k)
 
 -- src/lib.rt:147:20
 pub overflow_add-result : goal.overflow_add-result
-overflow_add-result c = let at-number-length = c in
-    let at_gives = at-number-length.before.before in
-    let at-bit = at_gives.before in
-    let at_same = at-bit.before.before.before in
-    let at-view = at_same.before in
-    let start = at-view.before.before.before.before.before in
-    omega (arith, at-number-length.number_length.ensures, decimal_short start.args.f)
+overflow_add-result c = omega (arith, c.number_length.ensures, decimal_short c.args.f)
 
 -- src/lib.rt:147:13
 pub returns-then-gives : goal.returns-then-gives
-returns-then-gives c = let at-number-length = c in
-    let at_gives = at-number-length.before.before in
-    let at-bit = at_gives.before in
-    let at_same = at-bit.before.before.before in
-    let at-view = at_same.before in
-    let start = at-view.before.before.before.before.before in
-    given start.requires.close_asks (subst T (sym (tested at_same.same.ensures at-view.view-c.ensures at-bit.if-same.true)) tt) at-bit.bit.ensures (sym at_gives.gives.ensures ∙ c.if-gives.true) at-number-length.number_length.ensures
+returns-then-gives c = given c.requires.close_asks (subst T (sym (tested c.same.ensures c.view-c.ensures c.if-same.true)) tt) c.bit.ensures (sym c.gives.ensures ∙ c.if-gives.true) c.number_length.ensures
 
 -- src/lib.rt:149:9
 pub returns-then-same : goal.returns-then-same
-returns-then-same c = let at_gives = c.before in
-    let at-bit = at_gives.before in
-    let at_same = at-bit.before.before.before in
-    let at-view = at_same.before in
-    let start = at-view.before.before.before.before.before in
-    kept start.requires.close_asks (subst T (sym (tested at_same.same.ensures at-view.view-c.ensures at-bit.if-same.true)) tt) at-bit.bit.ensures (sym at_gives.gives.ensures ∙ c.if-gives.false)
+returns-then-same c = kept c.requires.close_asks (subst T (sym (tested c.same.ensures c.view-c.ensures c.if-same.true)) tt) c.bit.ensures (sym c.gives.ensures ∙ c.if-gives.false)
 
 -- src/lib.rt:151:5
 pub reach-requires : goal.reach-requires
-reach-requires c = let at_same = c.before.before in
-    let at-view = at_same.before in
-    let start = at-view.before.before.before.before.before in
-    record { reach_asks = reach_ask start.requires.close_asks (tested at_same.same.ensures at-view.view-c.ensures c.if-same.false); indexed = start.requires.indexed }
+reach-requires c = record { reach_asks = reach_ask c.requires.close_asks (tested c.same.ensures c.view-c.ensures c.if-same.false); indexed = c.requires.indexed }
 
 -- src/lib.rt:138:1
 pub returns : goal.returns
-returns c = let at-reach = c.before.before in
-    let at_same = at-reach.before.before.before in
-    let at-view = at_same.before in
-    let start = at-view.before.before.before.before.before in
-    let e = tested at_same.same.ensures at-view.view-c.ensures at-reach.if-same.false in
-    reached start.requires.close_asks e (at-reach.reach.ensures (reach_ask start.requires.close_asks e))
+returns c = let e = tested c.same.ensures c.view-c.ensures c.if-same.false in
+    reached c.requires.close_asks e (c.reach.ensures (reach_ask c.requires.close_asks e))

@@ -7,12 +7,12 @@ use Rattle.searched_splits.proofs.flagged.Goals as goal
 
 pub returns-then-k-eq0 : goal.returns-then-k-eq0
 unfolding flagged_in
-returns-then-k-eq0 c = let start = c.before in first start.args.k (eqb (start.args.word / 16 % 2) 1) (eqb (start.args.word / 32 % 2) 1) (eqb (start.args.word / 64 % 2) 1) c.if-k-eq0.true
+returns-then-k-eq0 c = first c.args.k (eqb (c.args.word / 16 % 2) 1) (eqb (c.args.word / 32 % 2) 1) (eqb (c.args.word / 64 % 2) 1) c.if-k-eq0.true
 
 pub returns-then-k-eq1 : goal.returns-then-k-eq1
 unfolding flagged_in
-returns-then-k-eq1 c = let start = c.before.before in second start.args.k (eqb (start.args.word / 16 % 2) 1) (eqb (start.args.word / 32 % 2) 1) (eqb (start.args.word / 64 % 2) 1) c.if-k-eq0.false c.if-k-eq1.true
+returns-then-k-eq1 c = second c.args.k (eqb (c.args.word / 16 % 2) 1) (eqb (c.args.word / 32 % 2) 1) (eqb (c.args.word / 64 % 2) 1) c.if-k-eq0.false c.if-k-eq1.true
 
 pub returns : goal.returns
 unfolding flagged_in
-returns c = let start = c.before.before in third start.args.k (eqb (start.args.word / 16 % 2) 1) (eqb (start.args.word / 32 % 2) 1) (eqb (start.args.word / 64 % 2) 1) c.if-k-eq0.false c.if-k-eq1.false
+returns c = third c.args.k (eqb (c.args.word / 16 % 2) 1) (eqb (c.args.word / 32 % 2) 1) (eqb (c.args.word / 64 % 2) 1) c.if-k-eq0.false c.if-k-eq1.false

@@ -8,12 +8,12 @@ use Rattle.searched_splits.proofs.gives.Goals as goal
 
 pub returns-then-k-eq0 : goal.returns-then-k-eq0
 unfolding gives_in
-returns-then-k-eq0 c = let start = c.before in first start.args.k true (eqb (start.args.word / 128 % 2) 0) false c.if-k-eq0.true
+returns-then-k-eq0 c = first c.args.k true (eqb (c.args.word / 128 % 2) 0) false c.if-k-eq0.true
 
 pub returns-then-k-eq1 : goal.returns-then-k-eq1
 unfolding gives_in
-returns-then-k-eq1 c = let start = c.before.before in second start.args.k true (eqb (start.args.word / 128 % 2) 0) false c.if-k-eq0.false c.if-k-eq1.true
+returns-then-k-eq1 c = second c.args.k true (eqb (c.args.word / 128 % 2) 0) false c.if-k-eq0.false c.if-k-eq1.true
 
 pub returns : goal.returns
 unfolding gives_in
-returns c = let start = c.before.before in third start.args.k true (eqb (start.args.word / 128 % 2) 0) false c.if-k-eq0.false c.if-k-eq1.false
+returns c = third c.args.k true (eqb (c.args.word / 128 % 2) 0) false c.if-k-eq0.false c.if-k-eq1.false

@@ -12,32 +12,22 @@ use Rattle.searched_splits.proofs.has_point.Goals as goal
 
 -- src/lib.rt:78:9
 pub returns-then-not-stands : goal.returns-then-not-stands
-returns-then-not-stands c = let start = c.before.before.before.before in
-    gone_has start.args.faces.now start.args.words.now start.args.v start.args.g (sym c.stands.ensures ∙ off c.stands.result c.if-not-stands.true)
+returns-then-not-stands c = gone_has c.args.faces.now c.args.words.now c.args.v c.args.g (sym c.stands.ensures ∙ off c.stands.result c.if-not-stands.true)
 
 -- src/lib.rt:82:9
 pub returns-then-v-c : goal.returns-then-v-c
-returns-then-v-c c = let at-view = c.before.before in
-    let view = at-view.view in
-    let at-stands = at-view.before.before in
-    let start = at-stands.before.before.before in
-    stands_has start.args.faces.now start.args.words.now start.args.v start.args.g (sym at-stands.stands.ensures ∙ on at-stands.stands.result at-view.if-not-stands.false)
-    (among_first start.args.v view.result.a view.result.b view.result.c c.if-v-c.true ∙ ap (λ f. has start.args.v (corners f)) view.ensures)
+returns-then-v-c c = let view = c.view in
+    stands_has c.args.faces.now c.args.words.now c.args.v c.args.g (sym c.stands.ensures ∙ on c.stands.result c.if-not-stands.false)
+    (among_first c.args.v view.result.a view.result.b view.result.c c.if-v-c.true ∙ ap (λ f. has c.args.v (corners f)) view.ensures)
 
 -- src/lib.rt:85:9
 pub returns-then-v-c-2 : goal.returns-then-v-c-2
-returns-then-v-c-2 c = let at-view = c.before.before.before.before in
-    let view = at-view.view in
-    let at-stands = at-view.before.before in
-    let start = at-stands.before.before.before in
-    stands_has start.args.faces.now start.args.words.now start.args.v start.args.g (sym at-stands.stands.ensures ∙ on at-stands.stands.result at-view.if-not-stands.false)
-    (among_second start.args.v view.result.a view.result.b view.result.c c.if-v-c.false c.if-v-c-2.true ∙ ap (λ f. has start.args.v (corners f)) view.ensures)
+returns-then-v-c-2 c = let view = c.view in
+    stands_has c.args.faces.now c.args.words.now c.args.v c.args.g (sym c.stands.ensures ∙ on c.stands.result c.if-not-stands.false)
+    (among_second c.args.v view.result.a view.result.b view.result.c c.if-v-c.false c.if-v-c-2.true ∙ ap (λ f. has c.args.v (corners f)) view.ensures)
 
 -- src/lib.rt:73:1
 pub returns : goal.returns
-returns c = let at-view = c.before.before.before.before.before in
-    let view = at-view.view in
-    let at-stands = at-view.before.before in
-    let start = at-stands.before.before.before in
-    stands_has start.args.faces.now start.args.words.now start.args.v start.args.g (sym at-stands.stands.ensures ∙ on at-stands.stands.result at-view.if-not-stands.false)
-    (among_third start.args.v view.result.a view.result.b view.result.c c.if-v-c.false c.if-v-c-2.false ∙ ap (λ f. has start.args.v (corners f)) view.ensures)
+returns c = let view = c.view in
+    stands_has c.args.faces.now c.args.words.now c.args.v c.args.g (sym c.stands.ensures ∙ on c.stands.result c.if-not-stands.false)
+    (among_third c.args.v view.result.a view.result.b view.result.c c.if-v-c.false c.if-v-c-2.false ∙ ap (λ f. has c.args.v (corners f)) view.ensures)

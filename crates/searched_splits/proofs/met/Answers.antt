@@ -6,7 +6,7 @@ use Rattle.searched_splits.proofs.Reading.{begin, ask, next_ask, again, hit, don
 use Rattle.searched_splits.proofs.met.Goals as goal
 
 pub next_indexed-g-requires : goal.next_indexed-g-requires
-next_indexed-g-requires c = let start = c.before.before.before in record { indexed = start.requires.indexed; candidate_asks = next_ask start.requires.has_asks 0 (omega arith) }
+next_indexed-g-requires c = record { indexed = c.requires.indexed; candidate_asks = next_ask c.requires.has_asks 0 (omega arith) }
 
 pub loop-g-init : goal.loop-g-init
 loop-g-init c = begin c.next_indexed-g.ensures
@@ -22,8 +22,7 @@ overflow_add-g c = let p = c.requires.has_asks in
     omega (arith, c.loop-g-test.true, p.here, p.worded.few)
 
 pub next_indexed-g-requires-in-loop-g : goal.next_indexed-g-requires-in-loop-g
-next_indexed-g-requires-in-loop-g c = let start = c.before.before.before.before.before.before.before.before in
-    record { indexed = start.requires.indexed; candidate_asks = next_ask start.requires.has_asks (c.loop-g.g + 1) (omega (arith, c.loop-g-test.true)) }
+next_indexed-g-requires-in-loop-g c = record { indexed = c.requires.indexed; candidate_asks = next_ask c.requires.has_asks (c.loop-g.g + 1) (omega (arith, c.loop-g-test.true)) }
 
 pub loop-g-smaller : goal.loop-g-smaller
 loop-g-smaller c = omega (arith, c.loop-g-test.true, c.next_indexed-g-in-loop-g.ensures.least)

@@ -19,164 +19,60 @@ use Rattle.searched_splits.proofs.split_corner.Goals as goal
 
 -- src/lib.rt:168:9
 pub returns-then-flagged : goal.returns-then-flagged
-returns-then-flagged c = let at-flagged = c.before in
-    let start = at-flagged.before.before.before.before.before in
-    λ q. passed q at-flagged.flagged.ensures c.if-flagged.true
+returns-then-flagged c = λ q. passed q c.flagged.ensures c.if-flagged.true
 
 -- src/lib.rt:173:9
 pub close-taken-requires : goal.close-taken-requires
-close-taken-requires c = let at-met-at = c.before in
-    let at-pick = at-met-at.before.before in
-    let at-view = at-pick.before in
-    let at-flagged = at-view.before.before.before in
-    let start = at-flagged.before.before.before.before.before in
-    let pe = at-pick.pick-v.ensures ∙ ap (λ g. pick_of g.a g.b g.c start.args.k) at-view.view-c.ensures in
-    record { close_asks = close_ask start.requires.corner_asks at-flagged.flagged.ensures at-view.if-flagged.false pe; indexed = start.requires.indexed }
+close-taken-requires c = let pe = c.pick-v.ensures ∙ ap (λ g. pick_of g.a g.b g.c c.args.k) c.view-c.ensures in
+    record { close_asks = close_ask c.requires.corner_asks c.flagged.ensures c.if-flagged.false pe; indexed = c.requires.indexed }
 
 -- src/lib.rt:175:9
 pub returns-then-not-extra : goal.returns-then-not-extra
-returns-then-not-extra c = let at-close = c.before.before.before in
-    let at-met-at = at-close.before.before in
-    let at-pick = at-met-at.before.before in
-    let at-view = at-pick.before in
-    let at-flagged = at-view.before.before.before in
-    let start = at-flagged.before.before.before.before.before in
-    let pe = at-pick.pick-v.ensures ∙ ap (λ g. pick_of g.a g.b g.c start.args.k) at-view.view-c.ensures in
-    λ q. closed q at-flagged.flagged.ensures at-view.if-flagged.false pe at-close.close-taken.ensures at-met-at.met_at-extra.ensures c.if-not-extra.true
+returns-then-not-extra c = let pe = c.pick-v.ensures ∙ ap (λ g. pick_of g.a g.b g.c c.args.k) c.view-c.ensures in
+    λ q. closed q c.flagged.ensures c.if-flagged.false pe c.close-taken.ensures c.met_at-extra.ensures c.if-not-extra.true
 
 -- src/lib.rt:177:27
 pub overflow_mul-words : goal.overflow_mul-words
-overflow_mul-words c = let at-bit = c in
-    let at-close = at-bit.before.before.before.before.before in
-    let at-met-at = at-close.before.before in
-    let at-pick = at-met-at.before.before in
-    let at-view = at-pick.before in
-    let at-flagged = at-view.before.before.before in
-    let start = at-flagged.before.before.before.before.before in
-    omega (arith, at-bit.bit.ensures, bit_most start.args.k)
+overflow_mul-words c = omega (arith, c.bit.ensures, bit_most c.args.k)
 
 -- src/lib.rt:177:16
 pub overflow_add-words : goal.overflow_add-words
-overflow_add-words c = let at-bit = c in
-    let at-close = at-bit.before.before.before.before.before in
-    let at-met-at = at-close.before.before in
-    let at-pick = at-met-at.before.before in
-    let at-view = at-pick.before in
-    let at-flagged = at-view.before.before.before in
-    let start = at-flagged.before.before.before.before.before in
-    let pe = at-pick.pick-v.ensures ∙ ap (λ g. pick_of g.a g.b g.c start.args.k) at-view.view-c.ensures in
-    omega (arith, at-bit.bit.ensures, bit_most start.args.k, mark_small start.requires.corner_asks at-flagged.flagged.ensures at-view.if-flagged.false pe at-close.close-taken.ensures)
+overflow_add-words c = let pe = c.pick-v.ensures ∙ ap (λ g. pick_of g.a g.b g.c c.args.k) c.view-c.ensures in
+    omega (arith, c.bit.ensures, bit_most c.args.k, mark_small c.requires.corner_asks c.flagged.ensures c.if-flagged.false pe c.close-taken.ensures)
 
 -- src/lib.rt:177:5
 pub offset_bounds-words-f-3 : goal.offset_bounds-words-f-3
-offset_bounds-words-f-3 c = let at-bit = c in
-    let at-close = at-bit.before.before.before.before.before in
-    let at-met-at = at-close.before.before in
-    let at-pick = at-met-at.before.before in
-    let at-view = at-pick.before in
-    let at-flagged = at-view.before.before.before in
-    let start = at-flagged.before.before.before.before.before in
-    omega (arith, start.requires.corner_asks.here, start.requires.corner_asks.split.worded.few)
+offset_bounds-words-f-3 c = omega (arith, c.requires.corner_asks.here, c.requires.corner_asks.split.worded.few)
 
 -- src/lib.rt:179:30
 pub overflow_add-points : goal.overflow_add-points
-overflow_add-points c = let at-number-length = c in
-    let at-bit = at-number-length.before in
-    let at-close = at-bit.before.before.before.before.before in
-    let at-met-at = at-close.before.before in
-    let at-pick = at-met-at.before.before in
-    let at-view = at-pick.before in
-    let at-flagged = at-view.before.before.before in
-    let start = at-flagged.before.before.before.before.before in
-    omega (arith, bounds start.requires.corner_asks)
+overflow_add-points c = omega (arith, bounds c.requires.corner_asks)
 
 -- src/lib.rt:179:29
 pub overflow_cast-points : goal.overflow_cast-points
-overflow_cast-points c = let at-number-length = c in
-    let at-bit = at-number-length.before in
-    let at-close = at-bit.before.before.before.before.before in
-    let at-met-at = at-close.before.before in
-    let at-pick = at-met-at.before.before in
-    let at-view = at-pick.before in
-    let at-flagged = at-view.before.before.before in
-    let start = at-flagged.before.before.before.before.before in
-    omega (arith, bounds start.requires.corner_asks)
+overflow_cast-points c = omega (arith, bounds c.requires.corner_asks)
 
 -- src/lib.rt:180:20
 pub overflow_add-result : goal.overflow_add-result
-overflow_add-result c = let at-number-length2 = c in
-    let at-number-length = at-number-length2.before in
-    let at-bit = at-number-length.before in
-    let at-close = at-bit.before.before.before.before.before in
-    let at-met-at = at-close.before.before in
-    let at-pick = at-met-at.before.before in
-    let at-view = at-pick.before in
-    let at-flagged = at-view.before.before.before in
-    let start = at-flagged.before.before.before.before.before in
-    omega (arith, bounds start.requires.corner_asks, at-number-length.number_length-old.ensures, at-number-length2.number_length-new.ensures, at-close.close-taken.ensures.most, decimal_short at-pick.pick-v.result, decimal_short (start.args.points + start.args.splits))
+overflow_add-result c = omega (arith, bounds c.requires.corner_asks, c.number_length-old.ensures, c.number_length-new.ensures, c.close-taken.ensures.most, decimal_short c.pick-v.result, decimal_short (c.args.points + c.args.splits))
 
 -- src/lib.rt:180:39
 pub overflow_add-result-2 : goal.overflow_add-result-2
-overflow_add-result-2 c = let at-number-length2 = c in
-    let at-number-length = at-number-length2.before in
-    let at-bit = at-number-length.before in
-    let at-close = at-bit.before.before.before.before.before in
-    let at-met-at = at-close.before.before in
-    let at-pick = at-met-at.before.before in
-    let at-view = at-pick.before in
-    let at-flagged = at-view.before.before.before in
-    let start = at-flagged.before.before.before.before.before in
-    omega (arith, bounds start.requires.corner_asks, at-number-length.number_length-old.ensures, at-number-length2.number_length-new.ensures, at-close.close-taken.ensures.most, decimal_short at-pick.pick-v.result, decimal_short (start.args.points + start.args.splits))
+overflow_add-result-2 c = omega (arith, bounds c.requires.corner_asks, c.number_length-old.ensures, c.number_length-new.ensures, c.close-taken.ensures.most, decimal_short c.pick-v.result, decimal_short (c.args.points + c.args.splits))
 
 -- src/lib.rt:180:39
 pub overflow_add-result-3 : goal.overflow_add-result-3
-overflow_add-result-3 c = let at-number-length2 = c in
-    let at-number-length = at-number-length2.before in
-    let at-bit = at-number-length.before in
-    let at-close = at-bit.before.before.before.before.before in
-    let at-met-at = at-close.before.before in
-    let at-pick = at-met-at.before.before in
-    let at-view = at-pick.before in
-    let at-flagged = at-view.before.before.before in
-    let start = at-flagged.before.before.before.before.before in
-    omega (arith, bounds start.requires.corner_asks, at-number-length.number_length-old.ensures, at-number-length2.number_length-new.ensures, at-close.close-taken.ensures.most, decimal_short at-pick.pick-v.result, decimal_short (start.args.points + start.args.splits))
+overflow_add-result-3 c = omega (arith, bounds c.requires.corner_asks, c.number_length-old.ensures, c.number_length-new.ensures, c.close-taken.ensures.most, decimal_short c.pick-v.result, decimal_short (c.args.points + c.args.splits))
 
 -- src/lib.rt:180:39
 pub overflow_add-result-4 : goal.overflow_add-result-4
-overflow_add-result-4 c = let at-number-length2 = c in
-    let at-number-length = at-number-length2.before in
-    let at-bit = at-number-length.before in
-    let at-close = at-bit.before.before.before.before.before in
-    let at-met-at = at-close.before.before in
-    let at-pick = at-met-at.before.before in
-    let at-view = at-pick.before in
-    let at-flagged = at-view.before.before.before in
-    let start = at-flagged.before.before.before.before.before in
-    omega (arith, bounds start.requires.corner_asks, at-number-length.number_length-old.ensures, at-number-length2.number_length-new.ensures, at-close.close-taken.ensures.most, decimal_short at-pick.pick-v.result, decimal_short (start.args.points + start.args.splits))
+overflow_add-result-4 c = omega (arith, bounds c.requires.corner_asks, c.number_length-old.ensures, c.number_length-new.ensures, c.close-taken.ensures.most, decimal_short c.pick-v.result, decimal_short (c.args.points + c.args.splits))
 
 -- src/lib.rt:180:39
 pub overflow_add-result-5 : goal.overflow_add-result-5
-overflow_add-result-5 c = let at-number-length2 = c in
-    let at-number-length = at-number-length2.before in
-    let at-bit = at-number-length.before in
-    let at-close = at-bit.before.before.before.before.before in
-    let at-met-at = at-close.before.before in
-    let at-pick = at-met-at.before.before in
-    let at-view = at-pick.before in
-    let at-flagged = at-view.before.before.before in
-    let start = at-flagged.before.before.before.before.before in
-    omega (arith, bounds start.requires.corner_asks, at-number-length.number_length-old.ensures, at-number-length2.number_length-new.ensures, at-close.close-taken.ensures.most, decimal_short at-pick.pick-v.result, decimal_short (start.args.points + start.args.splits))
+overflow_add-result-5 c = omega (arith, bounds c.requires.corner_asks, c.number_length-old.ensures, c.number_length-new.ensures, c.close-taken.ensures.most, decimal_short c.pick-v.result, decimal_short (c.args.points + c.args.splits))
 
 -- src/lib.rt:155:1
 pub returns : goal.returns
-returns c = let at-number-length2 = c in
-    let at-number-length = at-number-length2.before in
-    let at-bit = at-number-length.before in
-    let at-close = at-bit.before.before.before.before.before in
-    let at-met-at = at-close.before.before in
-    let at-pick = at-met-at.before.before in
-    let at-view = at-pick.before in
-    let at-flagged = at-view.before.before.before in
-    let start = at-flagged.before.before.before.before.before in
-    let pe = at-pick.pick-v.ensures ∙ ap (λ g. pick_of g.a g.b g.c start.args.k) at-view.view-c.ensures in
-    λ q. opened q at-flagged.flagged.ensures at-view.if-flagged.false pe at-close.close-taken.ensures at-met-at.met_at-extra.ensures at-bit.if-not-extra.false at-bit.bit.ensures at-number-length.number_length-old.ensures at-number-length2.number_length-new.ensures
+returns c = let pe = c.pick-v.ensures ∙ ap (λ g. pick_of g.a g.b g.c c.args.k) c.view-c.ensures in
+    λ q. opened q c.flagged.ensures c.if-flagged.false pe c.close-taken.ensures c.met_at-extra.ensures c.if-not-extra.false c.bit.ensures c.number_length-old.ensures c.number_length-new.ensures

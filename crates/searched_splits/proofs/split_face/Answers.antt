@@ -7,37 +7,27 @@ use Rattle.searched_splits.proofs.split_face.Goals as goal
 
 -- src/lib.rt:195:9
 pub split_corner-first-requires : goal.split_corner-first-requires
-split_corner-first-requires c = let start = c.before.before.before.before in
-    record { corner_asks = corner_zero start.requires.face_asks; indexed = start.requires.indexed }
+split_corner-first-requires c = record { corner_asks = corner_zero c.requires.face_asks; indexed = c.requires.indexed }
 
 -- src/lib.rt:196:9
 pub split_corner-second-requires : goal.split_corner-second-requires
-split_corner-second-requires c = let at-split-corner = c.before.before.before in
-    let start = at-split-corner.before.before.before.before.before in
-    let z = corner_zero start.requires.face_asks in
-    let one_is = at-split-corner.split_corner-first.ensures z in
-    record { corner_asks = corner_one start.requires.face_asks one_is; indexed = start.requires.indexed }
+split_corner-second-requires c = let z = corner_zero c.requires.face_asks in
+    let one_is = c.split_corner-first.ensures z in
+    record { corner_asks = corner_one c.requires.face_asks one_is; indexed = c.requires.indexed }
 
 -- src/lib.rt:197:5
 pub split_corner-requires : goal.split_corner-requires
-split_corner-requires c = let at-split-corner2 = c.before.before.before in
-    let at-split-corner = at-split-corner2.before.before.before.before in
-    let start = at-split-corner.before.before.before.before.before in
-    let z = corner_zero start.requires.face_asks in
-    let one_is = at-split-corner.split_corner-first.ensures z in
-    let o = corner_one start.requires.face_asks one_is in
-    let two_is = at-split-corner2.split_corner-second.ensures o in
-    record { corner_asks = corner_two start.requires.face_asks one_is two_is; indexed = start.requires.indexed }
+split_corner-requires c = let z = corner_zero c.requires.face_asks in
+    let one_is = c.split_corner-first.ensures z in
+    let o = corner_one c.requires.face_asks one_is in
+    let two_is = c.split_corner-second.ensures o in
+    record { corner_asks = corner_two c.requires.face_asks one_is two_is; indexed = c.requires.indexed }
 
 -- src/lib.rt:184:1
 pub returns : goal.returns
-returns c = let at-split-corner3 = c.before.before in
-    let at-split-corner2 = at-split-corner3.before.before.before.before in
-    let at-split-corner = at-split-corner2.before.before.before.before in
-    let start = at-split-corner.before.before.before.before.before in
-    λ q.
+returns c = λ q.
     let z = corner_zero q in
-    let one_is = at-split-corner.split_corner-first.ensures z in
+    let one_is = c.split_corner-first.ensures z in
     let o = corner_one q one_is in
-    let two_is = at-split-corner2.split_corner-second.ensures o in
-    face_done q one_is two_is (at-split-corner3.split_corner.ensures (corner_two q one_is two_is))
+    let two_is = c.split_corner-second.ensures o in
+    face_done q one_is two_is (c.split_corner.ensures (corner_two q one_is two_is))

@@ -20,14 +20,11 @@ stands-requires c = c.loop-f-test.true
 
 -- src/lib.rt:211:17
 pub split_face-told-requires : goal.split_face-told-requires
-split_face-told-requires c = let t = c.before.before.before.before in
-    let a = t.before in
-    record { face_asks = ask a.requires.split_asks a.loop-f.invariant t.loop-f-test.true (sym c.stands.ensures ∙ c.if-stands.true); indexed = a.requires.indexed }
+split_face-told-requires c = record { face_asks = ask c.requires.split_asks c.loop-f.invariant c.loop-f-test.true (sym c.stands.ensures ∙ c.if-stands.true); indexed = c.requires.indexed }
 
 -- src/lib.rt:215:9
 pub overflow_add-f : goal.overflow_add-f
-overflow_add-f c = let a = c.before.before.before.before in
-    omega (arith, c.loop-f-test.true, a.loop-f.invariant.stage.long, a.requires.split_asks.worded.few)
+overflow_add-f c = omega (arith, c.loop-f-test.true, c.loop-f.invariant.stage.long, c.requires.split_asks.worded.few)
 
 -- src/lib.rt:209:5
 pub loop-f-smaller : goal.loop-f-smaller
@@ -35,14 +32,12 @@ loop-f-smaller c = omega (arith, c.loop-f-test.true, c.loop-f.invariant.stage.lo
 
 -- src/lib.rt:209:5
 pub loop-f-preserved : goal.loop-f-preserved
-loop-f-preserved c = let t = c.before.before.before in
-    let a = t.before in
-    let p = a.requires.split_asks in
+loop-f-preserved c = let p = c.requires.split_asks in
     ⊎_elim
     (λ w.
     let e = sym c.stands.ensures ∙ w.0.taken in
-    rw (w.5, w.6, w.7) (face_more p a.loop-f.invariant t.loop-f-test.true e (w.2.ensures (ask p a.loop-f.invariant t.loop-f-test.true e))))
-    (λ w. rw (w.1, w.2, w.3) (face_none p a.loop-f.invariant t.loop-f-test.true (sym c.stands.ensures ∙ w.0.left)))
+    rw (w.5, w.6, w.7) (face_more p c.loop-f.invariant c.loop-f-test.true e (w.2.ensures (ask p c.loop-f.invariant c.loop-f-test.true e))))
+    (λ w. rw (w.1, w.2, w.3) (face_none p c.loop-f.invariant c.loop-f-test.true (sym c.stands.ensures ∙ w.0.left)))
     c.if-stands.branch
 
 -- src/lib.rt:202:1

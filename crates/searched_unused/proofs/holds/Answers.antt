@@ -7,7 +7,7 @@ use Rattle.face_words.proofs.stands.Reads as stands-reads
 use Rattle.searched_unused.proofs.holds.Goals as goal
 
 pub returns-then-stands : goal.returns-then-stands
-returns-then-stands c = let at = c.before.before in let start = at.before.before.before in held start.args.faces.now start.args.words.now start.args.v start.args.g at.stands.ensures c.if-stands.true c.joins.ensures
+returns-then-stands c = held c.args.faces.now c.args.words.now c.args.v c.args.g c.stands.ensures c.if-stands.true c.joins.ensures
 
 pub returns : goal.returns
-returns c = let at = c.before in let start = at.before.before.before in gone start.args.faces.now start.args.words.now start.args.v start.args.g at.stands.ensures c.if-stands.false
+returns c = gone c.args.faces.now c.args.words.now c.args.v c.args.g c.stands.ensures c.if-stands.false

@@ -14,10 +14,10 @@ pub overflow_cast-v : goal.overflow_cast-v
 overflow_cast-v c = omega (arith, c.loop-v-test.true, c.requires.unused_asks.few)
 
 pub unused_line-bytes-requires : goal.unused_line-bytes-requires
-unused_line-bytes-requires c = let start = c.before.before.before.before.before in record { worded = start.requires.unused_asks.worded; indexed = start.requires.indexed }
+unused_line-bytes-requires c = record { worded = c.requires.unused_asks.worded; indexed = c.requires.indexed }
 
 pub overflow_add-bytes : goal.overflow_add-bytes
-overflow_add-bytes c = let start = c.before.before.before.before.before.before in omega (arith, c.loop-v.invariant, c.loop-v-test.true, c.unused_line_is.ensures, line_short start.args.faces.now start.args.words.now c.loop-v.v, start.requires.unused_asks.few)
+overflow_add-bytes c = omega (arith, c.loop-v.invariant, c.loop-v-test.true, c.unused_line_is.ensures, line_short c.args.faces.now c.args.words.now c.loop-v.v, c.requires.unused_asks.few)
 
 pub overflow_add-v : goal.overflow_add-v
 overflow_add-v c = omega (arith, c.loop-v-test.true)

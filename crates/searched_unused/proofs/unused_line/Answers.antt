@@ -9,10 +9,10 @@ use Rattle.searched_unused.proofs.is_used.Reads as is-used-reads
 use Rattle.searched_unused.proofs.unused_line.Goals as goal
 
 pub returns-then-is_used : goal.returns-then-is_used
-returns-then-is_used c = let start = c.before.before.before.before.before in used_none start.args.faces.now start.args.words.now start.args.v c.is_used.ensures c.if-is_used.true
+returns-then-is_used c = used_none c.args.faces.now c.args.words.now c.args.v c.is_used.ensures c.if-is_used.true
 
 pub overflow_add-result : goal.overflow_add-result
 overflow_add-result c = omega (arith, decimal_short c.args.v, c.number_length.ensures)
 
 pub returns : goal.returns
-returns c = let start = c.before.before.before.before.before.before in unused_line_is start.args.faces.now start.args.words.now start.args.v c.is_used.ensures c.if-is_used.false c.number_length.ensures
+returns c = unused_line_is c.args.faces.now c.args.words.now c.args.v c.is_used.ensures c.if-is_used.false c.number_length.ensures

@@ -15,23 +15,23 @@ next_indexed-g-requires c = record { indexed = c.requires.indexed; candidate_ask
 
 -- src/lib.rt:135:5
 pub loop-g-init : goal.loop-g-init
-loop-g-init c = let start = c.before.before.before.before in cross_begin start.requires.meet_asks start.args.a start.args.b c.next_indexed-g.ensures
+loop-g-init c = cross_begin c.requires.meet_asks c.args.a c.args.b c.next_indexed-g.ensures
 
 -- src/lib.rt:136:9
 pub meet_face-now-requires : goal.meet_face-now-requires
-meet_face-now-requires c = let start = c.before.before.before.before.before.before.before in cross_ask start.requires.meet_asks start.args.a start.args.b c.loop-g.invariant c.loop-g-test.true
+meet_face-now-requires c = cross_ask c.requires.meet_asks c.args.a c.args.b c.loop-g.invariant c.loop-g-test.true
 
 -- src/lib.rt:137:9
 pub next_indexed-g-requires-in-loop-g : goal.next_indexed-g-requires-in-loop-g
-next_indexed-g-requires-in-loop-g c = let start = c.before.before.before.before.before.before.before.before.before.before in let at = c.before.before.before.before.before in record { indexed = start.requires.indexed; candidate_asks = candidate_ok start.requires.meet_asks.ready.worded (at.loop-g.g + 1) (omega (arith, at.loop-g.invariant.gives.kept.long, c.loop-g-test.true)) }
+next_indexed-g-requires-in-loop-g c = record { indexed = c.requires.indexed; candidate_asks = candidate_ok c.requires.meet_asks.ready.worded (c.loop-g.g + 1) (omega (arith, c.loop-g.invariant.gives.kept.long, c.loop-g-test.true)) }
 
 -- src/lib.rt:135:5
 pub loop-g-smaller : goal.loop-g-smaller
-loop-g-smaller c = let at = c.before.before.before.before.before.before in omega (arith, at.loop-g.invariant.gives.kept.long, c.loop-g-test.true, c.next_indexed-g-in-loop-g.ensures.least)
+loop-g-smaller c = omega (arith, c.loop-g.invariant.gives.kept.long, c.loop-g-test.true, c.next_indexed-g-in-loop-g.ensures.least)
 
 -- src/lib.rt:135:5
 pub loop-g-preserved : goal.loop-g-preserved
-loop-g-preserved c = let start = c.before.before.before.before.before.before.before.before.before.before.before in cross_again start.requires.meet_asks start.args.a start.args.b c.loop-g.invariant c.loop-g-test.true c.meet_face-now.ensures c.next_indexed-g-in-loop-g.ensures
+loop-g-preserved c = cross_again c.requires.meet_asks c.args.a c.args.b c.loop-g.invariant c.loop-g-test.true c.meet_face-now.ensures c.next_indexed-g-in-loop-g.ensures
 
 -- src/lib.rt:129:1
 pub shape_of-words : goal.shape_of-words
@@ -39,4 +39,4 @@ shape_of-words c = c.loop-g.invariant.gives.kept.long
 
 -- src/lib.rt:129:1
 pub returns : goal.returns
-returns c = let start = c.before.before.before.before.before.before in cross_done start.requires.meet_asks start.args.a start.args.b c.loop-g.invariant c.loop-g-test.false
+returns c = cross_done c.requires.meet_asks c.args.a c.args.b c.loop-g.invariant c.loop-g-test.false

@@ -12,20 +12,20 @@ use Rattle.searched_walk.proofs.begin.Goals as goal
 
 -- src/lib.rt:208:9
 pub returns-then-not-stands : goal.returns-then-not-stands
-returns-then-not-stands c = let at-stands = c.before in let start = at-stands.before.before.before.before.before in begin_gone start.requires.begin_asks at-stands.stands.ensures (not_up at-stands.stands.result c.if-not-stands.true)
+returns-then-not-stands c = begin_gone c.requires.begin_asks c.stands.ensures (not_up c.stands.result c.if-not-stands.true)
 
 -- src/lib.rt:211:9
 pub returns-then-seen : goal.returns-then-seen
-returns-then-seen c = let at_seen = c.before in let at-stands = at_seen.before.before.before in let start = at-stands.before.before.before.before.before in begin_seen start.requires.begin_asks at-stands.stands.ensures (not_down at-stands.stands.result at_seen.if-not-stands.false) at_seen.seen.ensures c.if-seen.true
+returns-then-seen c = begin_seen c.requires.begin_asks c.stands.ensures (not_down c.stands.result c.if-not-stands.false) c.seen.ensures c.if-seen.true
 
 -- src/lib.rt:213:9
 pub component-walked-requires : goal.component-walked-requires
-component-walked-requires c = let at_seen = c.before.before in let at-stands = at_seen.before.before.before in let start = at-stands.before.before.before.before.before in record { start_asks = start_ask start.requires.begin_asks at-stands.stands.ensures (not_down at-stands.stands.result at_seen.if-not-stands.false) at_seen.seen.ensures c.if-seen.false; indexed = start.requires.indexed }
+component-walked-requires c = record { start_asks = start_ask c.requires.begin_asks c.stands.ensures (not_down c.stands.result c.if-not-stands.false) c.seen.ensures c.if-seen.false; indexed = c.requires.indexed }
 
 -- src/lib.rt:214:17
 pub overflow_sub-marks : goal.overflow_sub-marks
-overflow_sub-marks c = let at_seen = c.before.before.before.before.before.before.before in let at-stands = at_seen.before.before.before in let start = at-stands.before.before.before.before.before in omega (arith, mark_bounds start.requires.begin_asks at-stands.stands.ensures (not_down at-stands.stands.result at_seen.if-not-stands.false) at_seen.seen.ensures c.if-seen.false c.component-walked.ensures c.one_more.ensures)
+overflow_sub-marks c = omega (arith, mark_bounds c.requires.begin_asks c.stands.ensures (not_down c.stands.result c.if-not-stands.false) c.seen.ensures c.if-seen.false c.component-walked.ensures c.one_more.ensures)
 
 -- src/lib.rt:203:1
 pub returns : goal.returns
-returns c = let at_seen = c.before.before.before.before.before.before.before in let at-stands = at_seen.before.before.before in let start = at-stands.before.before.before.before.before in begin_walked start.requires.begin_asks at-stands.stands.ensures (not_down at-stands.stands.result at_seen.if-not-stands.false) at_seen.seen.ensures c.if-seen.false c.component-walked.ensures c.one_more.ensures
+returns c = begin_walked c.requires.begin_asks c.stands.ensures (not_down c.stands.result c.if-not-stands.false) c.seen.ensures c.if-seen.false c.component-walked.ensures c.one_more.ensures

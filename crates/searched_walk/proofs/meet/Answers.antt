@@ -20,28 +20,28 @@ view-requires c = view_ok c.requires
 
 -- src/lib.rt:65:9
 pub returns-then-seen : goal.returns-then-seen
-returns-then-seen c = let at_seen = c.before.before in let at_Walks = at_seen.before.before in let at-view = at_Walks.before in let start = at-view.before.before.before.before in met_seen start.requires at-view.view.ensures start.args.a start.args.b at_Walks.walks-agrees.ensures at_seen.seen.ensures c.if-seen.true c.remark.ensures
+returns-then-seen c = met_seen c.requires c.view.ensures c.args.a c.args.b c.walks-agrees.ensures c.seen.ensures c.if-seen.true c.remark.ensures
 
 -- src/lib.rt:73:16
 pub overflow_add-words : goal.overflow_add-words
-overflow_add-words c = let at_seen = c.before.before in let at_Walks = at_seen.before.before in let at-view = at_Walks.before in let start = at-view.before.before.before.before in omega (arith, bounds start.requires at-view.view.ensures start.args.a start.args.b at_Walks.walks-agrees.ensures at_seen.seen.ensures c.if-seen.false {turn = cond at_Walks.walks-agrees.result 0 2} refl)
+overflow_add-words c = omega (arith, bounds c.requires c.view.ensures c.args.a c.args.b c.walks-agrees.ensures c.seen.ensures c.if-seen.false {turn = cond c.walks-agrees.result 0 2} refl)
 
 -- src/lib.rt:73:16
 pub overflow_add-words-2 : goal.overflow_add-words-2
-overflow_add-words-2 c = let at_seen = c.before.before.before in let at_Walks = at_seen.before.before in let at-view = at_Walks.before in let start = at-view.before.before.before.before in omega (arith, bounds start.requires at-view.view.ensures start.args.a start.args.b at_Walks.walks-agrees.ensures at_seen.seen.ensures c.if-seen.false c.turn.ensures)
+overflow_add-words-2 c = omega (arith, bounds c.requires c.view.ensures c.args.a c.args.b c.walks-agrees.ensures c.seen.ensures c.if-seen.false c.turn.ensures)
 
 -- src/lib.rt:73:16
 pub overflow_add-words-3 : goal.overflow_add-words-3
-overflow_add-words-3 c = let at_seen = c.before.before.before.before in let at_Walks = at_seen.before.before in let at-view = at_Walks.before in let start = at-view.before.before.before.before in omega (arith, bounds start.requires at-view.view.ensures start.args.a start.args.b at_Walks.walks-agrees.ensures at_seen.seen.ensures c.if-seen.false c.turn.ensures)
+overflow_add-words-3 c = omega (arith, bounds c.requires c.view.ensures c.args.a c.args.b c.walks-agrees.ensures c.seen.ensures c.if-seen.false c.turn.ensures)
 
 -- src/lib.rt:76:15
 pub overflow_add-result : goal.overflow_add-result
-overflow_add-result c = let at_seen = c.before.before.before.before.before in let at_Walks = at_seen.before.before in let at-view = at_Walks.before in let start = at-view.before.before.before.before in omega (arith, bounds start.requires at-view.view.ensures start.args.a start.args.b at_Walks.walks-agrees.ensures at_seen.seen.ensures c.if-seen.false c.turn.ensures)
+overflow_add-result c = omega (arith, bounds c.requires c.view.ensures c.args.a c.args.b c.walks-agrees.ensures c.seen.ensures c.if-seen.false c.turn.ensures)
 
 -- src/lib.rt:77:20
 pub overflow_add-result-2 : goal.overflow_add-result-2
-overflow_add-result-2 c = let at_seen = c.before.before.before.before.before.before.before in let at_Walks = at_seen.before.before in let at-view = at_Walks.before in let start = at-view.before.before.before.before in omega (arith, bounds start.requires at-view.view.ensures start.args.a start.args.b at_Walks.walks-agrees.ensures at_seen.seen.ensures c.if-seen.false c.turn.ensures, more_most at_Walks.walks-agrees.result c.one_more.ensures)
+overflow_add-result-2 c = omega (arith, bounds c.requires c.view.ensures c.args.a c.args.b c.walks-agrees.ensures c.seen.ensures c.if-seen.false c.turn.ensures, more_most c.walks-agrees.result c.one_more.ensures)
 
 -- src/lib.rt:59:1
 pub returns : goal.returns
-returns c = let at_seen = c.before.before.before.before.before.before.before in let at_Walks = at_seen.before.before in let at-view = at_Walks.before in let start = at-view.before.before.before.before in met_new start.requires at-view.view.ensures start.args.a start.args.b at_Walks.walks-agrees.ensures at_seen.seen.ensures c.if-seen.false c.turn.ensures c.one_more.ensures
+returns c = met_new c.requires c.view.ensures c.args.a c.args.b c.walks-agrees.ensures c.seen.ensures c.if-seen.false c.turn.ensures c.one_more.ensures

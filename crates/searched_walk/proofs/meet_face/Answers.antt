@@ -12,24 +12,24 @@ use Rattle.searched_walk.proofs.meet_face.Goals as goal
 
 -- src/lib.rt:119:9
 pub returns-then-g-j : goal.returns-then-g-j
-returns-then-g-j c = let start = c.before.before.before in met_self start.requires start.args.j (step start.args.a start.args.b) c.if-g-j.true
+returns-then-g-j c = met_self c.requires c.args.j (step c.args.a c.args.b) c.if-g-j.true
 
 -- src/lib.rt:121:9
 pub stands-requires : goal.stands-requires
-stands-requires c = let start = c.before.before.before.before in start.requires.here
+stands-requires c = c.requires.here
 
 -- src/lib.rt:122:9
 pub returns-then-not-stands : goal.returns-then-not-stands
-returns-then-not-stands c = let at-stands = c.before in let start = at-stands.before.before.before.before.before in met_gone start.requires start.args.j (step start.args.a start.args.b) at-stands.if-g-j.false at-stands.stands.ensures (not_up at-stands.stands.result c.if-not-stands.true)
+returns-then-not-stands c = met_gone c.requires c.args.j (step c.args.a c.args.b) c.if-g-j.false c.stands.ensures (not_up c.stands.result c.if-not-stands.true)
 
 -- src/lib.rt:124:36
 pub view-requires : goal.view-requires
-view-requires c = let start = c.before.before.before.before.before.before.before in record { worded = start.requires.ready.worded; here = start.requires.here }
+view-requires c = record { worded = c.requires.ready.worded; here = c.requires.here }
 
 -- src/lib.rt:125:5
 pub meet_times-requires : goal.meet_times-requires
-meet_times-requires c = let at-stands = c.before.before.before.before.before in let start = at-stands.before.before.before.before.before in stand_ask start.requires start.args.j (step start.args.a start.args.b) at-stands.if-g-j.false at-stands.stands.ensures (not_down at-stands.stands.result c.if-not-stands.false)
+meet_times-requires c = stand_ask c.requires c.args.j (step c.args.a c.args.b) c.if-g-j.false c.stands.ensures (not_down c.stands.result c.if-not-stands.false)
 
 -- src/lib.rt:106:1
 pub returns : goal.returns
-returns c = let at-stands = c.before.before.before.before.before.before.before.before in let start = at-stands.before.before.before.before.before in met_times start.requires start.args.j (step start.args.a start.args.b) at-stands.if-g-j.false at-stands.stands.ensures (not_down at-stands.stands.result c.if-not-stands.false) c.view.ensures c.uses-times.ensures c.meet_times.ensures
+returns c = met_times c.requires c.args.j (step c.args.a c.args.b) c.if-g-j.false c.stands.ensures (not_down c.stands.result c.if-not-stands.false) c.view.ensures c.uses-times.ensures c.meet_times.ensures

@@ -9,15 +9,15 @@ use Rattle.searched_walk.proofs.meet_times.Goals as goal
 
 -- src/lib.rt:98:5
 pub loop-k-init : goal.loop-k-init
-loop-k-init c = let start = c.before.before in times_begin start.requires (step start.args.a start.args.b) start.args.times
+loop-k-init c = times_begin c.requires (step c.args.a c.args.b) c.args.times
 
 -- src/lib.rt:99:9
 pub meet-now-requires : goal.meet-now-requires
-meet-now-requires c = let start = c.before.before.before.before.before in times_ask start.requires (step start.args.a start.args.b) start.args.times c.loop-k.invariant
+meet-now-requires c = times_ask c.requires (step c.args.a c.args.b) c.args.times c.loop-k.invariant
 
 -- src/lib.rt:98:5
 pub loop-k-preserved : goal.loop-k-preserved
-loop-k-preserved c = let start = c.before.before.before.before.before.before.before.before in times_again start.requires (step start.args.a start.args.b) start.args.times c.loop-k.invariant c.loop-k-test.true c.meet-now.ensures
+loop-k-preserved c = times_again c.requires (step c.args.a c.args.b) c.args.times c.loop-k.invariant c.loop-k-test.true c.meet-now.ensures
 
 -- src/lib.rt:84:1
 pub shape_of-words : goal.shape_of-words
@@ -25,4 +25,4 @@ shape_of-words c = c.loop-k.invariant.gives.kept.long
 
 -- src/lib.rt:84:1
 pub returns : goal.returns
-returns c = let start = c.before.before.before.before in times_done start.requires (step start.args.a start.args.b) start.args.times c.loop-k.invariant c.loop-k-test.false
+returns c = times_done c.requires (step c.args.a c.args.b) c.args.times c.loop-k.invariant c.loop-k-test.false

@@ -5,20 +5,16 @@ use Rattle.shell.proofs.Patching.{told_by}
 use Rattle.shell.proofs.shell_patches.Goals as goal
 
 pub returns-in-Done : goal.returns-in-Done
-returns-in-Done c = let f = c.before.before.before.before.before.before.before.before.before.before.before in
-    let w = f.before.before.before.before.before in
-    let a = w.args in
+returns-in-Done c = let a = c.args in
     given_accepted
     (told_by a.points.now a.faces.now a.labels.now a.patch-count (rooms_of a.face_counts-1.now a.numbers-1.now a.flags-1.now a.work-1.now)
-    w.filter-by.ensures
-    (rw c.in-Done.is at f.find_patches.ensures))
+    c.filter-by.ensures
+    (rw c.in-Done.is at c.find_patches.ensures))
 
 pub returns-in-Refused : goal.returns-in-Refused
-returns-in-Refused c = let f = c.before.before.before.before.before.before.before.before.before.before.before.before in
-    let w = f.before.before.before.before.before in
-    let a = w.args in
+returns-in-Refused c = let a = c.args in
     rw c.place_of.ensures
     (given_refused 3
     (told_by a.points.now a.faces.now a.labels.now a.patch-count (rooms_of a.face_counts-1.now a.numbers-1.now a.flags-1.now a.work-1.now)
-    w.filter-by.ensures
-    (rw c.in-Refused.is at f.find_patches.ensures)))
+    c.filter-by.ensures
+    (rw c.in-Refused.is at c.find_patches.ensures)))

@@ -42,23 +42,13 @@ module _ {ps : List Float} {w : List ℕ} {P n v begin next : ℕ} (q : VertexAs
             }
 
 pub run_end-end-requires : goal.run_end-end-requires
-run_end-end-requires c = let start = c.before.before.before in
-    end_ok start.requires
+run_end-end-requires c = end_ok c.requires
 
 pub number_run-free-requires : goal.number_run-free-requires
-number_run-free-requires c = let at-run-end = c.before in
-    let start = at-run-end.before.before.before.before in
-    run_ok start.requires at-run-end.run_end-end.ensures
+number_run-free-requires c = run_ok c.requires c.run_end-end.ensures
 
 pub copies-requires : goal.copies-requires
-copies-requires c = let at-number-run = c.before.before.before in
-    let at-run-end = at-number-run.before.before in
-    let start = at-run-end.before.before.before.before in
-    copies_ok start.requires at-run-end.run_end-end.ensures at-number-run.number_run-free.ensures
+copies-requires c = copies_ok c.requires c.run_end-end.ensures c.number_run-free.ensures
 
 pub returns : goal.returns
-returns c = let at_copies = c.before.before in
-    let at-number-run = at_copies.before.before.before.before in
-    let at-run-end = at-number-run.before.before in
-    let start = at-run-end.before.before.before.before in
-    λ q. done q at-run-end.run_end-end.ensures at-number-run.number_run-free.ensures at_copies.copies.ensures
+returns c = λ q. done q c.run_end-end.ensures c.number_run-free.ensures c.copies.ensures

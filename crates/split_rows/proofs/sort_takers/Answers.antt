@@ -56,14 +56,7 @@ module _ {w xs : List ℕ} {n P bins sorted : ℕ} (p : TakersAsks w xs n P bins
       }
 
 pub order-requires : goal.order-requires
-order-requires c = let at_clear = c.before.before.before in
-    let at-copy-row = at_clear.before.before.before.before in
-    let start = at-copy-row.before.before.before.before in
-    order_ok start.requires at-copy-row.copy_row.ensures at_clear.clear.ensures.only at_clear.clear.ensures.filled
+order-requires c = order_ok c.requires c.copy_row.ensures c.clear.ensures.only c.clear.ensures.filled
 
 pub returns : goal.returns
-returns c = let at-order = c.before.before in
-    let at_clear = at-order.before.before.before.before in
-    let at-copy-row = at_clear.before.before.before.before in
-    let start = at-copy-row.before.before.before.before in
-    done start.requires at-copy-row.copy_row.ensures at_clear.clear.ensures.only at_clear.clear.ensures.filled at-order.order.ensures
+returns c = done c.requires c.copy_row.ensures c.clear.ensures.only c.clear.ensures.filled c.order.ensures

@@ -44,41 +44,22 @@ module _ {w : List ℕ} {P m olds v begin next : ℕ} (q : VertexAsks w P m olds
             }
 
 pub run_end-end-requires : goal.run_end-end-requires
-run_end-end-requires c = let start = c.before.before in
-    end_ok start.requires
+run_end-end-requires c = end_ok c.requires
 
 pub number_run-free-requires : goal.number_run-free-requires
-number_run-free-requires c = let at-run-end = c.before in
-    let start = at-run-end.before.before.before in
-    run_ok start.requires at-run-end.run_end-end.ensures
+number_run-free-requires c = run_ok c.requires c.run_end-end.ensures
 
 pub overflow_sub-next : goal.overflow_sub-next
-overflow_sub-next c = let at-number-run = c.before.before.before in
-    let at-run-end = at-number-run.before.before in
-    let start = at-run-end.before.before.before in
-    omega (arith, limits start.requires at-run-end.run_end-end.ensures at-number-run.number_run-free.ensures)
+overflow_sub-next c = omega (arith, limits c.requires c.run_end-end.ensures c.number_run-free.ensures)
 
 pub overflow_add-olds : goal.overflow_add-olds
-overflow_add-olds c = let at-number-run = c.before.before.before in
-    let at-run-end = at-number-run.before.before in
-    let start = at-run-end.before.before.before in
-    omega (arith, limits start.requires at-run-end.run_end-end.ensures at-number-run.number_run-free.ensures)
+overflow_add-olds c = omega (arith, limits c.requires c.run_end-end.ensures c.number_run-free.ensures)
 
 pub overflow_cast-v-2 : goal.overflow_cast-v-2
-overflow_cast-v-2 c = let at-number-run = c.before.before.before in
-    let at-run-end = at-number-run.before.before in
-    let start = at-run-end.before.before.before in
-    omega (arith, limits start.requires at-run-end.run_end-end.ensures at-number-run.number_run-free.ensures)
+overflow_cast-v-2 c = omega (arith, limits c.requires c.run_end-end.ensures c.number_run-free.ensures)
 
 pub fill-requires : goal.fill-requires
-fill-requires c = let at-number-run = c.before.before.before in
-    let at-run-end = at-number-run.before.before in
-    let start = at-run-end.before.before.before in
-    fill_ok start.requires at-run-end.run_end-end.ensures at-number-run.number_run-free.ensures
+fill-requires c = fill_ok c.requires c.run_end-end.ensures c.number_run-free.ensures
 
 pub returns : goal.returns
-returns c = let at_fill_lem = c.before.before in
-    let at-number-run = at_fill_lem.before.before.before.before in
-    let at-run-end = at-number-run.before.before in
-    let start = at-run-end.before.before.before in
-    λ q. done q at-run-end.run_end-end.ensures at-number-run.number_run-free.ensures at_fill_lem.fill.ensures.only at_fill_lem.fill.ensures.filled
+returns c = λ q. done q c.run_end-end.ensures c.number_run-free.ensures c.fill.ensures.only c.fill.ensures.filled

@@ -4,24 +4,16 @@ use Rattle.windows.proofs.Advancing.{alone_bounds, alone_asks, alone_pass, alone
 use Rattle.windows.proofs.alone.Goals as goal
 
 pub overflow_mul-from : goal.overflow_mul-from
-overflow_mul-from c = let start = c.before.before.before.before.before in
-    omega (arith, alone_bounds start.requires)
+overflow_mul-from c = omega (arith, alone_bounds c.requires)
 
 pub overflow_add-from : goal.overflow_add-from
-overflow_add-from c = let start = c.before.before.before.before.before in
-    omega (arith, alone_bounds start.requires)
+overflow_add-from c = omega (arith, alone_bounds c.requires)
 
 pub rounds-r-requires : goal.rounds-r-requires
-rounds-r-requires c = let start = c.before.before.before.before.before.before in
-    alone_asks start.requires
+rounds-r-requires c = alone_asks c.requires
 
 pub pass-requires : goal.pass-requires
-pass-requires c = let at-rounds = c.before.before.before.before.before in
-    let start = at-rounds.before.before.before.before.before.before.before in
-    alone_pass start.requires
+pass-requires c = alone_pass c.requires
 
 pub returns : goal.returns
-returns c = let at-pass = c.before.before.before.before.before.before in
-    let at-rounds = at-pass.before.before.before.before.before.before in
-    let start = at-rounds.before.before.before.before.before.before.before in
-    alone_gives start.requires at-rounds.rounds-r.ensures at-pass.pass.ensures
+returns c = alone_gives c.requires c.rounds-r.ensures c.pass.ensures

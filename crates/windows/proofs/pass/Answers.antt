@@ -43,14 +43,11 @@ pub overflow_add-i : goal.overflow_add-i
 overflow_add-i c = omega (arith, bounds c.requires c.loop-i.invariant c.loop-i-test.true)
 
 pub loop-i-preserved : goal.loop-i-preserved
-loop-i-preserved c = let e = c.before in
-    let t = e.before.before in
-    let a = t.before in
-    let p = a.requires in
-    let q = a.loop-i.invariant in
-    let h = t.loop-i-test.true in
-    let x = e.wrapping_sub_u64-j.ensures in
-    let y = e.wrapping_sub_u64-j.type-inv in
+loop-i-preserved c = let p = c.requires in
+    let q = c.loop-i.invariant in
+    let h = c.loop-i-test.true in
+    let x = c.wrapping_sub_u64-j.ensures in
+    let y = c.wrapping_sub_u64-j.type-inv in
     ⊎_elim
     (λ w. rw (w.9, w.10, w.11) (putting p q h x y w.0.taken w.1.taken w.4.ensures))
     (⊎_elim

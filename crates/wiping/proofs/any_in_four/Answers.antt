@@ -8,8 +8,7 @@ pub loop-i-init : goal.loop-i-init
 loop-i-init c = four_none _ _ _
 
 pub loop-i-preserved : goal.loop-i-preserved
-loop-i-preserved c = let t = c.before.before.before.before in
-    four_more t.loop-i.invariant t.loop-i-test.true (itself _) (itself _) (itself _) (itself _)
+loop-i-preserved c = four_more c.loop-i.invariant c.loop-i-test.true (itself _) (itself _) (itself _) (itself _)
 
 pub returns : goal.returns
 returns c = four_done c.loop-i.invariant c.loop-i-test.false

@@ -20,11 +20,7 @@ pub bits-u-requires : goal.bits-u-requires
 bits-u-requires c = tt
 
 pub loop-i-preserved : goal.loop-i-preserved
-loop-i-preserved c = let third = c.before.before in
-    let second = third.before.before in
-    let first = second.before.before in
-    let t = first.before.before in
-    four_more t.loop-i.invariant t.loop-i-test.true first.bits-x.ensures second.bits-y.ensures third.bits-z.ensures c.bits-u.ensures
+loop-i-preserved c = four_more c.loop-i.invariant c.loop-i-test.true c.bits-x.ensures c.bits-y.ensures c.bits-z.ensures c.bits-u.ensures
 
 pub returns : goal.returns
 returns c = four_done c.loop-i.invariant c.loop-i-test.false

@@ -15,23 +15,16 @@ pub any-requires : goal.any-requires
 any-requires c = omega (arith, c.requires, c.block-m.ensures.within)
 
 pub returns-then-any-ne0 : goal.returns-then-any-ne0
-returns-then-any-ne0 c = let b = c.before.before in
-    let t = b.before in
-    not_zero _ _ t.requires c.any.ensures (omega (arith, b.block-m.ensures.within)) c.if-any-ne0.true
+returns-then-any-ne0 c = not_zero _ _ c.requires c.any.ensures (omega (arith, c.block-m.ensures.within)) c.if-any-ne0.true
 
 pub overflow_add-i : goal.overflow_add-i
-overflow_add-i c = let b = c.before.before in
-    omega (arith, b.block-m.ensures.within)
+overflow_add-i c = omega (arith, c.block-m.ensures.within)
 
 pub loop-i-smaller : goal.loop-i-smaller
-loop-i-smaller c = let b = c.before.before in
-    let t = b.before in
-    nearer t.loop-i.invariant b.block-m.ensures t.loop-i-test.true
+loop-i-smaller c = nearer c.loop-i.invariant c.block-m.ensures c.loop-i-test.true
 
 pub loop-i-preserved : goal.loop-i-preserved
-loop-i-preserved c = let b = c.before.before in
-    let t = b.before in
-    still _ _ t.requires t.loop-i.invariant b.block-m.ensures t.loop-i-test.true c.any.ensures c.if-any-ne0.false
+loop-i-preserved c = still _ _ c.requires c.loop-i.invariant c.block-m.ensures c.loop-i-test.true c.any.ensures c.if-any-ne0.false
 
 pub returns : goal.returns
 returns c = all_zero _ _ c.requires c.loop-i.invariant c.loop-i-test.false

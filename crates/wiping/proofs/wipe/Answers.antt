@@ -14,28 +14,19 @@ pub block-m-requires : goal.block-m-requires
 block-m-requires c = tt
 
 pub any-requires : goal.any-requires
-any-requires c = let t = c.before.before in
-    fits t.loop-i.invariant c.block-m.ensures t.loop-i-test.true t.requires
+any-requires c = fits c.loop-i.invariant c.block-m.ensures c.loop-i-test.true c.requires
 
 pub clear-requires : goal.clear-requires
-clear-requires c = let b = c.before.before.before.before in
-    let t = b.before in
-    fits t.loop-i.invariant b.block-m.ensures t.loop-i-test.true t.requires
+clear-requires c = fits c.loop-i.invariant c.block-m.ensures c.loop-i-test.true c.requires
 
 pub overflow_add-i : goal.overflow_add-i
-overflow_add-i c = let b = c.before.before.before in
-    omega (arith, b.block-m.ensures.within)
+overflow_add-i c = omega (arith, c.block-m.ensures.within)
 
 pub loop-i-smaller : goal.loop-i-smaller
-loop-i-smaller c = let b = c.before.before.before in
-    let t = b.before in
-    nearer t.loop-i.invariant b.block-m.ensures t.loop-i-test.true
+loop-i-smaller c = nearer c.loop-i.invariant c.block-m.ensures c.loop-i-test.true
 
 pub loop-i-preserved : goal.loop-i-preserved
-loop-i-preserved c = let a = c.before in
-    let b = a.before.before in
-    let t = b.before in
-    elim c.if-any-ne0.branch [ then-any-ne0 w ↦ rw w.5 (clears t.loop-i.invariant b.block-m.ensures t.loop-i-test.true w.2.ensures.0 w.2.ensures.1) | else-any-ne0 w ↦ rw w.1 (leaves t.loop-i.invariant b.block-m.ensures t.loop-i-test.true (a.any.ensures.clean w.if-any-ne0.false)) ]
+loop-i-preserved c = elim c.if-any-ne0.branch [ then-any-ne0 w ↦ rw w.5 (clears c.loop-i.invariant c.block-m.ensures c.loop-i-test.true w.2.ensures.0 w.2.ensures.1) | else-any-ne0 w ↦ rw w.1 (leaves c.loop-i.invariant c.block-m.ensures c.loop-i-test.true (c.any.ensures.clean w.if-any-ne0.false)) ]
 
 pub shape_of-work : goal.shape_of-work
 shape_of-work c = c.loop-i.invariant.only.long

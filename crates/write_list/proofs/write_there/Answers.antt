@@ -8,25 +8,16 @@ pub stated_rest-n-requires : goal.stated_rest-n-requires
 stated_rest-n-requires c = limits c.requires.asks
 
 pub returns-then-is_too_long : goal.returns-then-is_too_long
-returns-then-is_too_long c = let at_long = c.before in
-    there_long at_long.requires at_long.is_too_long.ensures c.if-is_too_long.true
+returns-then-is_too_long c = there_long c.requires c.is_too_long.ensures c.if-is_too_long.true
 
 pub put_list-bytes-requires : goal.put_list-bytes-requires
 put_list-bytes-requires c = prepare_asks c.requires
 
 pub returns-then-bytes-text : goal.returns-then-bytes-text
-returns-then-bytes-text c = let at-put = c.before.before.before.before.before.before.before.before.before in
-    let at_long = at-put.before.before.before.before.before.before in
-    there_done at_long.requires at_long.is_too_long.ensures at-put.put_list-bytes.ensures (omega arith)
+returns-then-bytes-text c = there_done c.requires c.is_too_long.ensures c.put_list-bytes.ensures (omega arith)
 
 pub fill_parts-requires : goal.fill_parts-requires
-fill_parts-requires c = let at-put = c.before.before.before.before.before.before.before.before.before.before.before.before in
-    let at-stated = at-put.before.before.before.before.before.before.before.before.before.before.before in
-    omega (arith, rest_fits at-stated.requires at-stated.stated_rest-n.ensures, at-put.put_list-bytes.ensures.changed.only_rest.long)
+fill_parts-requires c = omega (arith, rest_fits c.requires c.stated_rest-n.ensures, c.put_list-bytes.ensures.changed.only_rest.long)
 
 pub returns : goal.returns
-returns c = let at_fill_lem = c.before.before.before.before.before.before in
-    let at-put = c.before.before.before.before.before.before.before.before.before.before.before.before.before.before.before.before.before.before.before in
-    let at_long = at-put.before.before.before.before.before.before in
-    let at-stated = at_long.before.before.before.before.before in
-    there_refilled at_long.requires at_long.is_too_long.ensures at-put.put_list-bytes.ensures at-put.if-is_too_long.false at-stated.stated_rest-n.ensures (omega arith) at_fill_lem.fill_parts.ensures
+returns c = there_refilled c.requires c.is_too_long.ensures c.put_list-bytes.ensures c.if-is_too_long.false c.stated_rest-n.ensures (omega arith) c.fill_parts.ensures

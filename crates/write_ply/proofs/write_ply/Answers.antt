@@ -3,43 +3,23 @@ use Rattle.write_ply.proofs.Ending.{is_refused, limits, header_asks, reals_ask, 
 use Rattle.write_ply.proofs.write_ply.Goals as goal
 
 pub returns-in-Refused : goal.returns-in-Refused
-returns-in-Refused c = let at-check = c.before.before.before in
-    let start = at-check.before.before.before.before.before in
-    is_refused start.args.points.now start.args.faces.now start.args.file.now start.args.work.now at-check.write_ply_refusal.result at-check.write_ply_refusal.ensures _ _ c.in-Refused.is
+returns-in-Refused c = is_refused c.args.points.now c.args.faces.now c.args.file.now c.args.work.now c.write_ply_refusal.result c.write_ply_refusal.ensures _ _ c.in-Refused.is
 
 pub put_header-a-requires : goal.put_header-a-requires
-put_header-a-requires c = let told = c.before in
-    let at-check = told.before.before in
-    let start = at-check.before.before.before.before.before in
-    header_asks start.args.points.now start.args.faces.now start.args.file.now start.args.work.now at-check.write_ply_refusal.result at-check.write_ply_refusal.ensures told.in-Fine.is
+put_header-a-requires c = header_asks c.args.points.now c.args.faces.now c.args.file.now c.args.work.now c.write_ply_refusal.result c.write_ply_refusal.ensures c.in-Fine.is
 
 pub put_reals-b-requires : goal.put_reals-b-requires
-put_reals-b-requires c = let told = c.before.before.before.before.before in
-    let at-check = told.before.before in
-    let start = at-check.before.before.before.before.before in
-    reals_ask start.args.points.now start.args.faces.now start.args.file.now start.args.work.now at-check.write_ply_refusal.result at-check.write_ply_refusal.ensures told.in-Fine.is c.put_header-a.ensures
+put_reals-b-requires c = reals_ask c.args.points.now c.args.faces.now c.args.file.now c.args.work.now c.write_ply_refusal.result c.write_ply_refusal.ensures c.in-Fine.is c.put_header-a.ensures
 
 pub put_triples-c-requires : goal.put_triples-c-requires
-put_triples-c-requires c = let told = c.before.before.before.before.before.before.before.before.before in
-    let at-check = told.before.before in
-    let start = at-check.before.before.before.before.before in
-    triples_ask start.args.points.now start.args.faces.now start.args.file.now start.args.work.now at-check.write_ply_refusal.result at-check.write_ply_refusal.ensures told.in-Fine.is c.put_header-a.ensures c.put_reals-b.ensures
+put_triples-c-requires c = triples_ask c.args.points.now c.args.faces.now c.args.file.now c.args.work.now c.write_ply_refusal.result c.write_ply_refusal.ensures c.in-Fine.is c.put_header-a.ensures c.put_reals-b.ensures
 
 pub stated_work-requires : goal.stated_work-requires
-stated_work-requires c = let told = c.before.before.before.before.before.before.before.before.before.before.before.before.before in
-    let at-check = told.before.before in
-    let start = at-check.before.before.before.before.before in
-    limits start.args.points.now start.args.faces.now start.args.file.now start.args.work.now at-check.write_ply_refusal.result at-check.write_ply_refusal.ensures told.in-Fine.is
+stated_work-requires c = limits c.args.points.now c.args.faces.now c.args.file.now c.args.work.now c.write_ply_refusal.result c.write_ply_refusal.ensures c.in-Fine.is
 
 pub wipe-requires : goal.wipe-requires
-wipe-requires c = let told = c.before.before.before.before.before.before.before.before.before.before.before.before.before.before in
-    let at-check = told.before.before in
-    let start = at-check.before.before.before.before.before in
-    wipe_ask start.args.points.now start.args.faces.now start.args.file.now start.args.work.now at-check.write_ply_refusal.result at-check.write_ply_refusal.ensures told.in-Fine.is c.stated_work.ensures
+wipe-requires c = wipe_ask c.args.points.now c.args.faces.now c.args.file.now c.args.work.now c.write_ply_refusal.result c.write_ply_refusal.ensures c.in-Fine.is c.stated_work.ensures
 
 pub returns : goal.returns
-returns c = let told = c.before.before.before.before.before.before.before.before.before.before.before.before.before.before.before.before.before in
-    let at-check = told.before.before in
-    let start = at-check.before.before.before.before.before in
-    is_done start.args.points.now start.args.faces.now start.args.file.now start.args.work.now at-check.write_ply_refusal.result at-check.write_ply_refusal.ensures told.in-Fine.is c.put_header-a.ensures c.put_reals-b.ensures c.put_triples-c.ensures
+returns c = is_done c.args.points.now c.args.faces.now c.args.file.now c.args.work.now c.write_ply_refusal.result c.write_ply_refusal.ensures c.in-Fine.is c.put_header-a.ensures c.put_reals-b.ensures c.put_triples-c.ensures
     c.stated_work.ensures c.wipe.ensures.only c.wipe.ensures.filled

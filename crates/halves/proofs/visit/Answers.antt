@@ -64,13 +64,13 @@ pub returns-then-crowds : goal.returns-then-crowds
 returns-then-crowds c = met c.requires c.close-o.ensures c.users_of-users.ensures c.crowds.ensures c.if-crowds.true
 
 pub overflow_add-result : goal.overflow_add-result
-overflow_add-result c = omega (arith, c.requires.fits, unique_fits c.requires c.close-o.ensures c.users_of-users.ensures c.crowds.ensures c.lower-l.ensures c.out_of_lem.ensures c.into_of-y.ensures)
+overflow_add-result c = omega (arith, c.requires.fits, unique_fits c.requires c.close-o.ensures c.users_of-users.ensures c.crowds.ensures c.lower-l.ensures c.out_of-x.ensures c.into_of-y.ensures)
 
 pub overflow_add-result-2 : goal.overflow_add-result-2
-overflow_add-result-2 c = omega (arith, c.requires.fits, begins_fits c.requires c.close-o.ensures c.users_of-users.ensures c.crowds.ensures c.lower-l.ensures c.out_of_lem.ensures c.into_of-y.ensures)
+overflow_add-result-2 c = omega (arith, c.requires.fits, begins_fits c.requires c.close-o.ensures c.users_of-users.ensures c.crowds.ensures c.lower-l.ensures c.out_of-x.ensures c.into_of-y.ensures)
 
 pub overflow_add-result-3 : goal.overflow_add-result-3
-overflow_add-result-3 c = omega (arith, c.requires.fits, ends_fits c.requires c.close-o.ensures c.users_of-users.ensures c.crowds.ensures c.lower-l.ensures c.out_of_lem.ensures c.into_of-y.ensures)
+overflow_add-result-3 c = omega (arith, c.requires.fits, ends_fits c.requires c.close-o.ensures c.users_of-users.ensures c.crowds.ensures c.lower-l.ensures c.out_of-x.ensures c.into_of-y.ensures)
 
 pub returns : goal.returns
-returns c = on c.requires c.close-o.ensures c.users_of-users.ensures c.crowds.ensures c.lower-l.ensures c.out_of_lem.ensures c.into_of-y.ensures c.if-crowds.false
+returns c = on c.requires c.close-o.ensures c.users_of-users.ensures c.crowds.ensures c.lower-l.ensures c.out_of-x.ensures c.into_of-y.ensures c.if-crowds.false

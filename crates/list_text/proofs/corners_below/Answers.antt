@@ -9,6 +9,7 @@ use Rattle.list_text.specs.Written.{start_of, BelowAsks}
 use Rattle.list_text.proofs.Corners.{id_below, start_most, ahead, not_ahead}
 use Rattle.list_text.proofs.corners_below.Invariants.{Inv}
 use Rattle.list_text.proofs.corners_below.Goals as goal
+use Rattle.list_text.proofs.corners_below.Invariants.{Turn}
 
 module _ {w : List ℕ} {rows : Rows} {from v : ℕ} (a : BelowAsks w rows from v) where
   turn : (q : ℕ) → q < 3 * rows.left → Turn w rows q

@@ -2,7 +2,7 @@
 use mathlib.Core.Path.{sym, ap, ◌∙◌}
 use Rattle.rules.specs.Lists.{has}
 use Rattle.rules.specs.Mesh.{corners}
-use Rattle.searched_fans.proofs.Meeting.{was_met, is_gone, has_not, has_both, off, on}
+use Rattle.searched_fans.proofs.Meeting.{was_met, is_gone, has_not, has_both}
 use Rattle.searched_fans.proofs.meets.Reads as reads
 use Rattle.searched_fans.proofs.meets.Lts as lts
 use Rattle.face_words.proofs.stands.Reads as stands-reads
@@ -17,7 +17,7 @@ returns-then-words-g-ne0 c = was_met c.args.faces.now c.args.words.now c.args.v 
 -- src/lib.rt:47:9
 pub returns-then-not-stands : goal.returns-then-not-stands
 returns-then-not-stands c = is_gone c.args.faces.now c.args.words.now c.args.v c.args.x c.args.g
-    (sym c.stands.ensures ∙ off c.stands.result c.if-not-stands.true)
+    (sym c.stands.ensures ∙ c.if-not-stands.true)
 
 -- src/lib.rt:51:9
 pub returns-then-among : goal.returns-then-among
@@ -25,7 +25,7 @@ returns-then-among c = let xs = c.args.faces.now in
     let w = c.args.words.now in
     c.among-then-among.ensures
     ∙ ap (λ f. has c.args.x (corners f)) c.view-c.ensures
-    ∙ has_both xs w c.args.v c.args.x c.args.g c.if-words-g-ne0.false (sym c.stands.ensures ∙ on c.stands.result c.if-not-stands.false)
+    ∙ has_both xs w c.args.v c.args.x c.args.g c.if-words-g-ne0.false (sym c.stands.ensures ∙ c.if-not-stands.false)
     (sym (c.among.ensures ∙ ap (λ f. has c.args.v (corners f)) c.view-c.ensures) ∙ c.if-among.true)
 
 -- src/lib.rt:39:1

@@ -6,7 +6,10 @@ use Rattle.face_index.proofs.next_indexed.Reads as next-indexed-reads
 use Rattle.searched_fans.proofs.next_face.Goals as goal
 
 pub next_indexed-requires : goal.next_indexed-requires
-next_indexed-requires c = let p = (c.requires.next_asks, c.requires.indexed) in (p.1, record { whole = p.0.whole; most = p.0.most })
+next_indexed-requires c = record {
+  indexed = c.requires.indexed;
+  candidate_asks = record { whole = c.requires.next_asks.whole; most = c.requires.next_asks.most };
+}
 
 pub returns : goal.returns
 unfolding joins

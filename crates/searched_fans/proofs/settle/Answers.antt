@@ -83,7 +83,7 @@ loop-g-smaller c = omega (arith, c.loop-g.invariant.long, c.loop-g-test.true)
 -- src/lib.rt:133:5
 pub loop-g-preserved : goal.loop-g-preserved
 loop-g-preserved c = let p = c.requires in
-    elim c.if-words-g-eq2.branch [ then-words-g-eq2 w ↦ rw (w.bytes-is, w.7) (flagged p c.loop-g.invariant c.loop-g-test.true w.if-words-g-eq2.true w.slice_known-then-words-g-eq2-1.ensures w.number_length.ensures w.words-is.ensures) | else-words-g-eq2 w ↦ rw (w.1, w.2) (passed p c.loop-g.invariant c.loop-g-test.true w.if-words-g-eq2.false) ]
+    elim c.if-words-g-eq2.branch [ then-words-g-eq2 w ↦ rw (w.bytes-is, w.words-is) (flagged p c.loop-g.invariant c.loop-g-test.true w.if-words-g-eq2.true w.view-c.ensures w.flags.ensures w.number_length.ensures) | else-words-g-eq2 w ↦ rw (w.bytes-is, w.words-is) (passed p c.loop-g.invariant c.loop-g-test.true w.if-words-g-eq2.false) ]
 
 -- src/lib.rt:127:1
 pub shape_of-words : goal.shape_of-words

@@ -26,7 +26,7 @@ pub loop-i-smaller : goal.loop-i-smaller
 loop-i-smaller c = nearer c.loop-i.invariant c.block-m.ensures c.loop-i-test.true
 
 pub loop-i-preserved : goal.loop-i-preserved
-loop-i-preserved c = elim c.if-any-ne0.branch [ then-any-ne0 w ↦ rw w.5 (clears c.loop-i.invariant c.block-m.ensures c.loop-i-test.true w.2.ensures.0 w.2.ensures.1) | else-any-ne0 w ↦ rw w.1 (leaves c.loop-i.invariant c.block-m.ensures c.loop-i-test.true (c.any.ensures.clean w.if-any-ne0.false)) ]
+loop-i-preserved c = elim c.if-any-ne0.branch [ then-any-ne0 w ↦ rw w.work-is (clears c.loop-i.invariant c.block-m.ensures c.loop-i-test.true w.clear.ensures.only w.clear.ensures.filled) | else-any-ne0 w ↦ rw w.work-is (leaves c.loop-i.invariant c.block-m.ensures c.loop-i-test.true (c.any.ensures.clean w.if-any-ne0.false)) ]
 
 pub shape_of-work : goal.shape_of-work
 shape_of-work c = c.loop-i.invariant.only.long

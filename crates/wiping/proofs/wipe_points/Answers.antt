@@ -26,7 +26,7 @@ pub loop-i-smaller : goal.loop-i-smaller
 loop-i-smaller c = nearer c.loop-i.invariant c.block-m.ensures c.loop-i-test.true
 
 pub loop-i-preserved : goal.loop-i-preserved
-loop-i-preserved c = elim c.if-any_bits-ne0.branch [ then-any_bits-ne0 w ↦ rw w.5 (clears c.loop-i.invariant c.block-m.ensures c.loop-i-test.true w.2.ensures.0 w.2.ensures.1) | else-any_bits-ne0 w ↦ rw w.1 (leaves c.loop-i.invariant c.block-m.ensures c.loop-i-test.true (c.any_bits.ensures.clean w.if-any_bits-ne0.false)) ]
+loop-i-preserved c = elim c.if-any_bits-ne0.branch [ then-any_bits-ne0 w ↦ rw w.points-is (clears c.loop-i.invariant c.block-m.ensures c.loop-i-test.true w.clear_points.ensures.only_of w.clear_points.ensures.holds_of) | else-any_bits-ne0 w ↦ rw w.points-is (leaves c.loop-i.invariant c.block-m.ensures c.loop-i-test.true (c.any_bits.ensures.clean w.if-any_bits-ne0.false)) ]
 
 pub shape_of-points : goal.shape_of-points
 shape_of-points c = c.loop-i.invariant.only.long

@@ -27,11 +27,13 @@ use Rattle.entry_search.proofs.Entries.{same_self}
 pub mem_map : {A B : Type 0} (f : A → B) (x : A) (xs : List A) → Memᴰ x xs → Memᴰ (f x) (map f xs)
 mem_map f x (y ∷ xs) (Memᴰ.head e) = Memᴰ.head (ap f e)
 mem_map f x (y ∷ xs) (Memᴰ.tail m) = Memᴰ.tail (mem_map f x xs m)
+mem_map {A = A} {B = B} f x [] x'' = elim x'' [ ]
 
 -- a member of a list of equal ones
 pub mem_same : {A : Type 0} (i x : ℕ) (ss : List A) → Memᴰ i (map (λ s. x) ss) → (i ≡ x) × (s : A) × Memᴰ s ss
 mem_same i x (s ∷ ss) (Memᴰ.head e) = (e, s, Memᴰ.head refl)
 mem_same i x (s ∷ ss) (Memᴰ.tail m) = let r = mem_same i x ss m in (r.0, r.1, Memᴰ.tail r.2)
+mem_same {A = A} i x [] x'' = elim x'' [ ]
 
 -- tests that agree on the members
 any_agree : {A : Type 0} (p q : A → Bool) (xs : List A) → All (λ x. p x ≡ q x) xs → any p xs ≡ any q xs
@@ -145,6 +147,7 @@ without_mem i b (j ∷ ws) m = go (eqb b j) m (λ q. without_mem i b ws q)
     go true q r = Memᴰ.tail q
     go false (Memᴰ.head e) r = Memᴰ.head e
     go false (Memᴰ.tail q) r = Memᴰ.tail (r q)
+without_mem i b [] m = elim m [ ]
 
 -- a face is marked where it is lost at one of its own steps
 pub marked4_own : (ps : List Point) (fs : List Face) (i : ℕ) → Inside (length ps) fs → i < length fs → marked4 ps fs i ≡ any (lost4 ps fs i) (steps (face fs i))

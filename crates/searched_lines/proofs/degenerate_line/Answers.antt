@@ -2,7 +2,6 @@
 use native.Mathlib.Omega.{arith}
 use Rattle.rule_laws.proofs.Digits.{decimal_short}
 use Rattle.measure.specs.Measure.{shape_of}
-use Rattle.searched_marks.proofs.Losing.{not_up, not_down}
 use Rattle.searched_marks.proofs.Degenerate.{shape_ok}
 use Rattle.searched_lines.proofs.Lining.{gone_none, good_none, repeated_line, thin_line}
 use Rattle.searched_lines.proofs.degenerate_line.Reads as reads
@@ -15,22 +14,22 @@ use Rattle.searched_fans.proofs.number_length.Reads as number-length-reads
 use Rattle.searched_lines.proofs.degenerate_line.Goals as goal
 
 pub returns-then-not-stands : goal.returns-then-not-stands
-returns-then-not-stands c = gone_none c.args.s c.args.points.now c.args.faces.now c.args.words.now c.args.f c.stands.ensures (not_up c.stands.result c.if-not-stands.true)
+returns-then-not-stands c = gone_none c.args.s c.args.points.now c.args.faces.now c.args.words.now c.args.f c.stands.ensures c.if-not-stands.true
 
 pub shape-form-requires : goal.shape-form-requires
 shape-form-requires c = shape_ok c.requires c.view-g.ensures
 
 pub returns-then-kind-eq0 : goal.returns-then-kind-eq0
-returns-then-kind-eq0 c = good_none c.args.s c.args.points.now c.args.faces.now c.args.words.now c.args.f c.stands.ensures (not_down c.stands.result c.if-not-stands.false) c.view-g.ensures (shape_of c.shape-form.result) c.shape-form.ensures c.number-kind.ensures c.if-kind-eq0.true
+returns-then-kind-eq0 c = good_none c.args.s c.args.points.now c.args.faces.now c.args.words.now c.args.f c.stands.ensures c.if-not-stands.false c.view-g.ensures (shape_of c.shape-form.result) c.shape-form.ensures c.number-kind.ensures c.if-kind-eq0.true
 
 pub overflow_add-result : goal.overflow_add-result
 overflow_add-result c = omega (arith, decimal_short c.args.f, c.number_length-n.ensures)
 
 pub returns-then-kind-eq1 : goal.returns-then-kind-eq1
-returns-then-kind-eq1 c = repeated_line c.args.s c.args.points.now c.args.faces.now c.args.words.now c.args.f c.stands.ensures (not_down c.stands.result c.if-not-stands.false) c.view-g.ensures (shape_of c.shape-form.result) c.shape-form.ensures c.number-kind.ensures c.number_length-n.ensures c.if-kind-eq1.true
+returns-then-kind-eq1 c = repeated_line c.args.s c.args.points.now c.args.faces.now c.args.words.now c.args.f c.stands.ensures c.if-not-stands.false c.view-g.ensures (shape_of c.shape-form.result) c.shape-form.ensures c.number-kind.ensures c.number_length-n.ensures c.if-kind-eq1.true
 
 pub overflow_add-result-2 : goal.overflow_add-result-2
 overflow_add-result-2 c = omega (arith, decimal_short c.args.f, c.number_length-n.ensures)
 
 pub returns : goal.returns
-returns c = thin_line c.args.s c.args.points.now c.args.faces.now c.args.words.now c.args.f c.stands.ensures (not_down c.stands.result c.if-not-stands.false) c.view-g.ensures (shape_of c.shape-form.result) c.shape-form.ensures c.number-kind.ensures c.number_length-n.ensures c.if-kind-eq0.false c.if-kind-eq1.false
+returns c = thin_line c.args.s c.args.points.now c.args.faces.now c.args.words.now c.args.f c.stands.ensures c.if-not-stands.false c.view-g.ensures (shape_of c.shape-form.result) c.shape-form.ensures c.number-kind.ensures c.number_length-n.ensures c.if-kind-eq0.false c.if-kind-eq1.false

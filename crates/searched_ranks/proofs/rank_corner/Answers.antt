@@ -2,7 +2,6 @@
 use mathlib.Core.Path.{sym, ap, ◌∙◌}
 use mathlib.Core.Bool.{true, false}
 use Prim.Native.Nat.{◌+◌, ◌*◌}
-use Rattle.searched_fans.proofs.Meeting.{off, on}
 use Rattle.searched_splits.specs.Splits.{pick_of}
 use Rattle.searched_ranks.specs.Ranks.{before_in}
 use Rattle.searched_ranks.proofs.Counting.{unmarked, by_order}
@@ -16,16 +15,16 @@ use Rattle.searched_ranks.proofs.rank_corner.Goals as goal
 
 -- src/lib.rt:47:9
 pub returns-then-not-marked : goal.returns-then-not-marked
-returns-then-not-marked c = unmarked c.args.faces.now c.args.words.now c.args.v c.args.id c.args.g c.args.j (sym c.marked.ensures ∙ off c.marked.result c.if-not-marked.true)
+returns-then-not-marked c = unmarked c.args.faces.now c.args.words.now c.args.v c.args.id c.args.g c.args.j (sym c.marked.ensures ∙ c.if-not-marked.true)
 
 -- src/lib.rt:51:9
 pub returns-then-comes_before : goal.returns-then-comes_before
 returns-then-comes_before c = let p = c.args in
-    by_order p.faces.now p.words.now p.v p.id p.g p.j true (sym c.marked.ensures ∙ on c.marked.result c.if-not-marked.false)
+    by_order p.faces.now p.words.now p.v p.id p.g p.j true (sym c.marked.ensures ∙ c.if-not-marked.false)
     (ap (λ x. before_in x p.v (3 * p.g + p.j) p.id) (sym (c.pick.ensures ∙ ap (λ g. pick_of g.a g.b g.c p.j) c.view-c.ensures)) ∙ sym c.comes_before.ensures ∙ c.if-comes_before.true)
 
 -- src/lib.rt:35:1
 pub returns : goal.returns
 returns c = let p = c.args in
-    by_order p.faces.now p.words.now p.v p.id p.g p.j false (sym c.marked.ensures ∙ on c.marked.result c.if-not-marked.false)
+    by_order p.faces.now p.words.now p.v p.id p.g p.j false (sym c.marked.ensures ∙ c.if-not-marked.false)
     (ap (λ x. before_in x p.v (3 * p.g + p.j) p.id) (sym (c.pick.ensures ∙ ap (λ g. pick_of g.a g.b g.c p.j) c.view-c.ensures)) ∙ sym c.comes_before.ensures ∙ c.if-comes_before.false)

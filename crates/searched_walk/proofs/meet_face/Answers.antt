@@ -1,6 +1,5 @@
 -- `searched_walk::meet_face` meets its contract: a face that stands and is another is met as often as it uses the edge. Assumes nothing.
 use Rattle.rules.specs.Steps.{step}
-use Rattle.searched_marks.proofs.Losing.{not_up, not_down}
 use Rattle.searched_walk.proofs.Meeting.{met_self, met_gone, stand_ask, met_times}
 use Rattle.searched_walk.proofs.meet_face.Reads as reads
 use Rattle.searched_walk.proofs.meet_face.Lts as lts
@@ -20,7 +19,7 @@ stands-requires c = c.requires.here
 
 -- src/lib.rt:122:9
 pub returns-then-not-stands : goal.returns-then-not-stands
-returns-then-not-stands c = met_gone c.requires c.args.j (step c.args.a c.args.b) c.if-g-j.false c.stands.ensures (not_up c.stands.result c.if-not-stands.true)
+returns-then-not-stands c = met_gone c.requires c.args.j (step c.args.a c.args.b) c.if-g-j.false c.stands.ensures c.if-not-stands.true
 
 -- src/lib.rt:124:36
 pub view-requires : goal.view-requires
@@ -28,8 +27,8 @@ view-requires c = record { worded = c.requires.ready.worded; here = c.requires.h
 
 -- src/lib.rt:125:5
 pub meet_times-requires : goal.meet_times-requires
-meet_times-requires c = stand_ask c.requires c.args.j (step c.args.a c.args.b) c.if-g-j.false c.stands.ensures (not_down c.stands.result c.if-not-stands.false)
+meet_times-requires c = stand_ask c.requires c.args.j (step c.args.a c.args.b) c.if-g-j.false c.stands.ensures c.if-not-stands.false
 
 -- src/lib.rt:106:1
 pub returns : goal.returns
-returns c = met_times c.requires c.args.j (step c.args.a c.args.b) c.if-g-j.false c.stands.ensures (not_down c.stands.result c.if-not-stands.false) c.view.ensures c.uses-times.ensures c.meet_times.ensures
+returns c = met_times c.requires c.args.j (step c.args.a c.args.b) c.if-g-j.false c.stands.ensures c.if-not-stands.false c.view.ensures c.uses-times.ensures c.meet_times.ensures

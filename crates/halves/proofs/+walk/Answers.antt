@@ -48,7 +48,7 @@ pub walk-requires : goal.walk-requires
 walk-requires t c = (omega (arith, right_falls c.requires c.if-n-eq0.false c.span-sp.ensures c.if-low-high.false), right_asks c.requires c.if-n-eq0.false c.span-sp.ensures (mid_above c.requires c.if-n-eq0.false c.span-sp.ensures) (mid_within c.requires c.if-n-eq0.false c.span-sp.ensures c.if-low-high.false) c.split-m.ensures c.walk-t1.ensures)
 
 pub shape_of-buffer : goal.shape_of-buffer
-shape_of-buffer t c = c.walk.auto.0 ∙ c.walk-t1.auto.0 ∙ c.split-m.auto.0
+shape_of-buffer t c = c.walk.auto.buffer ∙ c.walk-t1.auto.buffer ∙ c.split-m.auto.buffer
 
 pub returns : goal.returns
 returns t c = both c.requires c.if-n-eq0.false c.span-sp.ensures (mid_above c.requires c.if-n-eq0.false c.span-sp.ensures) (mid_within c.requires c.if-n-eq0.false c.span-sp.ensures c.if-low-high.false) c.split-m.ensures c.walk-t1.ensures c.walk.ensures

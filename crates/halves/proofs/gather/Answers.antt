@@ -137,7 +137,7 @@ pub put_both-g-requires : goal.put_both-g-requires
 put_both-g-requires c = both_asks c.requires c.loop-i.invariant c.loop-i-test.true c.next-j.ensures
 
 pub shape_of-buffer-then-n-size : goal.shape_of-buffer-then-n-size
-shape_of-buffer-then-n-size c = c.put_both-g.auto.0 ∙ c.loop-i.invariant.holding.long
+shape_of-buffer-then-n-size c = c.put_both-g.auto.buffer ∙ c.loop-i.invariant.holding.long
 
 pub returns-then-n-size : goal.returns-then-n-size
 returns-then-n-size c = full c.requires c.loop-i.invariant c.loop-i-test.true c.next-j.ensures c.put_both-g.ensures c.if-n-size.true

@@ -17,7 +17,7 @@ pub shrink-requires : goal.shrink-requires
 shrink-requires c = shrink_asks c.requires c.if-k-from.false c.if-to-k.false c.if-n-buffer.false
 
 pub shape_of-buffer : goal.shape_of-buffer
-shape_of-buffer c = c.shrink.auto.0 ∙ simp length-set
+shape_of-buffer c = c.shrink.auto.buffer ∙ simp length-set
 
 pub returns : goal.returns
 returns c = put_shrunk c.requires c.if-k-from.false c.if-to-k.false c.if-n-buffer.false c.shrink.ensures

@@ -12,19 +12,19 @@ pub change_line-requires : goal.change_line-requires
 change_line-requires c = going_asks c.loop-at.invariant c.loop-at-test.true
 
 pub shape_of-marks-in-Bad : goal.shape_of-marks-in-Bad
-shape_of-marks-in-Bad c = c.change_line.auto.1.1.1.1.0 ∙ c.loop-at.invariant.long_bytes
+shape_of-marks-in-Bad c = c.change_line.auto.marks ∙ c.loop-at.invariant.long_bytes
 
 pub shape_of-bits-in-Bad : goal.shape_of-bits-in-Bad
-shape_of-bits-in-Bad c = c.change_line.auto.1.1.1.1.1.0 ∙ c.loop-at.invariant.long_bits
+shape_of-bits-in-Bad c = c.change_line.auto.bits ∙ c.loop-at.invariant.long_bits
 
 pub returns-in-Bad : goal.returns-in-Bad
 returns-in-Bad c = going_bad c.loop-at.invariant (rw c.in-Bad.is at c.change_line.ensures)
 
 pub shape_of-marks-in-Unused : goal.shape_of-marks-in-Unused
-shape_of-marks-in-Unused c = c.change_line.auto.1.1.1.1.0 ∙ c.loop-at.invariant.long_bytes
+shape_of-marks-in-Unused c = c.change_line.auto.marks ∙ c.loop-at.invariant.long_bytes
 
 pub shape_of-bits-in-Unused : goal.shape_of-bits-in-Unused
-shape_of-bits-in-Unused c = c.change_line.auto.1.1.1.1.1.0 ∙ c.loop-at.invariant.long_bits
+shape_of-bits-in-Unused c = c.change_line.auto.bits ∙ c.loop-at.invariant.long_bits
 
 pub returns-in-Unused : goal.returns-in-Unused
 returns-in-Unused c = going_unused c.loop-at.invariant c.loop-at-test.true (rw c.in-Unused.is at c.change_line.ensures)

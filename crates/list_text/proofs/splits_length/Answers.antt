@@ -35,4 +35,4 @@ pub loop-j-preserved : goal.loop-j-preserved
 loop-j-preserved c = total_on c.requires c.loop-j.invariant c.loop-j-test.true c.corners_below-to.ensures c.split_length-total.ensures.value c.split_length-total.ensures.from_bound
 
 pub returns : goal.returns
-returns c = total_done c.requires c.loop-j.invariant c.loop-j-test.false
+returns c = let both = total_done c.requires c.loop-j.invariant c.loop-j-test.false in record { value = both.0; upper_bound = both.1 }

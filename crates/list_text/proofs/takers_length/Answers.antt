@@ -35,4 +35,4 @@ pub loop-q-preserved : goal.loop-q-preserved
 loop-q-preserved c = measure_on c.requires c.loop-q.invariant c.loop-q-test.true c.taker_length-total.ensures.value
 
 pub returns : goal.returns
-returns c = measure_done c.requires c.loop-q.invariant c.loop-q-test.false
+returns c = let both = measure_done c.requires c.loop-q.invariant c.loop-q-test.false in record { value = both.0; from_bound = both.1 }

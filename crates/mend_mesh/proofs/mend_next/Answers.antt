@@ -111,8 +111,8 @@ overflow_add-result-4 c = let a = c.args in
 
 pub shape_of-out_points : goal.shape_of-out_points
 shape_of-out_points c = let a = c.args in
-    (gives a.points.now a.faces.now a.p a.f a.out_points-1.now a.out_faces-1.now a.report-1.now a.origins-1.now a.meshes-1.now a.work-1.now a.k a.at c.requires a.s a.options c.mend_one-share.ensures c.mend_one-share.auto.1.1.1.1.0 c.mend_one-share.auto.1.1.1.1.1.0 c.mend_one-share.auto.1.1.1.1.1.1.0 c.mend_one-share.auto.1.1.1.1.1.1.1.0 c.mend_one-share.auto.1.1.1.1.1.1.1.1.0).out_points.only.long
+    (gives a.points.now a.faces.now a.p a.f a.out_points-1.now a.out_faces-1.now a.report-1.now a.origins-1.now a.meshes-1.now a.work-1.now a.k a.at c.requires a.s a.options c.mend_one-share.ensures c.mend_one-share.auto.out_points c.mend_one-share.auto.out_faces c.mend_one-share.auto.report c.mend_one-share.auto.origins c.mend_one-share.auto.four).out_points.only.long
 
 pub returns : goal.returns
 returns c = let a = c.args in
-    gives a.points.now a.faces.now a.p a.f a.out_points-1.now a.out_faces-1.now a.report-1.now a.origins-1.now a.meshes-1.now a.work-1.now a.k a.at c.requires a.s a.options c.mend_one-share.ensures c.mend_one-share.auto.1.1.1.1.0 c.mend_one-share.auto.1.1.1.1.1.0 c.mend_one-share.auto.1.1.1.1.1.1.0 c.mend_one-share.auto.1.1.1.1.1.1.1.0 c.mend_one-share.auto.1.1.1.1.1.1.1.1.0
+    gives a.points.now a.faces.now a.p a.f a.out_points-1.now a.out_faces-1.now a.report-1.now a.origins-1.now a.meshes-1.now a.work-1.now a.k a.at c.requires a.s a.options c.mend_one-share.ensures c.mend_one-share.auto.out_points c.mend_one-share.auto.out_faces c.mend_one-share.auto.report c.mend_one-share.auto.origins c.mend_one-share.auto.four

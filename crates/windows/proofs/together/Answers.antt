@@ -7,7 +7,7 @@ pub pass-requires : goal.pass-requires
 pass-requires c = pass_asks c.requires
 
 pub runs-requires : goal.runs-requires
-runs-requires c = runs_asks c.requires (omega arith) c.pass.ensures c.pass.auto.1.1.1.1.0 c.pass.auto.1.1.1.1.1.0
+runs-requires c = runs_asks c.requires (omega arith) c.pass.ensures c.pass.auto.ends c.pass.auto.buffer
 
 pub returns : goal.returns
-returns c = together_gives c.requires (omega arith) c.pass.ensures c.pass.auto.1.1.1.1.0 c.pass.auto.1.1.1.1.1.0 c.runs.ensures
+returns c = together_gives c.requires (omega arith) c.pass.ensures c.pass.auto.ends c.pass.auto.buffer c.runs.ensures

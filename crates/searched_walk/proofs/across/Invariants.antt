@@ -10,7 +10,7 @@ use Rattle.searched_walk.proofs.meet_face.Reads as meet-face-reads
 use Rattle.searched_walk.proofs.across.Given as goal
 
 abbrev pub invariant-loop-g : goal.invariant-loop-g
-invariant-loop-g l = Crossed l.faces l.initial.words l.initial l.j (step l.a l.b) l.words l.now l.g
+invariant-loop-g l = Crossed l.faces l.initial.words l.initial.now l.j (step l.a l.b) l.words l.now l.g
 
 abbrev pub decreases-loop-g : goal.decreases-loop-g
 decreases-loop-g l = length l.initial.words - l.g

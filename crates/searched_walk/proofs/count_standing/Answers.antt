@@ -22,7 +22,7 @@ overflow_add-n c = omega (arith, count_few c.loop-f.invariant)
 
 -- src/lib.rt:230:5
 pub loop-f-preserved : goal.loop-f-preserved
-loop-f-preserved c = elim c.if-stands.branch [ then-stands w ↦ rw w.1 (count_one c.loop-f.invariant c.loop-f-test.true c.stands.ensures w.if-stands.true) | else-stands w ↦ rw w.1 (count_none c.loop-f.invariant c.loop-f-test.true c.stands.ensures w.if-stands.false) ]
+loop-f-preserved c = elim c.if-stands.branch [ then-stands w ↦ rw w.n-is (count_one c.loop-f.invariant c.loop-f-test.true c.stands.ensures w.if-stands.true) | else-stands w ↦ rw w.n-is (count_none c.loop-f.invariant c.loop-f-test.true c.stands.ensures w.if-stands.false) ]
 
 -- src/lib.rt:225:1
 pub returns : goal.returns

@@ -128,7 +128,7 @@ module _ (P F : ℕ) where
   all_steady : {k : ℕ} {b z : Bench} (ls : List (Option Line)) → Steady k b → through (with_list_line P F) (some b) ls ≡ some z → k + length ls ≤ 8 * (P + 3 * F) + 3 * F
   all_steady [] s e = omega (arith, s.many, s.splits, rank_low (P + 3 * F) s.before s.first_low)
   all_steady {k} {b} {z} (none ∷ ls) s e = absurd (no_step P F b ls z e)
-  all_steady {k} {b} {z} (some l ∷ ls) s e = let t = step P F b l ls z e in omega (arith, all_steady ls (next l ls s t) t.goes)
+  all_steady {k} {b} {z} (some l ∷ ls) s e = let t = step P F b l ls z e in omega (arith, all_steady {k = suc k} ls (next l ls s t) t.goes)
 
 module _ (ps : List Point) (fs : List Face) (low : All (λ g. g.origin < length fs) fs) where
   -- so many lines at most apply

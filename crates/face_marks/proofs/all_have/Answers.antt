@@ -2,7 +2,6 @@
 use mathlib.Core.Path.{sym, ◌∙◌}
 use Prim.Native.Nat.{◌-◌}
 use native.Mathlib.Omega.{arith}
-use borrow.Author.Tests.{not-true, not-false}
 use Rattle.face_marks.proofs.Faces.{looked_begin, here_face, looked_gone, looked_without, looked_again, looked_done}
 use Rattle.face_marks.proofs.all_have.Goals as goal
 
@@ -16,19 +15,19 @@ pub is_here-requires : goal.is_here-requires
 is_here-requires c = c.requires.sized.bytes
 
 pub returns-then-not-is_here : goal.returns-then-not-is_here
-returns-then-not-is_here c = looked_gone c.loop-at.invariant c.read_face-face.ensures (sym (not-true _ c.if-not-is_here.true) ∙ c.is_here.ensures)
+returns-then-not-is_here c = looked_gone c.loop-at.invariant c.read_face-face.ensures (sym c.if-not-is_here.true ∙ c.is_here.ensures)
 
 pub has_point-requires : goal.has_point-requires
-has_point-requires c = here_face _ _ _ _ c.requires.sized (sym (not-false _ c.if-not-is_here.false) ∙ c.is_here.ensures)
+has_point-requires c = here_face _ _ _ _ c.requires.sized (sym c.if-not-is_here.false ∙ c.is_here.ensures)
 
 pub returns-then-not-has_point : goal.returns-then-not-has_point
-returns-then-not-has_point c = looked_without c.loop-at.invariant c.read_face-face.ensures (sym (not-false _ c.if-not-is_here.false) ∙ c.is_here.ensures) (sym (not-true _ c.if-not-has_point.true) ∙ c.has_point.ensures)
+returns-then-not-has_point c = looked_without c.loop-at.invariant c.read_face-face.ensures (sym c.if-not-is_here.false ∙ c.is_here.ensures) (sym c.if-not-has_point.true ∙ c.has_point.ensures)
 
 pub loop-at-smaller : goal.loop-at-smaller
 loop-at-smaller c = omega (arith, c.read_face-face.ensures, c.read_face-face.ensures.faces)
 
 pub loop-at-preserved : goal.loop-at-preserved
-loop-at-preserved c = looked_again c.loop-at.invariant c.read_face-face.ensures (sym (not-false _ c.if-not-is_here.false) ∙ c.is_here.ensures) (sym (not-false _ c.if-not-has_point.false) ∙ c.has_point.ensures)
+loop-at-preserved c = looked_again c.loop-at.invariant c.read_face-face.ensures (sym c.if-not-is_here.false ∙ c.is_here.ensures) (sym c.if-not-has_point.false ∙ c.has_point.ensures)
 
 pub returns : goal.returns
 returns c = looked_done c.loop-at.invariant c.loop-at-test.false

@@ -14,7 +14,7 @@ pub put_face-requires : goal.put_face-requires
 put_face-requires c = put_asks c.requires c.loop-f.invariant c.loop-f-test.true
 
 pub loop-f-preserved : goal.loop-f-preserved
-loop-f-preserved c = elim c.if-marks-f-eq0.branch [ then-marks-f-eq0 w ↦ rw w.5 (put_again c.requires c.loop-f.invariant c.loop-f-test.true w.if-marks-f-eq0.true w.2.ensures) | else-marks-f-eq0 w ↦ rw w.1 (put_past c.requires c.loop-f.invariant c.loop-f-test.true w.if-marks-f-eq0.false) ]
+loop-f-preserved c = elim c.if-marks-f-eq0.branch [ then-marks-f-eq0 w ↦ rw w.bits-is (put_again c.requires c.loop-f.invariant c.loop-f-test.true w.if-marks-f-eq0.true w.put_face.ensures) | else-marks-f-eq0 w ↦ rw w.bits-is (put_past c.requires c.loop-f.invariant c.loop-f-test.true w.if-marks-f-eq0.false) ]
 
 pub shape_of-bits : goal.shape_of-bits
 shape_of-bits c = c.loop-f.invariant.long

@@ -17,7 +17,7 @@ pub unused_line-bytes-requires : goal.unused_line-bytes-requires
 unused_line-bytes-requires c = record { worded = c.requires.unused_asks.worded; indexed = c.requires.indexed }
 
 pub overflow_add-bytes : goal.overflow_add-bytes
-overflow_add-bytes c = omega (arith, c.loop-v.invariant, c.loop-v-test.true, c.unused_line_is.ensures, line_short c.args.faces.now c.args.words.now c.loop-v.v, c.requires.unused_asks.few)
+overflow_add-bytes c = omega (arith, c.loop-v.invariant, c.loop-v-test.true, c.unused_line-bytes.ensures, line_short c.args.faces.now c.args.words.now c.loop-v.v, c.requires.unused_asks.few)
 
 pub overflow_add-v : goal.overflow_add-v
 overflow_add-v c = omega (arith, c.loop-v-test.true)
@@ -26,7 +26,7 @@ pub loop-v-smaller : goal.loop-v-smaller
 loop-v-smaller c = omega (arith, c.loop-v-test.true)
 
 pub loop-v-preserved : goal.loop-v-preserved
-loop-v-preserved c = add_again c.loop-v.invariant c.loop-v-test.true c.unused_line_is.ensures
+loop-v-preserved c = add_again c.loop-v.invariant c.loop-v-test.true c.unused_line-bytes.ensures
 
 pub returns : goal.returns
 returns c = add_done c.loop-v.invariant c.loop-v-test.false

@@ -63,7 +63,7 @@ returns-then-single c = let p = c.requires in
     let cl = c.clear.ensures in
     let t = c.table-m.ensures in
     let s = c.single.ensures in
-    record { orient_gives = calm_gives p cl.only t cl.filled (s c.if-single.true); once = λ e. once_now p cl.only t cl.filled (s c.if-single.true) }
+    (record { orient_gives = calm_gives p cl.only t cl.filled (s c.if-single.true); once = λ e. once_now p cl.only t cl.filled (s c.if-single.true) })
 
 pub overflow_mul-n-3 : goal.overflow_mul-n-3
 overflow_mul-n-3 c = let p = c.requires in
@@ -163,4 +163,4 @@ returns c = let p = c.requires in
     let g = c.walk_all-components.ensures in
     let s2 = c.single-single.ensures in
     let h = c.turn_all.ensures in
-    record { orient_gives = orient_gives p cl.only t y g h; once = λ e. once_turned p cl.only t y g h (s2 e) }
+    (record { orient_gives = orient_gives p cl.only t y g h; once = λ e. once_turned p cl.only t y g h (s2 e) })

@@ -64,7 +64,7 @@ pub loop-i-preserved : goal.loop-i-preserved
 loop-i-preserved c = let p = c.requires in
     let u = c.loop-i.invariant in
     let h = c.loop-i-test.true in
-    elim c.if-work-i-eq2.branch [ then-work-i-eq2 w ↦ rw w.3 (turn_pair p u h w.if-work-i-eq2.true) | else-work-i-eq2 w ↦ rw w.1 (turn_straight p u h w.if-work-i-eq2.false) ]
+    elim c.if-work-i-eq2.branch [ then-work-i-eq2 w ↦ rw w.faces-is (turn_pair p u h w.if-work-i-eq2.true) | else-work-i-eq2 w ↦ rw w.faces-is (turn_straight p u h w.if-work-i-eq2.false) ]
 
 pub shape_of-faces : goal.shape_of-faces
 shape_of-faces c = c.loop-i.invariant.only.long

@@ -16,18 +16,18 @@ returns-then-not-stands c = gone_has c.args.faces.now c.args.words.now c.args.v 
 
 -- src/lib.rt:82:9
 pub returns-then-v-c : goal.returns-then-v-c
-returns-then-v-c c = let view = c.view in
+returns-then-v-c c = let view = c.view-c in
     stands_has c.args.faces.now c.args.words.now c.args.v c.args.g (sym c.stands.ensures ∙ c.if-not-stands.false)
     (among_first c.args.v view.result.a view.result.b view.result.c c.if-v-c.true ∙ ap (λ f. has c.args.v (corners f)) view.ensures)
 
 -- src/lib.rt:85:9
 pub returns-then-v-c-2 : goal.returns-then-v-c-2
-returns-then-v-c-2 c = let view = c.view in
+returns-then-v-c-2 c = let view = c.view-c in
     stands_has c.args.faces.now c.args.words.now c.args.v c.args.g (sym c.stands.ensures ∙ c.if-not-stands.false)
     (among_second c.args.v view.result.a view.result.b view.result.c c.if-v-c.false c.if-v-c-2.true ∙ ap (λ f. has c.args.v (corners f)) view.ensures)
 
 -- src/lib.rt:73:1
 pub returns : goal.returns
-returns c = let view = c.view in
+returns c = let view = c.view-c in
     stands_has c.args.faces.now c.args.words.now c.args.v c.args.g (sym c.stands.ensures ∙ c.if-not-stands.false)
     (among_third c.args.v view.result.a view.result.b view.result.c c.if-v-c.false c.if-v-c-2.false ∙ ap (λ f. has c.args.v (corners f)) view.ensures)

@@ -1,5 +1,6 @@
 -- `searched_splits::split_corner` meets its contract, by the pure steps of `Stepping`. Assumes nothing.
 use mathlib.Core.Path.{ap, ◌∙◌}
+use mathlib.Core.Bool.{not}
 use Prim.Native.Nat.{◌+◌}
 use native.Mathlib.Omega.{arith}
 use Rattle.rule_laws.proofs.Digits.{decimal_short}
@@ -29,7 +30,7 @@ close-taken-requires c = let pe = c.pick-v.ensures ∙ ap (λ g. pick_of g.a g.b
 -- src/lib.rt:175:9
 pub returns-then-not-extra : goal.returns-then-not-extra
 returns-then-not-extra c = let pe = c.pick-v.ensures ∙ ap (λ g. pick_of g.a g.b g.c c.args.k) c.view-c.ensures in
-    λ q. closed q c.flagged.ensures c.if-flagged.false pe c.close-taken.ensures c.met_at-extra.ensures c.if-not-extra.true
+    λ q. closed q c.flagged.ensures c.if-flagged.false pe c.close-taken.ensures c.met_at-extra.ensures (ap not c.if-not-extra.true)
 
 -- src/lib.rt:177:27
 pub overflow_mul-words : goal.overflow_mul-words
@@ -75,4 +76,4 @@ overflow_add-result-5 c = omega (arith, bounds c.requires.corner_asks, c.number_
 -- src/lib.rt:155:1
 pub returns : goal.returns
 returns c = let pe = c.pick-v.ensures ∙ ap (λ g. pick_of g.a g.b g.c c.args.k) c.view-c.ensures in
-    λ q. opened q c.flagged.ensures c.if-flagged.false pe c.close-taken.ensures c.met_at-extra.ensures c.if-not-extra.false c.bit.ensures c.number_length-old.ensures c.number_length-new.ensures
+    λ q. opened q c.flagged.ensures c.if-flagged.false pe c.close-taken.ensures c.met_at-extra.ensures (ap not c.if-not-extra.false) c.bit.ensures c.number_length-old.ensures c.number_length-new.ensures

@@ -1,6 +1,5 @@
 -- `searched_splits::split_length` meets its contract: face after face. The measure is the number of faces to come. Assumes nothing.
 use mathlib.Core.Path.{sym, ◌∙◌}
-use mathlib.Core.Logic.{⊎_elim}
 use Prim.Native.Nat.{◌-◌}
 use native.Mathlib.Omega.{arith}
 use Rattle.searched_splits.proofs.Faces.{begin, ask, face_more, face_none, done}
@@ -9,6 +8,7 @@ use Rattle.searched_splits.proofs.split_length.Lts as lts
 use Rattle.face_words.proofs.stands.Reads as stands-reads
 use Rattle.searched_splits.proofs.split_face.Reads as split-face-reads
 use Rattle.searched_splits.proofs.split_length.Goals as goal
+use Rattle.searched_splits.proofs.split_length.Goals.{else-stands, then-stands}
 
 -- src/lib.rt:209:5
 pub loop-f-init : goal.loop-f-init
@@ -33,12 +33,8 @@ loop-f-smaller c = omega (arith, c.loop-f-test.true, c.loop-f.invariant.stage.lo
 -- src/lib.rt:209:5
 pub loop-f-preserved : goal.loop-f-preserved
 loop-f-preserved c = let p = c.requires.split_asks in
-    ⊎_elim
-    (λ w.
-    let e = sym c.stands.ensures ∙ w.0.taken in
-    rw (w.5, w.6, w.7) (face_more p c.loop-f.invariant c.loop-f-test.true e (w.2.ensures (ask p c.loop-f.invariant c.loop-f-test.true e))))
-    (λ w. rw (w.1, w.2, w.3) (face_none p c.loop-f.invariant c.loop-f-test.true (sym c.stands.ensures ∙ w.0.left)))
-    c.if-stands.branch
+    elim c.if-stands.branch [ then-stands w ↦ let e = sym c.stands.ensures ∙ w.if-stands.true in
+        rw (w.words-is, w.splits-is, w.bytes-is) (face_more p c.loop-f.invariant c.loop-f-test.true e (w.split_face-told.ensures (ask p c.loop-f.invariant c.loop-f-test.true e))) | else-stands w ↦ rw (w.words-is, w.splits-is, w.bytes-is) (face_none p c.loop-f.invariant c.loop-f-test.true (sym c.stands.ensures ∙ w.if-stands.false)) ]
 
 -- src/lib.rt:202:1
 pub shape_of-words : goal.shape_of-words

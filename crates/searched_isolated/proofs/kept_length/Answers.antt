@@ -38,7 +38,7 @@ loop-f-smaller c = omega (arith, c.loop-f-test.true)
 -- src/lib.rt:63:5
 pub loop-f-preserved : goal.loop-f-preserved
 loop-f-preserved c = let i = c.loop-f.invariant in
-    elim c.if-stands.branch [ then-stands w ↦ rw w.2 (kept_more i c.loop-f-test.true (sym c.stands.ensures ∙ w.if-stands.true) w.1.ensures) | else-stands w ↦ rw w.1 (kept_same i c.loop-f-test.true (sym c.stands.ensures ∙ w.if-stands.false)) ]
+    elim c.if-stands.branch [ then-stands w ↦ rw w.bytes-is (kept_more i c.loop-f-test.true (sym c.stands.ensures ∙ w.if-stands.true) w.kept_face-bytes.ensures) | else-stands w ↦ rw w.bytes-is (kept_same i c.loop-f-test.true (sym c.stands.ensures ∙ w.if-stands.false)) ]
 
 -- src/lib.rt:57:1
 pub returns : goal.returns

@@ -53,7 +53,7 @@ loop-g-smaller c = omega (arith, c.loop-g-test.true)
 -- src/lib.rt:63:5
 pub loop-g-preserved : goal.loop-g-preserved
 loop-g-preserved c = let i = c.loop-g.invariant in
-    elim c.if-stands.branch [ then-stands w ↦ rw w.4 (more i c.loop-g-test.true (sym c.stands.ensures ∙ w.if-stands.true) w.1.ensures w.2.ensures w.3.ensures) | else-stands w ↦ rw w.1 (same i c.loop-g-test.true (sym c.stands.ensures ∙ w.if-stands.false)) ]
+    elim c.if-stands.branch [ then-stands w ↦ rw w.count-is (more i c.loop-g-test.true (sym c.stands.ensures ∙ w.if-stands.true) w.rank_corner.ensures w.rank_corner-then-stands.ensures w.rank_corner-then-stands-2.ensures) | else-stands w ↦ rw w.count-is (same i c.loop-g-test.true (sym c.stands.ensures ∙ w.if-stands.false)) ]
 
 -- src/lib.rt:57:1
 pub returns : goal.returns

@@ -28,7 +28,7 @@ pub loop-f-smaller : goal.loop-f-smaller
 loop-f-smaller c = omega (arith, c.loop-f-test.true)
 
 pub loop-f-preserved : goal.loop-f-preserved
-loop-f-preserved c = λ q. elim c.if-stands.branch [ then-stands w ↦ rw w.2 (gone_more q (c.loop-f.invariant q) c.loop-f-test.true c.stands.ensures w.if-stands.true (w.1.ensures (face-ask q (c.loop-f.invariant q) c.loop-f-test.true c.stands.ensures w.if-stands.true))) | else-stands w ↦ rw w.1 (gone_same q (c.loop-f.invariant q) c.loop-f-test.true c.stands.ensures w.if-stands.false) ]
+loop-f-preserved c = λ q. elim c.if-stands.branch [ then-stands w ↦ rw w.bytes-is (gone_more q (c.loop-f.invariant q) c.loop-f-test.true c.stands.ensures w.if-stands.true (w.lost_face-bytes.ensures (face-ask q (c.loop-f.invariant q) c.loop-f-test.true c.stands.ensures w.if-stands.true))) | else-stands w ↦ rw w.bytes-is (gone_same q (c.loop-f.invariant q) c.loop-f-test.true c.stands.ensures w.if-stands.false) ]
 
 pub returns : goal.returns
 returns c = λ q. gone_done q (c.loop-f.invariant q) c.loop-f-test.false

@@ -37,8 +37,8 @@ use Rattle.searched_lines.proofs.Telling.{drops_bytes, degenerate_bytes, exchang
 -- ---- a pass that is off, and one that is on
 
 module _ (top : ℕ) (pass : State → State) (lines : State → List Line) {ps : List Float} {xs w : List ℕ} where
-  pub off_told : 2 ≤ top → PassAsks ps xs w → (on : Bool) → not on ≡ true → ToldGives top (optional on pass) (λ m. cond on (lines m) []) ps xs w w 0
-  off_told h p true e = absurd (true≢false (sym e))
+  pub off_told : 2 ≤ top → PassAsks ps xs w → (on : Bool) → on ≡ false → ToldGives top (optional on pass) (λ m. cond on (lines m) []) ps xs w w 0
+  off_told h p true e = absurd (true≢false e)
   off_told h p false e =
       record {
         long = refl;
@@ -48,8 +48,8 @@ module _ (top : ℕ) (pass : State → State) (lines : State → List Line) {ps 
         few = omega arith;
       }
 
-  pub on_told : {w' : List ℕ} {r : ℕ} → ToldGives top pass lines ps xs w w' r → (on : Bool) → not on ≡ false → ToldGives top (optional on pass) (λ m. cond on (lines m) []) ps xs w w' r
-  on_told g false e = absurd (true≢false e)
+  pub on_told : {w' : List ℕ} {r : ℕ} → ToldGives top pass lines ps xs w w' r → (on : Bool) → on ≡ true → ToldGives top (optional on pass) (λ m. cond on (lines m) []) ps xs w w' r
+  on_told g false e = absurd (true≢false (sym e))
   on_told g true e = record { long = g.long; low = g.low; state = λ m q. unfold optional in (g.state m q); bytes = g.bytes; few = g.few }
 
 -- ---- what the passes ask

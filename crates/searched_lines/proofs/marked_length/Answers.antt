@@ -15,10 +15,10 @@ pub marked_line-bytes-requires : goal.marked_line-bytes-requires
 marked_line-bytes-requires c = record { asks = c.requires; here = c.loop-f-test.true }
 
 pub overflow_add-bytes : goal.overflow_add-bytes
-overflow_add-bytes c = omega (arith, c.loop-f.invariant, c.marked_line_is.ensures, marked_short c.args.n c.requires.letters c.args.words.now c.loop-f.f, c.requires.few)
+overflow_add-bytes c = omega (arith, c.loop-f.invariant, c.marked_line-bytes.ensures, marked_short c.args.n c.requires.letters c.args.words.now c.loop-f.f, c.requires.few)
 
 pub loop-f-preserved : goal.loop-f-preserved
-loop-f-preserved c = sum_again c.loop-f.invariant c.loop-f-test.true c.marked_line_is.ensures (marked_short c.args.n c.requires.letters c.args.words.now c.loop-f.f)
+loop-f-preserved c = sum_again c.loop-f.invariant c.loop-f-test.true c.marked_line-bytes.ensures (marked_short c.args.n c.requires.letters c.args.words.now c.loop-f.f)
 
 pub returns : goal.returns
 returns c = sum_done c.loop-f.invariant c.loop-f-test.false

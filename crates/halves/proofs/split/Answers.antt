@@ -121,7 +121,7 @@ pub overflow_add-i : goal.overflow_add-i
 overflow_add-i c = omega (arith, turn c.requires c.loop-i.invariant c.loop-i-test.true)
 
 pub loop-i-preserved : goal.loop-i-preserved
-loop-i-preserved c = elim c.if-x-mid.branch [ then-x-mid w ↦ rw (w.2, w.3) (keeps c.requires c.loop-i.invariant c.loop-i-test.true w.if-x-mid.true) | else-x-mid w ↦ rw (w.1, w.2) (skips c.requires c.loop-i.invariant c.loop-i-test.true w.if-x-mid.false) ]
+loop-i-preserved c = elim c.if-x-mid.branch [ then-x-mid w ↦ rw (w.buffer-is, w.m-is) (keeps c.requires c.loop-i.invariant c.loop-i-test.true w.if-x-mid.true) | else-x-mid w ↦ rw (w.buffer-is, w.m-is) (skips c.requires c.loop-i.invariant c.loop-i-test.true w.if-x-mid.false) ]
 
 pub shape_of-buffer : goal.shape_of-buffer
 shape_of-buffer c = c.loop-i.invariant.only.long

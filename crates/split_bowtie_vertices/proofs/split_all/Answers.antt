@@ -20,6 +20,8 @@ use Rattle.split_bowtie_vertices.proofs.Vertices.{at_first}
 use Rattle.split_bowtie_vertices.proofs.split_all.Invariants.{Inv}
 use Rattle.split_bowtie_vertices.proofs.split_all.Goals as goal
 use Rattle.split_bowtie_vertices.proofs.split_all.Invariants.{Turn}
+use Rattle.split_bowtie_vertices.proofs.split_all.Goals.{then-next-r}
+use Rattle.split_bowtie_vertices.proofs.split_all.Goals.{else-next-r}
 
 begins : {ps : List Float} {w : List ℕ} {P n : ℕ} (q : AllAsks ps w P n) → Inv q ps w 0 P 0 0
 begins {ps} {w} {P} {n} q =
@@ -77,7 +79,7 @@ loop-v-preserved c = λ q.
     let i = c.loop-v.invariant q in
     let t = c.loop-v-test.true in
     let g = c.split_vertex-r.ensures (vertex-ok q i t) in
-    elim c.if-next-r.branch [ then-next-r a ↦ rw a.1 (more q i t g a.if-next-r.true) | else-next-r a ↦ rw a.1 (none q i t g a.if-next-r.false) ]
+    elim c.if-next-r.branch [ then-next-r a ↦ rw a.splits-is (more q i t g a.if-next-r.true) | else-next-r a ↦ rw a.splits-is (none q i t g a.if-next-r.false) ]
 
 pub shape_of-points : goal.shape_of-points
 shape_of-points c = (c.loop-v.invariant c.requires).only_points.long

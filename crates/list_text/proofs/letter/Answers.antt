@@ -11,4 +11,4 @@ returns-in-7 c = let e : c.args.kind ≡ 7 = c.in-7.is in
     rw e refl
 
 pub returns-in_default : goal.returns-in_default
-returns-in_default c = rw (ne_eqb _ 6 c.in_default.rest.0.1, ne_eqb _ 7 c.in_default.rest.1) refl
+returns-in_default c = rw (ne_eqb _ 6 c.in_default.in_default-own.rest.0.1, ne_eqb _ 7 c.in_default.in_default-own.rest.1) refl

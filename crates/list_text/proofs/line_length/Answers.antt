@@ -17,7 +17,8 @@ overflow_add-result-2 c = omega (arith, c.number_length.ensures, decimal_short c
 
 pub returns : goal.returns
 returns c = let kind = c.args.kind in
-    let n = c.args.n in (
-      omega (arith, c.number_length.ensures, c.tail_length.ensures, line_parts kind n c.if-kind-eq0.false),
-      omega (arith, c.number_length.ensures, decimal_short n, c.tail_length.ensures, tail_most kind),
-    )
+    let n = c.args.n in
+    record {
+      value = omega (arith, c.number_length.ensures, c.tail_length.ensures, line_parts kind n c.if-kind-eq0.false);
+      upper_bound = omega (arith, c.number_length.ensures, decimal_short n, c.tail_length.ensures, tail_most kind);
+    }

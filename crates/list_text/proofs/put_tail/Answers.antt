@@ -31,7 +31,7 @@ put_text-requires-in-5 c = let e : c.args.kind ≡ 5 = c.in-5.is in
     omega (arith, rw e at c.requires)
 
 pub put_text-requires-in_default : goal.put_text-requires-in_default
-put_text-requires-in_default c = omega (arith, rw (tail_rest _ c.in_default.rest.0.0.0.0.1 c.in_default.rest.0.0.0.1 c.in_default.rest.0.0.1 c.in_default.rest.0.1 c.in_default.rest.1) at c.requires)
+put_text-requires-in_default c = omega (arith, rw (tail_rest _ c.in_default.in_default-own.rest.0.0.0.0.1 c.in_default.in_default-own.rest.0.0.0.1 c.in_default.in_default-own.rest.0.0.1 c.in_default.in_default-own.rest.0.1 c.in_default.in_default-own.rest.1) at c.requires)
 
 pub returns-in-1 : goal.returns-in-1
 unfolding bytes
@@ -59,4 +59,4 @@ returns-in-5 c = let e : c.args.kind ≡ 5 = c.in-5.is in
     rw e c.put_text-in-5.ensures
 
 pub returns-in_default : goal.returns-in_default
-returns-in_default c = rw (tail_rest _ c.in_default.rest.0.0.0.0.1 c.in_default.rest.0.0.0.1 c.in_default.rest.0.0.1 c.in_default.rest.0.1 c.in_default.rest.1) c.put_text-in_default.ensures
+returns-in_default c = rw (tail_rest _ c.in_default.in_default-own.rest.0.0.0.0.1 c.in_default.in_default-own.rest.0.0.0.1 c.in_default.in_default-own.rest.0.0.1 c.in_default.in_default-own.rest.0.1 c.in_default.in_default-own.rest.1) c.put_text-in_default.ensures

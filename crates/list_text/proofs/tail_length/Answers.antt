@@ -30,4 +30,4 @@ returns-in-5 c = let e : c.args.kind ≡ 5 = c.in-5.is in
     rw e refl
 
 pub returns-in_default : goal.returns-in_default
-returns-in_default c = rw (tail_rest _ c.in_default.rest.0.0.0.0.1 c.in_default.rest.0.0.0.1 c.in_default.rest.0.0.1 c.in_default.rest.0.1 c.in_default.rest.1) refl
+returns-in_default c = rw (tail_rest _ c.in_default.in_default-own.rest.0.0.0.0.1 c.in_default.in_default-own.rest.0.0.0.1 c.in_default.in_default-own.rest.0.0.1 c.in_default.in_default-own.rest.0.1 c.in_default.in_default-own.rest.1) refl

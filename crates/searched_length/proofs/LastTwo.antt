@@ -118,20 +118,20 @@ module _ {ps : List Float} {xs w : List ℕ} {P : ℕ} (p : EndAsks ps xs w P) w
   none : 0 ≡ bytes_of []
   none = unfold each in refl
 
-  pub both_off : (split unused : Bool) → not split ≡ true → not unused ≡ true → EndGives split unused ps xs w 0 0
-  both_off true unused e f = absurd (true≢false (sym e))
-  both_off false true e f = absurd (true≢false (sym f))
+  pub both_off : (split unused : Bool) → split ≡ false → unused ≡ false → EndGives split unused ps xs w 0 0
+  both_off true unused e f = absurd (true≢false e)
+  both_off false true e f = absurd (true≢false f)
   both_off false false e f = record { splits = λ m q. none; leaves = λ m q. none }
 
-  pub only_six : (split unused : Bool) → not split ≡ true → not unused ≡ false → {r : ℕ} → UnusedGives xs w P r → EndGives split unused ps xs w 0 r
-  only_six true unused e f g = absurd (true≢false (sym e))
-  only_six false false e f g = absurd (true≢false f)
+  pub only_six : (split unused : Bool) → split ≡ false → unused ≡ true → {r : ℕ} → UnusedGives xs w P r → EndGives split unused ps xs w 0 r
+  only_six true unused e f g = absurd (true≢false e)
+  only_six false false e f g = absurd (true≢false (sym f))
   only_six false true e f g = record { splits = λ m q. none; leaves = λ m q. unfold optional in (unused_told g m q.faces (many m q)) }
 
   module _ {w' : List ℕ} {k r : ℕ} (g : SplitGives xs w P w' k r) where
-    pub only_five : (split unused : Bool) → not split ≡ false → not unused ≡ true → EndGives split unused ps xs w r 0
-    only_five false unused e f = absurd (true≢false e)
-    only_five true true e f = absurd (true≢false (sym f))
+    pub only_five : (split unused : Bool) → split ≡ true → unused ≡ false → EndGives split unused ps xs w r 0
+    only_five false unused e f = absurd (true≢false (sym e))
+    only_five true true e f = absurd (true≢false f)
     only_five true false e f = record { splits = λ m q. g.told m q.faces (many m q) inside; leaves = λ m q. none }
 
     -- the corners have been gone through
@@ -139,8 +139,8 @@ module _ {ps : List Float} {xs w : List ℕ} {P : ℕ} (p : EndAsks ps xs w P) w
     lost-ask = record { base = w; split = split_ask; stage = g.stage }
 
     pub both_on :
-        (split unused : Bool) → not split ≡ false → not unused ≡ false → {t : ℕ} → ((m : State) → m.faces ≡ viewed xs w → length m.points ≡ P → Inside P (viewed xs w) → t ≡ bytes_of (lines6 (pass5 m)))
+        (split unused : Bool) → split ≡ true → unused ≡ true → {t : ℕ} → ((m : State) → m.faces ≡ viewed xs w → length m.points ≡ P → Inside P (viewed xs w) → t ≡ bytes_of (lines6 (pass5 m)))
         → EndGives split unused ps xs w r t
-    both_on false unused e f h = absurd (true≢false e)
-    both_on true false e f h = absurd (true≢false f)
+    both_on false unused e f h = absurd (true≢false (sym e))
+    both_on true false e f h = absurd (true≢false (sym f))
     both_on true true e f h = record { splits = λ m q. g.told m q.faces (many m q) inside; leaves = λ m q. unfold optional in (h m q.faces (many m q) inside) }

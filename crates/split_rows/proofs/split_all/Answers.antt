@@ -10,6 +10,7 @@ use Rattle.split_rows.specs.declared.Run.{Run}
 use Rattle.split_rows.proofs.Vertices.{at_first}
 use Rattle.split_rows.proofs.split_all.Invariants.{Inv}
 use Rattle.split_rows.proofs.split_all.Goals as goal
+use Rattle.split_rows.proofs.split_all.Invariants.{Turn}
 
 begins : {w : List ℕ} {P m olds : ℕ} (q : AllAsks w P m olds) → Inv q w 0 P 0
 begins q = record { at_most = omega arith; only = only2_none _ _ _ _ _; reached = at_first q.rows (omega (arith, q.long, q.behind)) (omega (arith, q.long, q.room)) }

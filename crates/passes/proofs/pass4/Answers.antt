@@ -15,7 +15,7 @@ pub slice_bounds-drop_collisions-end-then-options-eq1 : goal.slice_bounds-drop_c
 slice_bounds-drop_collisions-end-then-options-eq1 c = omega (arith, as_long c.requires)
 
 pub drop_collisions-left-requires : goal.drop_collisions-left-requires
-drop_collisions-left-requires c = (turned_reads c.requires c.settle-turned.ensures.orient_gives, (c.requires.own, c.settle-turned.ensures.once))
+drop_collisions-left-requires c = record { pass_asks = turned_reads c.requires c.settle-turned.ensures.orient_gives; n_in_bounds = c.requires.own; once = c.settle-turned.ensures.once }
 
 pub overflow_sub-result : goal.overflow_sub-result
 overflow_sub-result c = left_fewer c.drop_collisions-left.ensures.leave_gives

@@ -226,7 +226,7 @@ counted_run {P} {F} {b} {n} c (none ∷ ls) e q =
     absurd (omega arith)
 counted_run {P} {F} {b} {n} c (some l ∷ ls) e q =
     let y : n + suc (length ls) ≡ n + 1 + length ls = omega arith in
-    rw y (go (precedes b.last (section l ∷ numbers l) && applies P F b l) refl (λ d. counted_run d ls e))
+    rw y (go (precedes b.last (section l ∷ numbers l) && applies P F b l) refl (λ d. counted_run {b = change b l (section l ∷ numbers l)} {n = n + 1} d ls e))
   where
     go : (t : Bool) → (precedes b.last (section l ∷ numbers l) && applies P F b l) ≡ t
         → (Counted P F (change b l (section l ∷ numbers l)) (n + 1) → through (with_list_line P F) (some (change b l (section l ∷ numbers l))) ls ≡ some e → Counted P F e (n + 1 + length ls))

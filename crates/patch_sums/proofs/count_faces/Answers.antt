@@ -40,7 +40,7 @@ pub loop-i-smaller : goal.loop-i-smaller
 loop-i-smaller c = omega (arith, c.loop-i-test.true)
 
 pub loop-i-preserved : goal.loop-i-preserved
-loop-i-preserved c = elim c.if-patch.branch [ then-patch w ↦ rw w.2 (counts c.requires c.clear.ensures.only.long c.loop-i.invariant c.loop-i-test.true w.if-patch.true) | else-patch w ↦ rw w.1 (skips c.requires c.clear.ensures.only.long c.loop-i.invariant c.loop-i-test.true w.if-patch.false) ]
+loop-i-preserved c = elim c.if-patch.branch [ then-patch w ↦ rw w.counts-is (counts c.requires c.clear.ensures.only.long c.loop-i.invariant c.loop-i-test.true w.if-patch.true) | else-patch w ↦ rw w.counts-is (skips c.requires c.clear.ensures.only.long c.loop-i.invariant c.loop-i-test.true w.if-patch.false) ]
 
 pub shape_of-counts : goal.shape_of-counts
 shape_of-counts c = c.loop-i.invariant.only.long ∙ c.clear.ensures.only.long

@@ -31,7 +31,7 @@ pub loop-i-smaller : goal.loop-i-smaller
 loop-i-smaller c = omega (arith, c.loop-i-test.true)
 
 pub loop-i-preserved : goal.loop-i-preserved
-loop-i-preserved c = elim c.if-label.branch [ then-label w ↦ rw w.5 (adds c.requires c.begin.ensures c.loop-i.invariant c.loop-i-test.true w.if-label.true w.2.ensures) | else-label w ↦ rw w.1 (skips c.requires c.begin.ensures c.loop-i.invariant c.loop-i-test.true w.if-label.false) ]
+loop-i-preserved c = elim c.if-label.branch [ then-label w ↦ rw w.numbers-is (adds c.requires c.begin.ensures c.loop-i.invariant c.loop-i-test.true w.if-label.true w.add_face.ensures) | else-label w ↦ rw w.numbers-is (skips c.requires c.begin.ensures c.loop-i.invariant c.loop-i-test.true w.if-label.false) ]
 
 pub shape_of-numbers : goal.shape_of-numbers
 shape_of-numbers c = c.loop-i.invariant.only.long ∙ c.begin.ensures.only.long

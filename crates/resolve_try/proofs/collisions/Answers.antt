@@ -3,31 +3,20 @@ use native.Mathlib.Omega.{arith}
 use Rattle.leaving.proofs.ByFlags.{may_leave, left_by, left_fewer}
 use Rattle.resolve_try.proofs.collisions.Goals as goal
 
-pub mark-marked-requires : goal.mark-marked-requires
-mark-marked-requires g c = c.requires.0
-
 pub leave-r-requires : goal.leave-r-requires
-leave-r-requires g c = let at_mark = c.before.before.before.before.before in
-    let start = at_mark.before.before.before.before.before.before.before in
-    may_leave start.requires.0.stand.fit start.requires.1 start.requires.0.stand.room at_mark.mark-marked.ensures.0
+leave-r-requires g c = may_leave c.requires.pass_asks.stand.fit c.requires.n_in_bounds c.requires.pass_asks.stand.room c.mark-marked.ensures.fact
 
 pub overflow_mul-r : goal.overflow_mul-r
-overflow_mul-r g c = let at-leave = c.before.before.before.before.before.before in
-    let at_mark = at-leave.before.before.before.before.before.before in
-    let start = at_mark.before.before.before.before.before.before.before in
-    let g = left_by at_mark.mark-marked.ensures.0 at-leave.leave-r.ensures in
-    omega (arith, left_fewer g, start.requires.0.stand.few)
+overflow_mul-r g c =
+  let left = left_by c.mark-marked.ensures.fact c.leave-r.ensures in
+  omega (arith, left_fewer left, c.requires.pass_asks.stand.few)
 
 pub row-requires : goal.row-requires
-row-requires g c = let at-leave = c.before.before.before.before.before.before in
-    let at_mark = at-leave.before.before.before.before.before.before in
-    let start = at_mark.before.before.before.before.before.before.before in
-    let g = left_by at_mark.mark-marked.ensures.0 at-leave.leave-r.ensures in
-    omega (arith, left_fewer g, g.only_faces.long, start.requires.0.stand.fit)
+row-requires g c =
+  let left = left_by c.mark-marked.ensures.fact c.leave-r.ensures in
+  omega (arith, left_fewer left, left.only_faces.long, c.requires.pass_asks.stand.fit)
 
 pub row-requires-2 : goal.row-requires-2
-row-requires-2 g c = let at-leave = c.before.before.before.before.before.before.before.before in
-    let at_mark = at-leave.before.before.before.before.before.before in
-    let start = at_mark.before.before.before.before.before.before.before in
-    let g = left_by at_mark.mark-marked.ensures.0 at-leave.leave-r.ensures in
-    omega (arith, left_fewer g, g.only_origins.long, start.requires.1)
+row-requires-2 g c =
+  let left = left_by c.mark-marked.ensures.fact c.leave-r.ensures in
+  omega (arith, left_fewer left, left.only_origins.long, c.requires.n_in_bounds)

@@ -79,7 +79,7 @@ overflow_add-r c = omega (arith, bounds c.requires c.loop-r.invariant c.loop-r-t
 
 pub loop-r-preserved : goal.loop-r-preserved
 loop-r-preserved c = let p = c.requires in
-    elim c.if-to-from-eq1.branch [ then-to-from-eq1 w ↦ rw w.9 (counts p c.loop-r.invariant c.loop-r-test.true w.2.ensures w.if-to-from-eq1.true w.6.ensures) | else-to-from-eq1 w ↦ rw w.1 (skips p c.loop-r.invariant c.loop-r-test.true w.if-to-from-eq1.false) ]
+    elim c.if-to-from-eq1.branch [ then-to-from-eq1 w ↦ rw w.work-is (counts p c.loop-r.invariant c.loop-r-test.true w.after-j.ensures w.if-to-from-eq1.true w.add.ensures) | else-to-from-eq1 w ↦ rw w.work-is (skips p c.loop-r.invariant c.loop-r-test.true w.if-to-from-eq1.false) ]
 
 pub shape_of-work : goal.shape_of-work
 shape_of-work c = c.loop-r.invariant.only.long

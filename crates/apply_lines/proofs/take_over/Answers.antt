@@ -18,7 +18,7 @@ rename_face-requires c = face_fits c.requires c.loop-at.invariant c.read_face-fa
 
 pub loop-at-smaller : goal.loop-at-smaller
 loop-at-smaller c = let g = c.read_face-face.ensures in
-    omega (arith, g.on, g.faces-1.begins)
+    omega (arith, g.on, g.faces.begins)
 
 pub loop-at-preserved : goal.loop-at-preserved
 loop-at-preserved c = again c.requires c.loop-at.invariant c.read_face-face.ensures c.rename_face.ensures

@@ -10,7 +10,11 @@ pub settle-requires : goal.settle-requires
 settle-requires c = reads c.requires.stands _ (takes4 c.requires.stands)
 
 pub record_turned-requires : goal.record_turned-requires
-record_turned-requires c = (add_asks (turned_stands c.requires.stands c.settle.ensures.orient_gives) (omega arith), ((turned_stands c.requires.stands c.settle.ensures.orient_gives).fit, c.requires.input_len))
+record_turned-requires c = record {
+  add_asks = add_asks (turned_stands c.requires.stands c.settle.ensures.orient_gives) (omega arith);
+  n_in_bounds = (turned_stands c.requires.stands c.settle.ensures.orient_gives).fit;
+  input_len = c.requires.input_len;
+}
 
 pub mark-marked-requires : goal.mark-marked-requires
 mark-marked-requires c = second_reads c.requires.stands c.settle.ensures.orient_gives c.args.input.now c.record_turned.ensures

@@ -28,9 +28,9 @@ loop-k-smaller c = omega (arith, c.loop-k-test.true)
 
 pub loop-k-preserved : goal.loop-k-preserved
 loop-k-preserved c = let p = c.requires in
-    let ek = c.key_at_is.ensures in
+    let ek = c.key_at-key.ensures in
     let ef = c.flag.ensures in
-    elim c.if-key-t.branch [ then-key-t w ↦ rw w.1 (mark_at p c.loop-k.invariant c.loop-k-test.true ek ef w.if-key-t.true) | else-key-t w ↦ rw w.1 (mark_past p c.loop-k.invariant c.loop-k-test.true ek ef w.if-key-t.false) ]
+    elim c.if-key-t.branch [ then-key-t w ↦ rw w.place-is (mark_at p c.loop-k.invariant c.loop-k-test.true ek ef w.if-key-t.true) | else-key-t w ↦ rw w.place-is (mark_past p c.loop-k.invariant c.loop-k-test.true ek ef w.if-key-t.false) ]
 
 pub shape_of-flags : goal.shape_of-flags
 shape_of-flags c = c.loop-k.invariant.only.long

@@ -23,8 +23,8 @@ loop-k-smaller c = omega (arith, c.loop-k-test.true)
 pub loop-k-preserved : goal.loop-k-preserved
 loop-k-preserved c = let v = c.loop-k.invariant in
     let h = c.loop-k-test.true in
-    let e = c.key_at_is.ensures in
-    elim c.if-t-key_at.branch [ then-t-key_at w ↦ rw w.1 (reach_more _ _ _ v h (rw e at w.if-t-key_at.true)) | else-t-key_at w ↦ rw w.1 (reach_same _ _ _ v h (rw e at w.if-t-key_at.false)) ]
+    let e = c.key_at.ensures in
+    elim c.if-t-key_at.branch [ then-t-key_at w ↦ rw w.n-is (reach_more _ _ _ v h (rw e at w.if-t-key_at.true)) | else-t-key_at w ↦ rw w.n-is (reach_same _ _ _ v h (rw e at w.if-t-key_at.false)) ]
 
 pub returns : goal.returns
 returns c = reach_done _ _ _ c.loop-k.invariant c.loop-k-test.false

@@ -22,22 +22,22 @@ pub wrapping_sub_u64-j-requires : goal.wrapping_sub_u64-j-requires
 wrapping_sub_u64-j-requires c = omega (arith, bounds c.requires c.loop-i.invariant c.loop-i-test.true)
 
 pub put_corner-requires : goal.put_corner-requires
-put_corner-requires c = corner_asks c.requires c.loop-i.invariant c.loop-i-test.true c.wrapping_sub_u64-j.ensures c.wrapping_sub_u64-j.type-inv c.if-j-outer.true c.if-j-inner.true
+put_corner-requires c = corner_asks c.requires c.loop-i.invariant c.loop-i-test.true c.wrapping_sub_u64-j.ensures.value c.wrapping_sub_u64-j.type_inv c.if-j-outer.true c.if-j-inner.true
 
 pub offset_bounds-counts-k : goal.offset_bounds-counts-k
-offset_bounds-counts-k c = omega (arith, counter_in c.requires c.loop-i.invariant c.loop-i-test.true c.wrapping_sub_u64-j.ensures c.wrapping_sub_u64-j.type-inv c.if-j-outer.true c.if-j-inner.false, counter_small c.requires c.loop-i.invariant c.loop-i-test.true c.wrapping_sub_u64-j.ensures c.wrapping_sub_u64-j.type-inv c.if-j-outer.true c.if-j-inner.false)
+offset_bounds-counts-k c = omega (arith, counter_in c.requires c.loop-i.invariant c.loop-i-test.true c.wrapping_sub_u64-j.ensures.value c.wrapping_sub_u64-j.type_inv c.if-j-outer.true c.if-j-inner.false, counter_small c.requires c.loop-i.invariant c.loop-i-test.true c.wrapping_sub_u64-j.ensures.value c.wrapping_sub_u64-j.type_inv c.if-j-outer.true c.if-j-inner.false)
 
 pub bounds-counts-k : goal.bounds-counts-k
-bounds-counts-k c = omega (arith, counter_in c.requires c.loop-i.invariant c.loop-i-test.true c.wrapping_sub_u64-j.ensures c.wrapping_sub_u64-j.type-inv c.if-j-outer.true c.if-j-inner.false, counter_small c.requires c.loop-i.invariant c.loop-i-test.true c.wrapping_sub_u64-j.ensures c.wrapping_sub_u64-j.type-inv c.if-j-outer.true c.if-j-inner.false)
+bounds-counts-k c = omega (arith, counter_in c.requires c.loop-i.invariant c.loop-i-test.true c.wrapping_sub_u64-j.ensures.value c.wrapping_sub_u64-j.type_inv c.if-j-outer.true c.if-j-inner.false, counter_small c.requires c.loop-i.invariant c.loop-i-test.true c.wrapping_sub_u64-j.ensures.value c.wrapping_sub_u64-j.type_inv c.if-j-outer.true c.if-j-inner.false)
 
 pub overflow_add-counts : goal.overflow_add-counts
-overflow_add-counts c = omega (arith, counter_in c.requires c.loop-i.invariant c.loop-i-test.true c.wrapping_sub_u64-j.ensures c.wrapping_sub_u64-j.type-inv c.if-j-outer.true c.if-j-inner.false, counter_small c.requires c.loop-i.invariant c.loop-i-test.true c.wrapping_sub_u64-j.ensures c.wrapping_sub_u64-j.type-inv c.if-j-outer.true c.if-j-inner.false)
+overflow_add-counts c = omega (arith, counter_in c.requires c.loop-i.invariant c.loop-i-test.true c.wrapping_sub_u64-j.ensures.value c.wrapping_sub_u64-j.type_inv c.if-j-outer.true c.if-j-inner.false, counter_small c.requires c.loop-i.invariant c.loop-i-test.true c.wrapping_sub_u64-j.ensures.value c.wrapping_sub_u64-j.type_inv c.if-j-outer.true c.if-j-inner.false)
 
 pub offset_bounds-counts-k-else-j-inner : goal.offset_bounds-counts-k-else-j-inner
-offset_bounds-counts-k-else-j-inner c = omega (arith, counter_in c.requires c.loop-i.invariant c.loop-i-test.true c.wrapping_sub_u64-j.ensures c.wrapping_sub_u64-j.type-inv c.if-j-outer.true c.if-j-inner.false, counter_small c.requires c.loop-i.invariant c.loop-i-test.true c.wrapping_sub_u64-j.ensures c.wrapping_sub_u64-j.type-inv c.if-j-outer.true c.if-j-inner.false)
+offset_bounds-counts-k-else-j-inner c = omega (arith, counter_in c.requires c.loop-i.invariant c.loop-i-test.true c.wrapping_sub_u64-j.ensures.value c.wrapping_sub_u64-j.type_inv c.if-j-outer.true c.if-j-inner.false, counter_small c.requires c.loop-i.invariant c.loop-i-test.true c.wrapping_sub_u64-j.ensures.value c.wrapping_sub_u64-j.type_inv c.if-j-outer.true c.if-j-inner.false)
 
 pub bounds-counts-k-else-j-inner : goal.bounds-counts-k-else-j-inner
-bounds-counts-k-else-j-inner c = omega (arith, counter_in c.requires c.loop-i.invariant c.loop-i-test.true c.wrapping_sub_u64-j.ensures c.wrapping_sub_u64-j.type-inv c.if-j-outer.true c.if-j-inner.false, counter_small c.requires c.loop-i.invariant c.loop-i-test.true c.wrapping_sub_u64-j.ensures c.wrapping_sub_u64-j.type-inv c.if-j-outer.true c.if-j-inner.false)
+bounds-counts-k-else-j-inner c = omega (arith, counter_in c.requires c.loop-i.invariant c.loop-i-test.true c.wrapping_sub_u64-j.ensures.value c.wrapping_sub_u64-j.type_inv c.if-j-outer.true c.if-j-inner.false, counter_small c.requires c.loop-i.invariant c.loop-i-test.true c.wrapping_sub_u64-j.ensures.value c.wrapping_sub_u64-j.type_inv c.if-j-outer.true c.if-j-inner.false)
 
 pub overflow_add-i : goal.overflow_add-i
 overflow_add-i c = omega (arith, bounds c.requires c.loop-i.invariant c.loop-i-test.true)
@@ -46,8 +46,8 @@ pub loop-i-preserved : goal.loop-i-preserved
 loop-i-preserved c = let p = c.requires in
     let q = c.loop-i.invariant in
     let h = c.loop-i-test.true in
-    let x = c.wrapping_sub_u64-j.ensures in
-    let y = c.wrapping_sub_u64-j.type-inv in
+    let x = c.wrapping_sub_u64-j.ensures.value in
+    let y = c.wrapping_sub_u64-j.type_inv in
     ⊎_elim
     (λ w. rw (w.9, w.10, w.11) (putting p q h x y w.0.taken w.1.taken w.4.ensures))
     (⊎_elim

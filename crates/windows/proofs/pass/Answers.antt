@@ -2,6 +2,7 @@
 use Rattle.std.proofs.Common.{◌-◌, ⊎_elim, arith}
 use Rattle.windows.proofs.Passing.{begin, bounds, elsewhere, counter_in, counter_small, counting, corner_asks, putting, done}
 use Rattle.windows.proofs.pass.Goals as goal
+use Rattle.windows.proofs.pass.Goals.{then-j-outer+then-j-inner, then-j-outer+else-j-inner, else-j-outer}
 
 pub overflow_add-outer : goal.overflow_add-outer
 overflow_add-outer c = let h = c.requires in omega (arith, h)
@@ -48,12 +49,11 @@ loop-i-preserved c = let p = c.requires in
     let h = c.loop-i-test.true in
     let x = c.wrapping_sub_u64-j.ensures.value in
     let y = c.wrapping_sub_u64-j.type_inv in
-    ⊎_elim
-    (λ w. rw (w.9, w.10, w.11) (putting p q h x y w.0.taken w.1.taken w.4.ensures))
-    (⊎_elim
-    (λ w. rw (w.3, w.4, w.5) (counting p q h x y w.0.taken w.1.left))
-    (λ w. rw (w.1, w.2, w.3) (elsewhere p q h x y w.0.left)))
-    c.if-j-outer.branch
+    elim c.if-j-outer.branch [
+      then-j-outer+then-j-inner w ↦ rw (w.ends-is, w.buffer-is, w.counts-is) (putting p q h x y w.if-j-outer.true w.if-j-inner.true w.put_corner.ensures)
+      | then-j-outer+else-j-inner w ↦ rw (w.ends-is, w.buffer-is, w.counts-is) (counting p q h x y w.if-j-outer.true w.if-j-inner.false)
+      | else-j-outer w ↦ rw (w.ends-is, w.buffer-is, w.counts-is) (elsewhere p q h x y w.if-j-outer.false)
+    ]
 
 pub shape_of-ends : goal.shape_of-ends
 shape_of-ends c = c.loop-i.invariant.ends_long

@@ -1,0 +1,5 @@
+-- `shell_c::shell_repair_panel` meets its contract: its clauses are those of the call. Assumes nothing.
+use Rattle.shell_c.proofs.shell_repair_panel.Goals as goal
+
+pub returns : goal.returns
+returns c = c.shell_repair_panel.ensures

@@ -31,7 +31,7 @@ overflow_add-room-in-loop-k c = omega (arith, c.shared_slice_known-in-loop-k-1.g
 
 pub loop-k-preserved : goal.loop-k-preserved
 loop-k-preserved c = let e = c.requires in
-    elim c.if-most-room.branch [ then-most-room w ↦ rw w.1 (larger e c.loop-k.invariant c.loop-k-test.true w.if-most-room.true) | else-most-room w ↦ rw w.1 (not_larger e c.loop-k.invariant c.loop-k-test.true w.if-most-room.false) ]
+    elim c.if-most-room.branch [ then-most-room w ↦ rw w.most-is (larger e c.loop-k.invariant c.loop-k-test.true w.if-most-room.true) | else-most-room w ↦ rw w.most-is (not_larger e c.loop-k.invariant c.loop-k-test.true w.if-most-room.false) ]
 
 pub returns : goal.returns
 returns c = done c.requires c.loop-k.invariant c.loop-k-test.false

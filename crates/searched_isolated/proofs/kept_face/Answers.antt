@@ -29,14 +29,14 @@ overflow_add-result c = omega (arith, c.kept_corner.ensures, c.kept_corner-2.ens
 -- src/lib.rt:51:5
 pub overflow_add-result-2 : goal.overflow_add-result-2
 overflow_add-result-2 c = omega (
-      arith,
-      c.kept_corner.ensures,
-      c.kept_corner-2.ensures,
-      c.kept_corner-3.ensures,
-      first_most c.args.faces.now c.args.words.now c.args.f 0,
-      first_most c.args.faces.now c.args.words.now c.args.f 1,
-      first_most c.args.faces.now c.args.words.now c.args.f 2,
-    )
+  arith,
+  c.kept_corner.ensures,
+  c.kept_corner-2.ensures,
+  c.kept_corner-3.ensures,
+  first_most c.args.faces.now c.args.words.now c.args.f 0,
+  first_most c.args.faces.now c.args.words.now c.args.f 1,
+  first_most c.args.faces.now c.args.words.now c.args.f 2,
+)
 
 -- src/lib.rt:43:1
 pub returns : goal.returns

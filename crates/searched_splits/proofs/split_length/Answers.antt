@@ -33,8 +33,11 @@ loop-f-smaller c = omega (arith, c.loop-f-test.true, c.loop-f.invariant.stage.lo
 -- src/lib.rt:209:5
 pub loop-f-preserved : goal.loop-f-preserved
 loop-f-preserved c = let p = c.requires.split_asks in
-    elim c.if-stands.branch [ then-stands w ↦ let e = sym c.stands.ensures ∙ w.if-stands.true in
-        rw (w.words-is, w.splits-is, w.bytes-is) (face_more p c.loop-f.invariant c.loop-f-test.true e (w.split_face-told.ensures (ask p c.loop-f.invariant c.loop-f-test.true e))) | else-stands w ↦ rw (w.words-is, w.splits-is, w.bytes-is) (face_none p c.loop-f.invariant c.loop-f-test.true (sym c.stands.ensures ∙ w.if-stands.false)) ]
+    elim c.if-stands.branch [
+      | then-stands w ↦ let e = sym c.stands.ensures ∙ w.if-stands.true in
+          rw (w.words-is, w.splits-is, w.bytes-is) (face_more p c.loop-f.invariant c.loop-f-test.true e (w.split_face-told.ensures (ask p c.loop-f.invariant c.loop-f-test.true e)))
+      | else-stands w ↦ rw (w.words-is, w.splits-is, w.bytes-is) (face_none p c.loop-f.invariant c.loop-f-test.true (sym c.stands.ensures ∙ w.if-stands.false))
+    ]
 
 -- src/lib.rt:202:1
 pub shape_of-words : goal.shape_of-words

@@ -50,7 +50,7 @@ loop-i-preserved c = let p = c.requires in
     let x = c.wrapping_sub_u64-j.ensures.value in
     let y = c.wrapping_sub_u64-j.type_inv in
     elim c.if-j-outer.branch [
-      then-j-outer+then-j-inner w ↦ rw (w.ends-is, w.buffer-is, w.counts-is) (putting p q h x y w.if-j-outer.true w.if-j-inner.true w.put_corner.ensures)
+      | then-j-outer+then-j-inner w ↦ rw (w.ends-is, w.buffer-is, w.counts-is) (putting p q h x y w.if-j-outer.true w.if-j-inner.true w.put_corner.ensures)
       | then-j-outer+else-j-inner w ↦ rw (w.ends-is, w.buffer-is, w.counts-is) (counting p q h x y w.if-j-outer.true w.if-j-inner.false)
       | else-j-outer w ↦ rw (w.ends-is, w.buffer-is, w.counts-is) (elsewhere p q h x y w.if-j-outer.false)
     ]

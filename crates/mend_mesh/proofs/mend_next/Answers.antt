@@ -91,28 +91,28 @@ slice_bounds-mend_one-count-7 c = omega (arith, c.requires)
 
 pub mend_one-share-requires : goal.mend_one-share-requires
 mend_one-share-requires c = let a = c.args in
-    one_asks a.points.now a.faces.now a.p a.f a.out_points-1.now a.out_faces-1.now a.report-1.now a.origins-1.now a.meshes-1.now a.work-1.now a.k a.at c.requires
+    one_asks a.points.now a.faces.now a.p a.f a.out_points.now a.out_faces.now a.report.now a.origins.now a.meshes.now a.work.now a.k a.at c.requires
 
 pub overflow_add-result : goal.overflow_add-result
 overflow_add-result c = let a = c.args in
-    record { fits = below_all (ends a.points.now a.faces.now a.p a.f a.out_points-1.now a.out_faces-1.now a.report-1.now a.origins-1.now a.meshes-1.now a.work-1.now a.k a.at c.requires a.s a.options c.mend_one-share.ensures).mended_end c.well_formed.1.1.1.1.1.1.0.0 }
+    record { fits = below_all (ends a.points.now a.faces.now a.p a.f a.out_points.now a.out_faces.now a.report.now a.origins.now a.meshes.now a.work.now a.k a.at c.requires a.s a.options c.mend_one-share.ensures).mended_end c.well_formed.1.1.1.1.1.1.0.0 }
 
 pub overflow_add-result-2 : goal.overflow_add-result-2
 overflow_add-result-2 c = let a = c.args in
-    record { fits = below_all (ends a.points.now a.faces.now a.p a.f a.out_points-1.now a.out_faces-1.now a.report-1.now a.origins-1.now a.meshes-1.now a.work-1.now a.k a.at c.requires a.s a.options c.mend_one-share.ensures).triples_end c.well_formed.1.1.1.1.1.1.1.0.0 }
+    record { fits = below_all (ends a.points.now a.faces.now a.p a.f a.out_points.now a.out_faces.now a.report.now a.origins.now a.meshes.now a.work.now a.k a.at c.requires a.s a.options c.mend_one-share.ensures).triples_end c.well_formed.1.1.1.1.1.1.1.0.0 }
 
 pub overflow_add-result-3 : goal.overflow_add-result-3
 overflow_add-result-3 c = let a = c.args in
-    record { fits = below_all (ends a.points.now a.faces.now a.p a.f a.out_points-1.now a.out_faces-1.now a.report-1.now a.origins-1.now a.meshes-1.now a.work-1.now a.k a.at c.requires a.s a.options c.mend_one-share.ensures).counts_end c.well_formed.1.1.1.1.1.1.1.1.0.0 }
+    record { fits = below_all (ends a.points.now a.faces.now a.p a.f a.out_points.now a.out_faces.now a.report.now a.origins.now a.meshes.now a.work.now a.k a.at c.requires a.s a.options c.mend_one-share.ensures).counts_end c.well_formed.1.1.1.1.1.1.1.1.0.0 }
 
 pub overflow_add-result-4 : goal.overflow_add-result-4
 overflow_add-result-4 c = let a = c.args in
-    record { fits = below_all (ends a.points.now a.faces.now a.p a.f a.out_points-1.now a.out_faces-1.now a.report-1.now a.origins-1.now a.meshes-1.now a.work-1.now a.k a.at c.requires a.s a.options c.mend_one-share.ensures).origins_end c.well_formed.1.1.1.1.1.1.1.1.1.0.0 }
+    record { fits = below_all (ends a.points.now a.faces.now a.p a.f a.out_points.now a.out_faces.now a.report.now a.origins.now a.meshes.now a.work.now a.k a.at c.requires a.s a.options c.mend_one-share.ensures).origins_end c.well_formed.1.1.1.1.1.1.1.1.1.0.0 }
 
 pub shape_of-out_points : goal.shape_of-out_points
 shape_of-out_points c = let a = c.args in
-    (gives a.points.now a.faces.now a.p a.f a.out_points-1.now a.out_faces-1.now a.report-1.now a.origins-1.now a.meshes-1.now a.work-1.now a.k a.at c.requires a.s a.options c.mend_one-share.ensures c.mend_one-share.auto.out_points c.mend_one-share.auto.out_faces c.mend_one-share.auto.report c.mend_one-share.auto.origins c.mend_one-share.auto.four).out_points.only.long
+    (gives a.points.now a.faces.now a.p a.f a.out_points.now a.out_faces.now a.report.now a.origins.now a.meshes.now a.work.now a.k a.at c.requires a.s a.options c.mend_one-share.ensures c.mend_one-share.auto.out_points c.mend_one-share.auto.out_faces c.mend_one-share.auto.report c.mend_one-share.auto.origins c.mend_one-share.auto.four).out_points.only.long
 
 pub returns : goal.returns
 returns c = let a = c.args in
-    gives a.points.now a.faces.now a.p a.f a.out_points-1.now a.out_faces-1.now a.report-1.now a.origins-1.now a.meshes-1.now a.work-1.now a.k a.at c.requires a.s a.options c.mend_one-share.ensures c.mend_one-share.auto.out_points c.mend_one-share.auto.out_faces c.mend_one-share.auto.report c.mend_one-share.auto.origins c.mend_one-share.auto.four
+    gives a.points.now a.faces.now a.p a.f a.out_points.now a.out_faces.now a.report.now a.origins.now a.meshes.now a.work.now a.k a.at c.requires a.s a.options c.mend_one-share.ensures c.mend_one-share.auto.out_points c.mend_one-share.auto.out_faces c.mend_one-share.auto.report c.mend_one-share.auto.origins c.mend_one-share.auto.four

@@ -5,86 +5,86 @@ use Rattle.repair.proofs.repair.Goals as goal
 
 pub returns-in-Refused : goal.returns-in-Refused
 returns-in-Refused c = let a = c.args in
-    is_refused a.points.now a.faces.now a.s a.options a.out_points-1.now a.out_faces-1.now a.report-1.now a.origins-1.now a.work-1.now _ c.repair_refusal.ensures _ _ c.in-Refused.is
+    is_refused a.points.now a.faces.now a.s a.options a.out_points.now a.out_faces.now a.report.now a.origins.now a.work.now _ c.repair_refusal.ensures _ _ c.in-Refused.is
 
 pub mend-mended-requires : goal.mend-mended-requires
 mend-mended-requires c = let a = c.args in
-    mend_asks a.points.now a.faces.now a.s a.options a.out_points-1.now a.out_faces-1.now a.report-1.now a.origins-1.now a.work-1.now _ c.repair_refusal.ensures c.in-Fine.is
+    mend_asks a.points.now a.faces.now a.s a.options a.out_points.now a.out_faces.now a.report.now a.origins.now a.work.now _ c.repair_refusal.ensures c.in-Fine.is
 
 pub overflow_mul-a : goal.overflow_mul-a
 overflow_mul-a c = let a = c.args in
-    omega (arith, sizes a.points.now a.faces.now a.s a.options a.out_points-1.now a.out_faces-1.now a.report-1.now a.origins-1.now a.work-1.now _ c.repair_refusal.ensures c.in-Fine.is c.mend-mended.ensures)
+    omega (arith, sizes a.points.now a.faces.now a.s a.options a.out_points.now a.out_faces.now a.report.now a.origins.now a.work.now _ c.repair_refusal.ensures c.in-Fine.is c.mend-mended.ensures)
 
 pub overflow_mul-b : goal.overflow_mul-b
 overflow_mul-b c = let a = c.args in
-    omega (arith, sizes a.points.now a.faces.now a.s a.options a.out_points-1.now a.out_faces-1.now a.report-1.now a.origins-1.now a.work-1.now _ c.repair_refusal.ensures c.in-Fine.is c.mend-mended.ensures)
+    omega (arith, sizes a.points.now a.faces.now a.s a.options a.out_points.now a.out_faces.now a.report.now a.origins.now a.work.now _ c.repair_refusal.ensures c.in-Fine.is c.mend-mended.ensures)
 
 pub overflow_mul-n : goal.overflow_mul-n
 overflow_mul-n c = let a = c.args in
-    omega (arith, sizes a.points.now a.faces.now a.s a.options a.out_points-1.now a.out_faces-1.now a.report-1.now a.origins-1.now a.work-1.now _ c.repair_refusal.ensures c.in-Fine.is c.mend-mended.ensures)
+    omega (arith, sizes a.points.now a.faces.now a.s a.options a.out_points.now a.out_faces.now a.report.now a.origins.now a.work.now _ c.repair_refusal.ensures c.in-Fine.is c.mend-mended.ensures)
 
 pub overflow_add-p : goal.overflow_add-p
 overflow_add-p c = let a = c.args in
-    omega (arith, sizes a.points.now a.faces.now a.s a.options a.out_points-1.now a.out_faces-1.now a.report-1.now a.origins-1.now a.work-1.now _ c.repair_refusal.ensures c.in-Fine.is c.mend-mended.ensures)
+    omega (arith, sizes a.points.now a.faces.now a.s a.options a.out_points.now a.out_faces.now a.report.now a.origins.now a.work.now _ c.repair_refusal.ensures c.in-Fine.is c.mend-mended.ensures)
 
 pub overflow_mul-p : goal.overflow_mul-p
 overflow_mul-p c = let a = c.args in
-    omega (arith, sizes a.points.now a.faces.now a.s a.options a.out_points-1.now a.out_faces-1.now a.report-1.now a.origins-1.now a.work-1.now _ c.repair_refusal.ensures c.in-Fine.is c.mend-mended.ensures)
+    omega (arith, sizes a.points.now a.faces.now a.s a.options a.out_points.now a.out_faces.now a.report.now a.origins.now a.work.now _ c.repair_refusal.ensures c.in-Fine.is c.mend-mended.ensures)
 
 pub overflow_sub-p : goal.overflow_sub-p
 overflow_sub-p c = let a = c.args in
-    omega (arith, sizes a.points.now a.faces.now a.s a.options a.out_points-1.now a.out_faces-1.now a.report-1.now a.origins-1.now a.work-1.now _ c.repair_refusal.ensures c.in-Fine.is c.mend-mended.ensures)
+    omega (arith, sizes a.points.now a.faces.now a.s a.options a.out_points.now a.out_faces.now a.report.now a.origins.now a.work.now _ c.repair_refusal.ensures c.in-Fine.is c.mend-mended.ensures)
 
 pub wipe_points-requires : goal.wipe_points-requires
 wipe_points-requires c = let a = c.args in
-    omega (arith, sizes a.points.now a.faces.now a.s a.options a.out_points-1.now a.out_faces-1.now a.report-1.now a.origins-1.now a.work-1.now _ c.repair_refusal.ensures c.in-Fine.is c.mend-mended.ensures)
+    omega (arith, sizes a.points.now a.faces.now a.s a.options a.out_points.now a.out_faces.now a.report.now a.origins.now a.work.now _ c.repair_refusal.ensures c.in-Fine.is c.mend-mended.ensures)
 
 pub overflow_mul-n-2 : goal.overflow_mul-n-2
 overflow_mul-n-2 c = let a = c.args in
-    omega (arith, sizes a.points.now a.faces.now a.s a.options a.out_points-1.now a.out_faces-1.now a.report-1.now a.origins-1.now a.work-1.now _ c.repair_refusal.ensures c.in-Fine.is c.mend-mended.ensures)
+    omega (arith, sizes a.points.now a.faces.now a.s a.options a.out_points.now a.out_faces.now a.report.now a.origins.now a.work.now _ c.repair_refusal.ensures c.in-Fine.is c.mend-mended.ensures)
 
 pub overflow_sub-n : goal.overflow_sub-n
 overflow_sub-n c = let a = c.args in
-    omega (arith, sizes a.points.now a.faces.now a.s a.options a.out_points-1.now a.out_faces-1.now a.report-1.now a.origins-1.now a.work-1.now _ c.repair_refusal.ensures c.in-Fine.is c.mend-mended.ensures)
+    omega (arith, sizes a.points.now a.faces.now a.s a.options a.out_points.now a.out_faces.now a.report.now a.origins.now a.work.now _ c.repair_refusal.ensures c.in-Fine.is c.mend-mended.ensures)
 
 pub wipe-requires : goal.wipe-requires
 wipe-requires c = let a = c.args in
-    omega (arith, sizes a.points.now a.faces.now a.s a.options a.out_points-1.now a.out_faces-1.now a.report-1.now a.origins-1.now a.work-1.now _ c.repair_refusal.ensures c.in-Fine.is c.mend-mended.ensures)
+    omega (arith, sizes a.points.now a.faces.now a.s a.options a.out_points.now a.out_faces.now a.report.now a.origins.now a.work.now _ c.repair_refusal.ensures c.in-Fine.is c.mend-mended.ensures)
 
 pub write_report-requires : goal.write_report-requires
 write_report-requires c = let a = c.args in
-    report_asks a.points.now a.faces.now a.s a.options a.out_points-1.now a.out_faces-1.now a.report-1.now a.origins-1.now a.work-1.now _ c.repair_refusal.ensures c.in-Fine.is c.mend-mended.ensures
+    report_asks a.points.now a.faces.now a.s a.options a.out_points.now a.out_faces.now a.report.now a.origins.now a.work.now _ c.repair_refusal.ensures c.in-Fine.is c.mend-mended.ensures
 
 pub overflow_sub-n-2 : goal.overflow_sub-n-2
 overflow_sub-n-2 c = let a = c.args in
-    omega (arith, sizes a.points.now a.faces.now a.s a.options a.out_points-1.now a.out_faces-1.now a.report-1.now a.origins-1.now a.work-1.now _ c.repair_refusal.ensures c.in-Fine.is c.mend-mended.ensures)
+    omega (arith, sizes a.points.now a.faces.now a.s a.options a.out_points.now a.out_faces.now a.report.now a.origins.now a.work.now _ c.repair_refusal.ensures c.in-Fine.is c.mend-mended.ensures)
 
 pub wipe-requires-2 : goal.wipe-requires-2
 wipe-requires-2 c = let a = c.args in
-    omega (arith, sizes a.points.now a.faces.now a.s a.options a.out_points-1.now a.out_faces-1.now a.report-1.now a.origins-1.now a.work-1.now _ c.repair_refusal.ensures c.in-Fine.is c.mend-mended.ensures)
+    omega (arith, sizes a.points.now a.faces.now a.s a.options a.out_points.now a.out_faces.now a.report.now a.origins.now a.work.now _ c.repair_refusal.ensures c.in-Fine.is c.mend-mended.ensures)
 
 pub overflow_mul-p-2 : goal.overflow_mul-p-2
 overflow_mul-p-2 c = let a = c.args in
-    omega (arith, sizes a.points.now a.faces.now a.s a.options a.out_points-1.now a.out_faces-1.now a.report-1.now a.origins-1.now a.work-1.now _ c.repair_refusal.ensures c.in-Fine.is c.mend-mended.ensures)
+    omega (arith, sizes a.points.now a.faces.now a.s a.options a.out_points.now a.out_faces.now a.report.now a.origins.now a.work.now _ c.repair_refusal.ensures c.in-Fine.is c.mend-mended.ensures)
 
 pub overflow_mul-n-3 : goal.overflow_mul-n-3
 overflow_mul-n-3 c = let a = c.args in
-    omega (arith, sizes a.points.now a.faces.now a.s a.options a.out_points-1.now a.out_faces-1.now a.report-1.now a.origins-1.now a.work-1.now _ c.repair_refusal.ensures c.in-Fine.is c.mend-mended.ensures)
+    omega (arith, sizes a.points.now a.faces.now a.s a.options a.out_points.now a.out_faces.now a.report.now a.origins.now a.work.now _ c.repair_refusal.ensures c.in-Fine.is c.mend-mended.ensures)
 
 pub overflow_add-p-2 : goal.overflow_add-p-2
 overflow_add-p-2 c = let a = c.args in
-    omega (arith, sizes a.points.now a.faces.now a.s a.options a.out_points-1.now a.out_faces-1.now a.report-1.now a.origins-1.now a.work-1.now _ c.repair_refusal.ensures c.in-Fine.is c.mend-mended.ensures)
+    omega (arith, sizes a.points.now a.faces.now a.s a.options a.out_points.now a.out_faces.now a.report.now a.origins.now a.work.now _ c.repair_refusal.ensures c.in-Fine.is c.mend-mended.ensures)
 
 pub overflow_add-p-3 : goal.overflow_add-p-3
 overflow_add-p-3 c = let a = c.args in
-    omega (arith, sizes a.points.now a.faces.now a.s a.options a.out_points-1.now a.out_faces-1.now a.report-1.now a.origins-1.now a.work-1.now _ c.repair_refusal.ensures c.in-Fine.is c.mend-mended.ensures)
+    omega (arith, sizes a.points.now a.faces.now a.s a.options a.out_points.now a.out_faces.now a.report.now a.origins.now a.work.now _ c.repair_refusal.ensures c.in-Fine.is c.mend-mended.ensures)
 
 pub wipe-requires-3 : goal.wipe-requires-3
 wipe-requires-3 c = let a = c.args in
-    omega (arith, sizes a.points.now a.faces.now a.s a.options a.out_points-1.now a.out_faces-1.now a.report-1.now a.origins-1.now a.work-1.now _ c.repair_refusal.ensures c.in-Fine.is c.mend-mended.ensures)
+    omega (arith, sizes a.points.now a.faces.now a.s a.options a.out_points.now a.out_faces.now a.report.now a.origins.now a.work.now _ c.repair_refusal.ensures c.in-Fine.is c.mend-mended.ensures)
 
 pub returns : goal.returns
 returns c = let a = c.args in
-    is_done a.points.now a.faces.now a.s a.options a.out_points-1.now a.out_faces-1.now a.report-1.now a.origins-1.now a.work-1.now _ c.repair_refusal.ensures c.in-Fine.is c.mend-mended.ensures
+    is_done a.points.now a.faces.now a.s a.options a.out_points.now a.out_faces.now a.report.now a.origins.now a.work.now _ c.repair_refusal.ensures c.in-Fine.is c.mend-mended.ensures
     c.wipe_points.ensures.only_of c.wipe_points.ensures.holds_of c.wipe.ensures.only c.wipe.ensures.filled c.write_report.ensures
     c.wipe-2.ensures.only c.wipe-2.ensures.filled c.wipe-3.ensures.only c.wipe-3.ensures.filled

@@ -33,7 +33,7 @@ pub loop-k-preserved : goal.loop-k-preserved
 loop-k-preserved c = let p = c.requires in
     let er = c.read-r.ensures in
     let ef = c.falls.ensures in
-    elim c.if-falls.branch [ then-falls w ↦ rw w.1 (drop_one p c.loop-k.invariant c.loop-k-test.true er ef w.if-falls.true) | else-falls w ↦ rw w.1 (keep_one p c.loop-k.invariant c.loop-k-test.true er ef w.if-falls.false) ]
+    elim c.if-falls.branch [ then-falls w ↦ rw w.flags-is (drop_one p c.loop-k.invariant c.loop-k-test.true er ef w.if-falls.true) | else-falls w ↦ rw w.flags-is (keep_one p c.loop-k.invariant c.loop-k-test.true er ef w.if-falls.false) ]
 
 pub shape_of-flags : goal.shape_of-flags
 shape_of-flags c = c.loop-k.invariant.only.long

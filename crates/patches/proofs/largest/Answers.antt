@@ -20,7 +20,7 @@ loop-k-smaller c = omega (arith, c.loop-k-test.true)
 pub loop-k-preserved : goal.loop-k-preserved
 loop-k-preserved c = let v = c.loop-k.invariant in
     let h = c.loop-k-test.true in
-    elim c.if-held-area.branch [ then-held-area w ↦ rw w.1 (largest_more _ _ v h w.if-held-area.true) | else-held-area w ↦ rw w.1 (largest_same _ _ v h w.if-held-area.false) ]
+    elim c.if-held-area.branch [ then-held-area w ↦ rw w.held-is (largest_more _ _ v h w.if-held-area.true) | else-held-area w ↦ rw w.held-is (largest_same _ _ v h w.if-held-area.false) ]
 
 pub returns : goal.returns
 returns c = largest_done _ _ c.loop-k.invariant c.loop-k-test.false

@@ -8,7 +8,6 @@ use native.Mathlib.Decide.{ℕ_discrete}
 use borrow.Author.Tests.{eq-eqb, ne_eqb}
 use lib.Dec.{eqb}
 use lib.ListN.{length, get_or}
-use Rattle.rows.specs.Filter as rows-filter
 use Rattle.rows.specs.Filter.{keep}
 use Rattle.rows.specs.Retain.{up_to}
 use Rattle.rows.proofs.FilterLaws as filter-laws

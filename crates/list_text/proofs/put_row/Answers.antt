@@ -1,6 +1,6 @@
 -- `list_text::put_row` meets its contract: the lines of the entries before i are put. Assumes nothing.
 use mathlib.Core.Path.{sym, subst}
-use Prim.Native.Nat.{ℕ, ◌+◌, ◌-◌, ◌≤◌}
+use Prim.Native.Nat.{ℕ, ◌+◌, ◌≤◌}
 use native.Mathlib.Omega.{arith}
 use lib.ListN.{length}
 use Rattle.list_text.specs.Written.{kind_text, line_at}

@@ -1,5 +1,4 @@
 -- `list_text::put_splits` meets its contract: the lines before j are put, and the cursor is at the corners of the next new point. Assumes nothing.
-use Prim.Native.Nat.{◌-◌}
 use native.Mathlib.Omega.{arith}
 use Rattle.list_text.proofs.Splits.{first_asks, next_asks, split_asks, place_begin, place_room, place_on, place_done}
 use Rattle.list_text.proofs.put_splits.Goals as goal

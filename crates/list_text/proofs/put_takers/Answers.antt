@@ -1,5 +1,4 @@
 -- `list_text::put_takers` meets its contract: the fields at the corners before q are put. Assumes nothing.
-use Prim.Native.Nat.{◌-◌}
 use native.Mathlib.Omega.{arith}
 use Rattle.list_text.proofs.Takers.{corner_at, take_begin, take_room, take_on, take_done}
 use Rattle.list_text.proofs.put_takers.Goals as goal

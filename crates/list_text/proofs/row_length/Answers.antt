@@ -1,6 +1,6 @@
 -- `list_text::row_length` meets its contract: the lengths of the lines of the entries before i are summed. Assumes nothing.
 use mathlib.Core.Path.{ap, ◌∙◌}
-use Prim.Native.Nat.{ℕ, ◌-◌}
+use Prim.Native.Nat.{ℕ}
 use native.Mathlib.Omega.{arith}
 use lib.ListN.{length}
 use Rattle.list_text.specs.Written.{kind_text, line_at}

@@ -1,5 +1,4 @@
 -- `list_text::splits_length` meets its contract: the lengths of the lines before j are summed, and the cursor is at the corners of the next new point. Assumes nothing.
-use Prim.Native.Nat.{◌-◌}
 use native.Mathlib.Omega.{arith}
 use Rattle.list_text.proofs.Splits.{first_asks, next_asks, split_asks, total_begin, total_on, total_small, total_done}
 use Rattle.list_text.proofs.splits_length.Goals as goal

@@ -1,5 +1,4 @@
 -- `list_text::takers_length` meets its contract: the lengths of the fields at the corners before q are summed. Assumes nothing.
-use Prim.Native.Nat.{◌-◌}
 use native.Mathlib.Omega.{arith}
 use Rattle.list_text.proofs.Takers.{corner_at, measure_begin, measure_on, measure_done}
 use Rattle.list_text.proofs.takers_length.Goals as goal

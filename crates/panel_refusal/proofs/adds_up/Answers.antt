@@ -8,10 +8,10 @@ pub loop-k-init : goal.loop-k-init
 loop-k-init c = begin _ _
 
 pub overflow_cast-taken : goal.overflow_cast-taken
-overflow_cast-taken c = omega (arith, c.shared_slice_known-1.given c.loop-k.k)
+overflow_cast-taken c = omega (arith, c.type_inv.counts c.loop-k.k)
 
 pub overflow_mul-taken : goal.overflow_mul-taken
-overflow_mul-taken c = omega (arith, c.shared_slice_known-1.given c.loop-k.k)
+overflow_mul-taken c = omega (arith, c.type_inv.counts c.loop-k.k)
 
 pub returns-then-left-taken : goal.returns-then-left-taken
 returns-then-left-taken c = too_much c.loop-k.invariant c.loop-k-test.true c.if-left-taken.true

@@ -9,25 +9,25 @@ pub loop-k-init : goal.loop-k-init
 loop-k-init c = begin _ _
 
 pub overflow_cast-room : goal.overflow_cast-room
-overflow_cast-room c = omega (arith, c.shared_slice_known-1.given c.loop-k.k)
+overflow_cast-room c = omega (arith, c.type_inv.point_counts c.loop-k.k)
 
 pub overflow_mul-room : goal.overflow_mul-room
-overflow_mul-room c = omega (arith, c.shared_slice_known-1.given c.loop-k.k)
+overflow_mul-room c = omega (arith, c.type_inv.point_counts c.loop-k.k)
 
 pub bounds-face_counts-k : goal.bounds-face_counts-k
 bounds-face_counts-k c = omega (arith, c.requires)
 
 pub overflow_cast-room-in-loop-k : goal.overflow_cast-room-in-loop-k
-overflow_cast-room-in-loop-k c = omega (arith, c.shared_slice_known-in-loop-k-1.given c.loop-k.k)
+overflow_cast-room-in-loop-k c = omega (arith, c.type_inv.face_counts c.loop-k.k)
 
 pub overflow_mul-room-in-loop-k : goal.overflow_mul-room-in-loop-k
-overflow_mul-room-in-loop-k c = omega (arith, c.shared_slice_known-in-loop-k-1.given c.loop-k.k)
+overflow_mul-room-in-loop-k c = omega (arith, c.type_inv.face_counts c.loop-k.k)
 
 pub overflow_add-room : goal.overflow_add-room
-overflow_add-room c = omega (arith, c.shared_slice_known-in-loop-k-1.given c.loop-k.k, c.shared_slice_known-1.given c.loop-k.k)
+overflow_add-room c = omega (arith, c.type_inv.face_counts c.loop-k.k, c.type_inv.point_counts c.loop-k.k)
 
 pub overflow_add-room-in-loop-k : goal.overflow_add-room-in-loop-k
-overflow_add-room-in-loop-k c = omega (arith, c.shared_slice_known-in-loop-k-1.given c.loop-k.k, c.shared_slice_known-1.given c.loop-k.k)
+overflow_add-room-in-loop-k c = omega (arith, c.type_inv.face_counts c.loop-k.k, c.type_inv.point_counts c.loop-k.k)
 
 pub loop-k-preserved : goal.loop-k-preserved
 loop-k-preserved c = let e = c.requires in

@@ -51,5 +51,5 @@ returns-in-8 c = let e : c.args.k ≡ 8 = c.in-8.is in
 
 pub returns-in_default : goal.returns-in_default
 unfolding bytes labels
-returns-in_default c = let e : c.args.k ≡ 9 = only_nine c.requires.label c.in_default.rest in
+returns-in_default c = let e : c.args.k ≡ 9 = only_nine c.requires.label c.in_default.in_default-own.rest in
     rw e c.put_text-in_default.ensures

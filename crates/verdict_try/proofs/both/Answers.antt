@@ -10,6 +10,11 @@ table-m-requires g c = let p = c.requires in table_asks p.input p.room_work
 pub boundary-requires : goal.boundary-requires
 boundary-requires g c = let p = c.requires in boundary_asks p.input p.room_work c.table-m.ensures
 
+pub slice_bounds-row-count : goal.slice_bounds-row-count
+slice_bounds-row-count g c = let p = c.requires in
+    let asks = boundary_asks p.input p.room_work c.table-m.ensures in
+    omega (arith, asks.fit, c.boundary.ensures.only.long)
+
 pub slice_bounds-row-start : goal.slice_bounds-row-start
 slice_bounds-row-start g c = let p = c.requires in
     let asks = boundary_asks p.input p.room_work c.table-m.ensures in

@@ -3,7 +3,7 @@ use Prim.Native.Nat.{◌-◌}
 use native.Mathlib.Omega.{arith}
 use Rattle.edge_check.proofs.Meeting.{begin, bounds, turn, passed, again, marked, done}
 use Rattle.edge_check.proofs.met_once.Goals as goal
-use Rattle.edge_check.proofs.met_once.Goals.{else-work-leads, then-work-leads}
+use Rattle.edge_check.proofs.met_once.Goals.{else-work-leads, then-work-leads+else-work-row-ne0}
 
 pub overflow_mul-leads : goal.overflow_mul-leads
 overflow_mul-leads c = omega (arith, bounds c.requires)
@@ -76,7 +76,7 @@ pub overflow_add-c : goal.overflow_add-c
 overflow_add-c c = omega (arith, turn c.requires c.loop-c.invariant c.loop-c-test.true)
 
 pub loop-c-preserved : goal.loop-c-preserved
-loop-c-preserved c = elim c.if-work-leads.branch [ then-work-leads w ↦ rw w.4 (marked c.requires c.loop-c.invariant c.loop-c-test.true (omega (arith, w.if-work-leads.true)) (omega (arith, w.3.left))) | else-work-leads w ↦ rw w.1 (passed c.requires c.loop-c.invariant c.loop-c-test.true w.if-work-leads.false) ]
+loop-c-preserved c = elim c.if-work-leads.branch [ then-work-leads+else-work-row-ne0 w ↦ rw w.work-is (marked c.requires c.loop-c.invariant c.loop-c-test.true (omega (arith, w.if-work-leads.true)) (omega (arith, w.if-work-row-ne0.false))) | else-work-leads w ↦ rw w.work-is (passed c.requires c.loop-c.invariant c.loop-c-test.true w.if-work-leads.false) ]
 
 pub shape_of-work : goal.shape_of-work
 shape_of-work c = c.loop-c.invariant.only.long

@@ -22,7 +22,7 @@ pub overflow_add-result : goal.overflow_add-result
 overflow_add-result c = omega (arith, length-set c.args.out.now c.args.at 102, c.requires.room, whole_moved _ c.put_whole-b.ensures, whole_moved _ c.put_whole-c.ensures, whole_moved _ c.put_whole-end.ensures)
 
 pub shape_of-out : goal.shape_of-out
-shape_of-out c = length-set c.put_whole-end.new.0 c.put_whole-end.result 10 ∙ c.put_whole-end.ensures.only.long ∙ c.put_whole-c.ensures.only.long ∙ c.put_whole-b.ensures.only.long ∙ length-set c.args.out.now c.args.at 102
+shape_of-out c = length-set c.put_whole-end.new.out c.put_whole-end.result 10 ∙ c.put_whole-end.ensures.only.long ∙ c.put_whole-c.ensures.only.long ∙ c.put_whole-b.ensures.only.long ∙ length-set c.args.out.now c.args.at 102
 
 pub returns : goal.returns
 returns c = face_put (face_at c.args.faces.now c.args.i) (omega (arith, c.requires.room)) c.put_whole-b.ensures c.put_whole-c.ensures c.put_whole-end.ensures (omega (arith, length-set c.args.out.now c.args.at 102, c.requires.room, whole_moved _ c.put_whole-b.ensures, whole_moved _ c.put_whole-c.ensures, whole_moved _ c.put_whole-end.ensures))

@@ -22,7 +22,7 @@ pub overflow_add-result : goal.overflow_add-result
 overflow_add-result c = omega (arith, length-set c.args.out.now c.args.at 112, c.requires.room, real_moved _ c.put_real-y.ensures, real_moved _ c.put_real-z.ensures, real_moved _ c.put_real-end.ensures)
 
 pub shape_of-out : goal.shape_of-out
-shape_of-out c = length-set c.put_real-end.new.0 c.put_real-end.result 10 ∙ c.put_real-end.ensures.only.long ∙ c.put_real-z.ensures.only.long ∙ c.put_real-y.ensures.only.long ∙ length-set c.args.out.now c.args.at 112
+shape_of-out c = length-set c.put_real-end.new.out c.put_real-end.result 10 ∙ c.put_real-end.ensures.only.long ∙ c.put_real-z.ensures.only.long ∙ c.put_real-y.ensures.only.long ∙ length-set c.args.out.now c.args.at 112
 
 pub returns : goal.returns
 returns c = point_put (point_at c.args.points.now c.args.i) (omega (arith, c.requires.room)) c.put_real-y.ensures c.put_real-z.ensures c.put_real-end.ensures (omega (arith, length-set c.args.out.now c.args.at 112, c.requires.room, real_moved _ c.put_real-y.ensures, real_moved _ c.put_real-z.ensures, real_moved _ c.put_real-end.ensures))

@@ -15,7 +15,7 @@ pub overflow_add-result : goal.overflow_add-result
 overflow_add-result c = omega (arith, length-set c.args.out.now 0 120, c.requires, whole_moved _ c.put_whole-end.ensures)
 
 pub shape_of-out : goal.shape_of-out
-shape_of-out c = length-set c.put_whole-end.new.0 c.put_whole-end.result 10 ∙ c.put_whole-end.ensures.only.long ∙ length-set c.args.out.now 0 120
+shape_of-out c = length-set c.put_whole-end.new.out c.put_whole-end.result 10 ∙ c.put_whole-end.ensures.only.long ∙ length-set c.args.out.now 0 120
 
 pub returns : goal.returns
 returns c = refusal_done _ (omega (arith, c.requires)) c.put_whole-end.ensures (omega (arith, length-set c.args.out.now 0 120, c.requires, whole_moved _ c.put_whole-end.ensures))

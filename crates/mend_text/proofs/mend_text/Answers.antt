@@ -17,10 +17,10 @@ pub slice_bounds-mend-end-in-Job : goal.slice_bounds-mend-end-in-Job
 slice_bounds-mend-end-in-Job c = sym (length-take-le _ _ (faces_in_is c.args.text.now c.read.result c.read.new.1.0 c.read.new.1.1.0 c.read.ensures.faces_after c.in-Job.is c.read.ensures.told_within c.read.auto.faces))
 
 pub mend-requires : goal.mend-requires
-mend-requires c = mend_asks c.args.text.now c.read.result c.read.new.1.0 c.read.new.1.1.0 c.read.ensures.faces_after c.in-Job.is c.requires
+mend-requires c = mend_asks c.args.text.now c.read.result c.read.new.faces.0 c.read.new.1.1.0 c.read.ensures.faces_after c.in-Job.is c.requires
 
 pub returns-in-Bad : goal.returns-in-Bad
-returns-in-Bad c = puts_bad c.args.text.now c.read.result c.read.new.1.0 c.read.new.1.1.0 c.read.ensures.faces_after c.in-Bad.is c.put_refusal.ensures
+returns-in-Bad c = puts_bad c.args.text.now c.read.result c.read.new.faces.0 c.read.new.1.1.0 c.read.ensures.faces_after c.in-Bad.is c.put_refusal.ensures
 
 pub returns-in-Job : goal.returns-in-Job
-returns-in-Job c = puts_answer c.args.text.now c.read.result c.read.new.1.0 c.read.new.1.1.0 c.read.ensures.faces_after c.in-Job.is c.mend.ensures
+returns-in-Job c = puts_answer c.args.text.now c.read.result c.read.new.faces.0 c.read.new.1.1.0 c.read.ensures.faces_after c.in-Job.is c.mend.ensures

@@ -4,7 +4,7 @@ use Rattle.patch_mask.proofs.filter.Goals as goal
 
 pub returns : goal.returns
 returns c = let a = c.args in
-    masked_is a.limits a.min_faces a.min_area a.min-aabb-diagonal a.min-area-fraction a.keep-largest-n
+    masked_is a.limits a.min_faces a.min_area a.min_aabb_diagonal a.min_area_fraction a.keep_largest_n
     c.is_set.ensures c.whole.ensures
     c.is_set-2.ensures c.limit.ensures
     c.is_set-3.ensures c.limit-2.ensures

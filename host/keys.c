@@ -1,4 +1,4 @@
-/* The keys of a panel, mended in one call: shellfix [-s THRESHOLD] [-i FOLDER] IN..
+/* The keys of a panel, mended in one call: shellfix [-s THRESHOLD] -i FOLDER IN..
  *
  * Each file is read as shellfix reads one. The shells of those that can be read are packed one after another and mended by one shell_repair_panel with all
  * options. For each key, in the order of the words, there is a line: its name, and what shellfix says of that file by itself, sentence by sentence. A last line

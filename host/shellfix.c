@@ -1,7 +1,7 @@
 /* Mends a shell from the mould shop or the layout program: shellfix [-s THRESHOLD] [-o OUT.ply] [-f FILE] [-l LIST [-w]] IN
  * Or mends it by a list: shellfix -a LIST [-w] [-o OUT.ply] IN
  * Or checks it as it is: shellfix -c IN
- * Or mends the keys of a panel in one call: shellfix [-s THRESHOLD] [-i FOLDER] IN..
+ * Or mends the keys of a panel in one call: shellfix [-s THRESHOLD] -i FOLDER IN..
  *
  * Reads a binary STL file, or a PLY file of the form that shell.h tells, repairs it with all options, checks it, and prints what was mended and how many edges
  * and boundary loops it has then. Where degenerate faces were removed it says how many of them repeat a corner and how many are thin: a scanner is adjusted by
@@ -22,7 +22,7 @@
  * With -c nothing is mended. Where the check says no, what is wrong is told in words: faces that repeat a corner, directed edges that are walked more than
  * once, points where several surfaces touch; of each kind how many there are, and where the first is. The exit status is then 3.
  *
- * Of several files, or with -i, each is a key, and keys.c says what becomes of them. */
+ * One file is taken at a time, but with -i each file is a key, and keys.c says what becomes of them. --help does not tell of -i. */
 #define _XOPEN_SOURCE 700
 #include "shellfix.h"
 #include "faults.h"
@@ -798,7 +798,7 @@ static int spared(const char *read, const char *written, const char *what, const
 
 /* Whether the files that are written may take their names. The mended shell, and nothing else, may take the place of the scan. */
 static int free_names(const Asked *asked) {
-    const char *shell = outputs[SHELL].name, *origins = outputs[ORIGINS].name, *list = outputs[LIST].name, *scan = asked->names[0];
+    const char *shell = outputs[SHELL].name, *origins = outputs[ORIGINS].name, *list = outputs[LIST].name, *scan = asked->count == 1 ? asked->names[0] : NULL;
     return named_apart(shell, origins, "the mended shell and its origins") && named_apart(shell, list, "the mended shell and its mending list") &&
            named_apart(origins, list, "the origins and the mending list") && spared(scan, origins, "origins", "they are counted in") &&
            spared(scan, list, "mending list", "its faces are counted in") && spared(asked->list, shell, "mended shell", "it is mended by");
@@ -834,18 +834,14 @@ static char first_given(const Asked *asked, const char *some) {
 }
 
 /* Whether the keys of a panel are asked for, and not one shell. */
-static int wants_keys(const Asked *asked) { return asked->count > 1 || asked->into != NULL; }
+static int wants_keys(const Asked *asked) { return asked->into != NULL; }
 
 /* Whether only such options are given as keys have; if not, says which is another. */
 static int fit_keys(const Asked *asked) {
     const char other = first_given(asked, "coflaw");
     if (!other)
         return 1;
-    if (asked->into != NULL)
-        fprintf(stderr, "shellfix: with -i mended keys are written to a folder, and nothing besides, so -%c has nothing to do\n", other);
-    else
-        fprintf(stderr, "shellfix: -%c takes one file at a time, and not %s too%s\n", other, asked->names[1],
-                other == 'o' ? "; -i FOLDER writes the keys of several" : "");
+    fprintf(stderr, "shellfix: with -i mended keys are written to a folder, and nothing besides, so -%c has nothing to do\n", other);
     return 0;
 }
 
@@ -873,7 +869,10 @@ static int read_words(int count, char **given, Asked *asked) {
     asked->count = (size_t)(count - optind);
     if (!asked->help && (!have_to_do(asked) || (wants_keys(asked) && !fit_keys(asked))))
         return 0;
-    return free_names(asked) && (asked->count > 0 || asked->help);
+    const int too_many = asked->count > 1 && !wants_keys(asked);
+    if (too_many)
+        fprintf(stderr, "shellfix: one file at a time, and not %s too\n", asked->names[1]);
+    return free_names(asked) && !too_many && (asked->count > 0 || asked->help);
 }
 
 /* How it is called, and what --help says besides. */
@@ -881,14 +880,12 @@ static const char usage[] =
     "usage: shellfix [-s THRESHOLD] [-o OUT.ply] [-f FILE] [-l LIST [-w]] IN\n"
     "       shellfix -a LIST [-w] [-o OUT.ply] IN\n"
     "       shellfix -c IN\n"
-    "       shellfix [-s THRESHOLD] [-i FOLDER] IN..\n"
     "  IN: a binary STL file, or a PLY file of the form that -o writes\n"
     "  -s, --threshold THRESHOLD: from 0 to 1; a face is thin up to this sine of the angle at its first corner; " THRESHOLD " where none is given\n"
     "  -o, --output OUT.ply: the mended shell is written to this file, as binary PLY\n"
     "  -f, --origins FILE: a line for each face of the mended shell, in its order, is written to this file: which face of IN it is, from 0\n"
     "  -l, --list LIST: what is mended is written to this file as a mending list, a line for each change\n"
     "  -a, --apply LIST: the shell is mended by the mending list in this file, and not by the repair\n"
-    "  -i, --into FOLDER: each IN is a key, and each that is mended is written to a new file in this folder, as binary PLY: a.ply for a.stl\n"
     "  -w, --words: each line of the list that is written or applied is told as a sentence\n"
     "  -c, --check: the shell is checked as it is, and not mended\n"
     "  -h, --help: this text\n";
@@ -899,9 +896,7 @@ static const char more[] =
     "With -c it prints whether the shell is sound, and if not what is wrong: faces that repeat a corner, directed edges that are walked more than\n"
     "once, points where several surfaces touch; of each how many there are, and the first. Faces and points are counted from 0.\n"
     "Exit status: 0; 1 where the file, the shell or the list is refused, and then nothing is written; 2 where the words are not understood,\n"
-    "or a file cannot be read or written; 3 where a shell that is only checked, or was mended by a list, is not sound.\n"
-    "Several files, or those with -i, are the keys of a panel: all are mended in one call, and it prints a line for each and a last one with totals. A key\n"
-    "that is refused or cannot be read stops no other: the exit status is 1 or 2, and those that are mended are written. At most 256 are mended in one call.\n";
+    "or a file cannot be read or written; 3 where a shell that is only checked, or was mended by a list, is not sound.\n";
 
 /* The exit status, but for 2 where something that was printed did not arrive. */
 static int ended(int status) {

@@ -1,7 +1,8 @@
 #!/usr/bin/env bash
-# Keys: many files are mended in one call as shellfix mends each by itself, sentence for sentence and byte for byte, with keys that are refused or cannot be
-# read among them, one key, 40, 256, and 257, which are too many. What is printed is known word for word for a small keyboard, and so is what is said of words
-# that are not understood. Nothing in a folder is replaced, and where it cannot be written to, nothing in it is changed and nothing is new.
+# Keys: with --into many files are mended in one call as shellfix mends each by itself, sentence for sentence and byte for byte, with keys that are refused or
+# cannot be read among them, one key, 40, 256, and 257, which are too many. What is printed is known word for word for a small keyboard, and so is what is said
+# of words that are not understood, several files without --into among them. Nothing in a folder is replaced, and where it cannot be written to, nothing in it
+# is changed and nothing is new.
 set -u
 here=$(cd "$(dirname "${BASH_SOURCE[0]}")/.." && pwd)
 . "$here/tests/machine.sh" || exit 1
@@ -71,8 +72,6 @@ together() {
     [ $found -eq "$status" ] || wrong "exit status $found, and not $status, of $# keys with '$settings'"
     diff found wanted || wrong "other words of $# keys with '$settings'"
     diff -r out alone || wrong "other files of $# keys with '$settings'"
-    sed 's/; written: [0-9]* files to out$//' wanted >told
-    [ $# -eq 1 ] || ./shellfix $settings "$@" 2>/dev/null | diff - told || wrong "other words of $# keys without a folder"
     count=$((count + $#))
 }
 
@@ -97,8 +96,9 @@ together 0 '' many/key-{0..255}.stl
 rm -r out && mkdir out && ./shellfix -i out many/*.stl >found 2>&1
 [ $? -eq 1 ] && [ -z "$(ls out)" ] || wrong "257 keys are taken, or something is written"
 [ "$(cat found)" = "panel refused, number 2, place 0: too many keys; 257 were read, and at most 256 are mended in one call" ] || wrong "other words of 257 keys"
-./shellfix many/key-{0..255}.stl many/none-such.stl "${refused[@]}" >found 2>/dev/null
-[ $? -eq 2 ] && tail -n 1 found | grep -q '^268 keys: 256 mended, 11 refused, 1 cannot be read; ' || wrong "256 keys and 12 that cannot be mended"
+./shellfix -i out many/key-{0..255}.stl many/none-such.stl "${refused[@]}" >found 2>/dev/null
+[ $? -eq 2 ] && tail -n 1 found | grep -q '^268 keys: 256 mended, 11 refused, 1 cannot be read; .*; written: 256 files to out$' ||
+    wrong "256 keys and 12 that cannot be mended"
 
 # Names: the ending is replaced where it is .stl or .ply, whatever its case; else .ply is put behind. Blanks and dots stay, and so does a folder's last stroke.
 mkdir names && for name in A.STL 'b c.Stl' d.ply.stl e f.v2 .stl g.PLY; do cp made/none.stl "names/$name"; done
@@ -122,11 +122,11 @@ puzzled() {
 }
 
 # A small keyboard, and words that are not understood.
-mkdir keyboard mended && cp made/by-admesh.stl keyboard/q.stl && cp plain/bowtie.ply keyboard/w.ply && cp made/payload-7.stl keyboard/e.stl || exit 1
+mkdir keyboard mended two && cp made/by-admesh.stl keyboard/q.stl && cp plain/bowtie.ply keyboard/w.ply && cp made/payload-7.stl keyboard/e.stl || exit 1
 cp made/kinds.stl keyboard/r.stl && cp plain/float.ply keyboard/t.ply && cp made/cut-off.stl keyboard/y.stl || exit 1
 before=$(ls -laR keyboard)
 {
-    told ./shellfix keyboard/q.stl keyboard/w.ply
+    told ./shellfix -i two keyboard/q.stl keyboard/w.ply
     told ./shellfix -s 0.001 -i mended keyboard/{q.stl,w.ply,e.stl,r.stl,t.ply,y.stl,u.stl}
     (cd mended && ls)
     told ./shellfix --into=mended keyboard/e.stl
@@ -142,6 +142,8 @@ before=$(ls -laR keyboard)
     puzzled --into
     puzzled -i mended
     puzzled -i mended --into . keyboard/q.stl
+    puzzled keyboard/q.stl keyboard/w.ply
+    puzzled -s 0.5 keyboard/q.stl keyboard/w.ply keyboard/r.stl
     puzzled -o never.ply keyboard/q.stl keyboard/w.ply
     puzzled keyboard/q.stl -f never.txt keyboard/w.ply
     puzzled -l never.list keyboard/q.stl keyboard/w.ply
@@ -155,12 +157,13 @@ before=$(ls -laR keyboard)
     puzzled -i mended -l never.list keyboard/q.stl
     puzzled -i mended -a keyboard/q.stl keyboard/q.stl
     puzzled -i mended -s 2 keyboard/q.stl keyboard/w.ply
-    ./shellfix -h keyboard/q.stl keyboard/w.ply | sed -n 4p
+    puzzled -h keyboard/q.stl keyboard/w.ply
+    ./shellfix -h -i mended keyboard/q.stl keyboard/w.ply | head -n 1
 } >found
 diff found - <<'WANTED' || wrong "other words"
 keyboard/q.stl: read: 100 points, 158 faces; mended: 100 points, 158 faces; 105 faces reoriented; sound: yes; 259 edges, 3 boundary loops
 keyboard/w.ply: read: 6 points, 3 faces; mended: 6 points, 2 faces; 1 degenerate faces removed, 1 bowtie vertices split, 1 points added, 1 isolated vertices removed; of the degenerate faces 1 repeat a corner, 0 are thin at 1e-12; sound: yes; 6 edges, 2 boundary loops
-2 keys: 2 mended, 0 refused; read: 106 points, 161 faces; mended: 106 points, 160 faces
+2 keys: 2 mended, 0 refused; read: 106 points, 161 faces; mended: 106 points, 160 faces; written: 2 files to two
 exit status 0
 keyboard/q.stl: read: 100 points, 158 faces; mended: 100 points, 158 faces; 105 faces reoriented; sound: yes; 259 edges, 3 boundary loops
 keyboard/w.ply: read: 6 points, 3 faces; mended: 6 points, 2 faces; 1 degenerate faces removed, 1 bowtie vertices split, 1 points added, 1 isolated vertices removed; of the degenerate faces 1 repeat a corner, 0 are thin at 0.001; sound: yes; 6 edges, 2 boundary loops
@@ -197,20 +200,23 @@ shellfix: -i wants a folder
 shellfix: -i wants a folder
 usage: shellfix [-s THRESHOLD] [-o OUT.ply] [-f FILE] [-l LIST [-w]] IN
 shellfix: one folder is written to, and not . too
-shellfix: -o takes one file at a time, and not keyboard/w.ply too; -i FOLDER writes the keys of several
-shellfix: -f takes one file at a time, and not keyboard/w.ply too
-shellfix: -l takes one file at a time, and not keyboard/w.ply too
-shellfix: -l takes one file at a time, and not keyboard/w.ply too
+shellfix: one file at a time, and not keyboard/w.ply too
+shellfix: one file at a time, and not keyboard/w.ply too
+shellfix: one file at a time, and not keyboard/w.ply too
+shellfix: one file at a time, and not keyboard/w.ply too
+shellfix: one file at a time, and not keyboard/w.ply too
+shellfix: one file at a time, and not keyboard/w.ply too
 shellfix: without -l or -a there is no list, so -w has nothing to do
-shellfix: -a takes one file at a time, and not keyboard/w.ply too
-shellfix: -c takes one file at a time, and not keyboard/w.ply too
+shellfix: one file at a time, and not keyboard/w.ply too
+shellfix: one file at a time, and not keyboard/w.ply too
 shellfix: with -c nothing is mended, so -i has nothing to do
 shellfix: with -i mended keys are written to a folder, and nothing besides, so -o has nothing to do
 shellfix: with -i mended keys are written to a folder, and nothing besides, so -f has nothing to do
 shellfix: with -i mended keys are written to a folder, and nothing besides, so -l has nothing to do
 shellfix: with -i mended keys are written to a folder, and nothing besides, so -a has nothing to do
 shellfix: the threshold '2' is not from 0 to 1
-       shellfix [-s THRESHOLD] [-i FOLDER] IN..
+shellfix: one file at a time, and not keyboard/w.ply too
+usage: shellfix [-s THRESHOLD] [-o OUT.ply] [-f FILE] [-l LIST [-w]] IN
 WANTED
 [ "$before" = "$(ls -laR keyboard)" ] && ! ls never.* 2>/dev/null || wrong "the scans are changed, or a file is written that must not be"
 
@@ -237,14 +243,14 @@ full() { (trap '' XFSZ && ulimit -f 8 && exec "$@"); }
 fails 'cannot write there/grid.ply: File too large' full ./shellfix -i there "${forty[@]:0:3}" plain/grid.ply "${forty[@]:3}"
 # Runs $1.. so that what it prints goes to a full disk.
 unprinted() { "$@" >/dev/full; }
-fails 'cannot print: No space left on device' unprinted ./shellfix "${forty[@]}"
+rm -r out && mkdir out && fails 'cannot print: No space left on device' unprinted ./shellfix -i out "${forty[@]}"
 # A user who may not write to the folder, nor read one of the files.
 user=()
 [ "$(id -u)" -ne 0 ] || user=(setpriv --reuid=65534 --regid=65534 --clear-groups)
-chmod 555 there && cp made/none.stl closed.stl && chmod 0 closed.stl || exit 1
+mkdir -m 777 open && chmod 555 there && cp made/none.stl closed.stl && chmod 0 closed.stl || exit 1
 if "${user[@]}" true 2>/dev/null; then
     fails 'cannot write to there: Permission denied' "${user[@]}" ./shellfix -i there "${forty[@]}"
-    "${user[@]}" ./shellfix closed.stl made/none.stl >found
+    "${user[@]}" ./shellfix -i open closed.stl made/none.stl >found
     [ $? -eq 2 ] && grep -qx 'closed.stl: cannot be read: Permission denied' found || wrong "a closed file is not noticed"
 else
     echo "keys: no other user here, so that every folder can be written to"
@@ -325,7 +331,7 @@ if can_watch; then
     watched=(valgrind -q --error-exitcode=9 --leak-check=full --errors-for-leak-kinds=definite)
     "${watched[@]}" ./shellfix -i out keyboard/{u.stl,q.stl,w.ply,e.stl,r.stl,t.ply,y.stl} scans/{random-1,empty}.ply >/dev/null
     [ $? -eq 2 ] || wrong "a fault in memory"
-    "${watched[@]}" ./shellfix many/*.stl >/dev/null
+    "${watched[@]}" ./shellfix -i out many/*.stl >/dev/null
     [ $? -eq 1 ] || wrong "a fault in memory where all are refused"
     "${watched[@]}" ./shellfix -i out keyboard/*.stl 2>/dev/null
     [ $? -eq 2 ] || wrong "a fault in memory where a file is there"

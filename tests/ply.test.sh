@@ -74,6 +74,7 @@ cp "$here"/tests/cases/ply/*.ply "$here"/tests/cases/stl/by-admesh.stl . || exit
     puzzled --help=yes
     puzzled -o one.ply -o two.ply good.ply
     puzzled -o out.ply -xs 0.5 good.ply
+    puzzled good.ply empty.ply
 } >found
 [ ! -e one.ply ] && [ ! -e two.ply ] || exit 1
 diff found "$here/tests/cases/ply/shellfix.out" || exit 1

@@ -92,6 +92,7 @@ gcc "${flags[@]}" "-I$here/host" -o untied untied.c "$here"/host/{keys,faults,li
     for threshold in nan 1.0000000000000002 -1e-300 inf 1e400 '' ' 0.5' 0.5x 1e-12,5 zero; do puzzled -s "$threshold" made/kinds.stl; done
     puzzled made/kinds.stl -s
     puzzled -t 0.5 made/kinds.stl
+    puzzled made/kinds.stl made/none.stl
     ./untied
 } >found
 diff found "$here/tests/cases/stl/shellfix.out" || exit 1

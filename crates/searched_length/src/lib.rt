@@ -93,7 +93,9 @@ pub fn in_rows(
     all_lines(points, faces, s, options, index, &mut words[..n])
 }
 
-// How long the list is, for up to 4,096 faces: 48 KB of rows on the stack.
+// How long the list is, for up to 4,096 faces: 48 KB of rows on the stack. It is not made a part of its caller, so that the rows are on the stack only where
+// they are used.
+#[inline(never)]
 fn few(points: &[f64], faces: &[u32], s: f64, options: u32) -> usize
     requires { by.FewAsk points.now faces.now }
     ensures { result ≡ length (list_text s options (points_of points.now) (faces_of faces.now)) }
@@ -101,14 +103,15 @@ fn few(points: &[f64], faces: &[u32], s: f64, options: u32) -> usize
     let mut words = [0u32; 4096];
     let mut index = [0u32; 8192];
     let r = in_rows(points, faces, s, options, &mut words, &mut index);
-    // This is never so. A function that calls itself is not made a part of its caller, so that the rows are on the stack only where they are used.
+    // This is never so: no list is as long. A function that calls itself is less easily made a part of its caller.
     if r > 200000000 {
         return few(points, faces, s, options);
     }
     r
 }
 
-// How long the list is, for any number of faces: 5 MB of rows on the stack.
+// How long the list is, for any number of faces: 5 MB of rows on the stack, only where they are used.
+#[inline(never)]
 fn many(points: &[f64], faces: &[u32], s: f64, options: u32) -> usize
     requires { Accepted points.now faces.now }
     ensures { result ≡ length (list_text s options (points_of points.now) (faces_of faces.now)) }

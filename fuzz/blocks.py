@@ -1,7 +1,8 @@
 #!/usr/bin/env python3
 """Lists the blocks of proved code in a program: blocks.py PROGRAM ANCHOR OBJECT. First the lowest, then each, as distances from the anchor's address.
 
-A block begins at a function's first instruction, where a jump leads, and behind a jump or a return."""
+A block begins at a function's first instruction, where a jump leads, and behind a jump or a return. Functions of the kit's own library are left out: most of
+those in a program tell errors of the system, which no input of a target brings about, and they may lie far from the others."""
 import re
 import subprocess
 import sys
@@ -14,7 +15,7 @@ def symbols(path):
     return [line.split(maxsplit=2) for line in out.splitlines() if re.match(r"[0-9a-f]+ [tT] ", line)]
 
 
-ours = {name for _, _, name in symbols(code)}
+ours = {name for _, _, name in symbols(code) if not re.match(r"(core|std\w*)::", name)}
 start = next(int(address, 16) for address, _, name in symbols(program) if name == anchor)
 text = subprocess.run(["objdump", "-d", "--no-show-raw-insn", program], capture_output=True, text=True, check=True).stdout
 blocks, function, after = set(), None, False

@@ -38,8 +38,8 @@ def below(named, name):
 
 
 def parsed(path):
-    """The file that an edit changes, and its pairs of old and new text."""
-    file, pairs, old = None, [], None
+    """The file of code that an edit changes, and its pairs of old and new text there. None for an edit of definitions or proofs alone."""
+    file, pairs, old = None, {}, None
     for line in open(path):
         line = line.rstrip("\n")
         if line.startswith("file: "):
@@ -47,8 +47,8 @@ def parsed(path):
         elif line.startswith("old: "):
             old = line[5:]
         elif line.startswith("new:"):
-            pairs.append((old, line[5:]))
-    return file, pairs
+            pairs.setdefault(file, []).append((old, line[5:]))
+    return next(((f, p) for f, p in pairs.items() if f.startswith("src/")), (None, []))
 
 
 def programs(named, crate):
@@ -83,7 +83,7 @@ def main():
         for path in sorted(glob.glob(os.path.join(HERE, "crates/*/must-fail/*.edit"))):
             crate, edit = path.split("/")[-3], path.split("/")[-1][:-5]
             file, pairs = parsed(path)
-            if words and crate not in words and crate + "/" + edit not in words or not file.startswith("src/"):
+            if words and crate not in words and crate + "/" + edit not in words or file is None:
                 continue
             target = os.path.join(room, "crates", crate, file)
             text = open(target).read()

@@ -17,14 +17,12 @@ fn crowded(work: &[u32], starts: usize, m: usize) -> usize
     requires { starts + m + 1 ≤ length work.now }
     ensures { FirstOf (long work.now starts) m result }
 {
-    let mut i = 0;
-    while i < m {
+    for i in 0..m {
         let from = work[starts + i] as usize;
         let to = work[starts + i + 1] as usize;
         if from + 2 < to {
             return i;
         }
-        i += 1;
     }
     m
 }
@@ -46,8 +44,7 @@ fn trace(work: &mut [u32], faces: &[u32], count: usize, at: usize, m: usize, row
 {
     let order = at + 3 * faces.len();
     let starts = at + 4 * faces.len();
-    let mut r = 0;
-    while r < m {
+    for r in 0..m {
         let from = work[starts + r] as usize;
         let to = work[starts + r + 1] as usize;
         if to - from == 1 {
@@ -55,7 +52,6 @@ fn trace(work: &mut [u32], faces: &[u32], count: usize, at: usize, m: usize, row
             let j = table::after(id);
             add(work, count, row, faces[id] as usize, faces[j] as usize);
         }
-        r += 1;
     }
 }
 
@@ -64,8 +60,7 @@ fn uneven(work: &[u32], count: usize, row: usize) -> usize
     requires { row + count + count ≤ length work.now }
     ensures { FirstOf (uneven work.now row (row + count)) count result }
 {
-    let mut i = 0;
-    while i < count {
+    for i in 0..count {
         let begins = work[row + i];
         if begins != work[row + count + i] {
             return i;
@@ -73,7 +68,6 @@ fn uneven(work: &[u32], count: usize, row: usize) -> usize
         if 1 < begins {
             return i;
         }
-        i += 1;
     }
     count
 }

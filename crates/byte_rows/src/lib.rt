@@ -58,12 +58,10 @@ pub fn put_text(out: &mut [u8], at: usize, text: &[u8]) -> usize
     requires { at + length text.now ≤ length out.old }
     ensures { by.Puts out.old at text.now out.new result }
 {
-    let mut i = 0;
-    while i < text.len() {
+    for i in 0..text.len() {
         out[at + i] = text[i];
-        i += 1;
     }
-    at + i
+    at + text.len()
 }
 
 // Puts the digit of a number below ten into the room, at `at`. Returns where it goes on.
@@ -93,11 +91,9 @@ pub fn put_little(out: &mut [u8], at: usize, k: usize, n: u64) -> usize
     ensures { by.Puts out.old at (rule.little k n) out.new result }
 {
     let mut m = n;
-    let mut i = 0;
-    while i < k {
+    for i in 0..k {
         out[at + i] = (m % 256) as u8;
         m = m / 256;
-        i += 1;
     }
-    at + i
+    at + k
 }

@@ -47,14 +47,12 @@ fn sides(work: &mut [u32], faces: &[u32], from: usize, to: usize)
     ensures { SidesGives work.old faces.now from to work.new }
 {
     let n = faces.len();
-    let mut i = 0;
-    while i < n {
+    for i in 0..n {
         let s = work[from + i] as usize;
         let a = lower(faces, s);
         let b = higher(faces, s);
         work[to + i] = a as u32;
         work[to + n + i] = b as u32;
-        i += 1;
     }
 }
 
@@ -63,11 +61,9 @@ fn shift(work: &mut [u32], from: usize, n: usize, by: usize, to: usize)
     requires { ShiftAsks work.old from n by to }
     ensures { ShiftGives work.old from n by to work.new }
 {
-    let mut i = 0;
-    while i < n {
+    for i in 0..n {
         let x = work[from + i] as usize;
         work[to + i] = (by + x) as u32;
-        i += 1;
     }
 }
 

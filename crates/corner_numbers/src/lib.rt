@@ -28,15 +28,13 @@ pub fn run_end(work: &[u32], sorted: usize, begin: usize, n: usize, v: u32) -> u
     requires { EndAsks work.now sorted begin n }
     ensures { EndGives work.now sorted begin n v result }
 {
-    let mut p = begin;
-    while p < n {
+    for p in begin..n {
         let id = work[sorted + p] as usize;
         if work[id] != v {
             return p;
         }
-        p += 1;
     }
-    p
+    n
 }
 
 // Whether the j-th corner of a run stands first in a group that is not the first one.
@@ -67,8 +65,7 @@ pub fn number_run(
     ensures { RunGives work.old run m leads numbers n v next work.new result }
 {
     let mut new = next;
-    let mut j = 0;
-    while j < m {
+    for j in 0..m {
         let id = work[run + j] as usize;
         if extra(work, run, leads, j) {
             work[numbers + id] = new as u32;
@@ -76,7 +73,6 @@ pub fn number_run(
         } else {
             work[numbers + id] = v as u32;
         }
-        j += 1;
     }
     new
 }

@@ -50,10 +50,8 @@ pub fn mate_all(work: &mut [u32], faces: &[u32], n: usize, m: usize)
     requires { MateAllAsks work.old faces.now n m }
     ensures { MateGives work.old faces.now n work.new }
 {
-    let mut r = 0;
-    while r < m {
+    for r in 0..m {
         mate(work, faces, n, r);
-        r += 1;
     }
 }
 

@@ -46,15 +46,13 @@ fn flag_all(points: &[f64], s: f64, faces: &[u32], n: usize, work: &mut [u32]) -
     ensures value { result ≡ count (repeated1 s (points_of points.now) (standing faces.now n)) (below n) }
 {
     let mut repeated = 0;
-    let mut i = 0;
-    while i < n {
+    for i in 0..n {
         let a = faces[3 * i];
         let b = faces[3 * i + 1];
         let c = faces[3 * i + 2];
         let form = measure::shape(points, s, a, b, c);
         work[i] = leaves(form);
         repeated += repeats(form);
-        i += 1;
     }
     repeated
 }

@@ -14,10 +14,8 @@ fn clear_used(faces: &[u32], n: usize, count: usize, work: &mut [u32])
     ensures { ClearGives faces.now n count work.old work.new }
 {
     let m = 3 * n;
-    let mut i = 0;
-    while i < m {
+    for i in 0..m {
         work[faces[i] as usize] = 0;
-        i += 1;
     }
 }
 
@@ -36,11 +34,9 @@ pub fn renumber(faces: &mut [u32], n: usize, work: &[u32], numbers: usize)
     ensures { RenumberGives faces.old n work.now numbers faces.new }
 {
     let m = 3 * n;
-    let mut k = 0;
-    while k < m {
+    for k in 0..m {
         let taken = work[numbers + faces[k] as usize];
         rows::store(faces, k, taken);
-        k += 1;
     }
 }
 

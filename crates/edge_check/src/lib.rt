@@ -46,12 +46,10 @@ fn distinct(faces: &[u32]) -> bool
     ensures { result ≡ all (λ f. not (repeats f)) (faces_of faces.now) }
 {
     let n = faces.len() / 3;
-    let mut i = 0;
-    while i < n {
+    for i in 0..n {
         if repeats(faces, i) {
             return false;
         }
-        i += 1;
     }
     true
 }
@@ -64,8 +62,7 @@ fn met_once(count: usize, faces: &[u32], work: &mut [u32]) -> bool
     let n = faces.len();
     let leads = 9 * n + 2 + count;
     let row = 10 * n + 2 + count;
-    let mut c = 0;
-    while c < n {
+    for c in 0..n {
         if work[leads + c] as usize == c {
             let v = faces[c] as usize;
             if work[row + v] != 0 {
@@ -73,7 +70,6 @@ fn met_once(count: usize, faces: &[u32], work: &mut [u32]) -> bool
             }
             work[row + v] = 1;
         }
-        c += 1;
     }
     true
 }

@@ -12,14 +12,12 @@ const HUGE: usize = 18446744073709551615;
 
 // How many entries are 0, from the front on.
 fn zeros(row: &[u32]) -> u64 {
-    let mut i = 0;
-    while i < row.len() {
+    for i in 0..row.len() {
         if row[i] != 0 {
             return i as u64;
         }
-        i += 1;
     }
-    i as u64
+    row.len() as u64
 }
 
 // 1 for a 7.
@@ -32,10 +30,8 @@ fn seven(x: u32) -> u64
 // How many entries are 7.
 fn sevens(row: &[u32]) -> u64 {
     let mut n = 0;
-    let mut i = 0;
-    while i < row.len() {
+    for i in 0..row.len() {
         n += seven(row[i]);
-        i += 1;
     }
     n
 }

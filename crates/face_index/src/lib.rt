@@ -38,10 +38,8 @@ pub fn make_index(faces: &[u32], index: &mut [u32])
     ensures { index_of.Indexed faces.now index.new }
 {
     let size = block_size(faces, index);
-    let mut i = 0;
-    while i < faces.len() {
+    for i in 0..faces.len() {
         note(index, faces[i], i / 3 / size);
-        i += 1;
     }
 }
 

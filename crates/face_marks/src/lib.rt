@@ -134,11 +134,9 @@ pub fn put_used(faces: &[u32], marks: &[u8], n: usize, bits: &mut [u32])
     requires { by.UsedAsks faces.now marks.now n bits.old }
     ensures { by.UsedGives faces.now marks.now n bits.old bits.new }
 {
-    let mut f = 0;
-    while f < n {
+    for f in 0..n {
         if marks[f] % 2 == 0 {
             put_face(faces, marks, f, bits);
         }
-        f += 1;
     }
 }

@@ -27,12 +27,10 @@ fn record(origins: &[u32], work: &mut [u32], marks: usize, n: usize, fates: usiz
     requires code_bound { code ≤ 8 }
     ensures { AddGives (by_flag work.old marks code) origins.now n work.old fates work.new }
 {
-    let mut i = 0;
-    while i < n {
+    for i in 0..n {
         let told = flagged(work[marks + i], code);
         let at = fates + origins[i] as usize;
         work[at] = work[at] + told;
-        i += 1;
     }
 }
 
@@ -65,13 +63,11 @@ fn record_degenerate(
     requires n_in_bounds { 3 * n ≤ length faces.now }
     ensures { AddGives (by_shape faces.now work.old marks) origins.now n work.old fates work.new }
 {
-    let mut i = 0;
-    while i < n {
+    for i in 0..n {
         let reason = why(faces[3 * i], faces[3 * i + 1], faces[3 * i + 2]);
         let told = flagged(work[marks + i], reason);
         let at = fates + origins[i] as usize;
         work[at] = work[at] + told;
-        i += 1;
     }
 }
 
@@ -99,13 +95,11 @@ fn record_turned(
     requires input_len { length input.now ≡ 3 * length origins.now }
     ensures { AddGives (by_turn input.now faces.now origins.now) origins.now n work.old fates work.new }
 {
-    let mut i = 0;
-    while i < n {
+    for i in 0..n {
         let f = origins[i] as usize;
         let told = turned(faces[3 * i + 1], input[3 * f + 1]);
         let at = fates + f;
         work[at] = work[at] + told;
-        i += 1;
     }
 }
 

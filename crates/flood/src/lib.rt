@@ -13,10 +13,8 @@ fn own_all(work: &mut [u32], labels: usize, things: usize)
     requires { OwnAsks work.old labels things }
     ensures { OwnGives work.old labels things work.new }
 {
-    let mut i = 0;
-    while i < things {
+    for i in 0..things {
         work[labels + i] = i as u32;
-        i += 1;
     }
 }
 
@@ -102,8 +100,7 @@ fn number_all(work: &mut [u32], labels: usize, things: usize) -> usize
     ensures { (q : NumberAsks work.old labels things) → NumberGives q work.new result }
 {
     let mut count = 0;
-    let mut i = 0;
-    while i < things {
+    for i in 0..things {
         let parent = work[labels + i] as usize;
         if parent == i {
             work[labels + i] = count as u32;
@@ -111,7 +108,6 @@ fn number_all(work: &mut [u32], labels: usize, things: usize) -> usize
         } else {
             work[labels + i] = work[labels + parent];
         }
-        i += 1;
     }
     count
 }
@@ -121,11 +117,9 @@ fn point_all(work: &mut [u32], labels: usize, things: usize)
     requires { PointAsks work.old labels things }
     ensures { (q : PointAsks work.old labels things) → PointGives q work.new }
 {
-    let mut i = 0;
-    while i < things {
+    for i in 0..things {
         let earlier = work[labels + i] as usize;
         work[labels + i] = work[labels + earlier];
-        i += 1;
     }
 }
 

@@ -21,16 +21,14 @@ fn split(buffer: &mut [u64], s: usize, n: usize, mid: u64) -> usize
     requires { s + n ≤ length buffer.old }
     ensures { SplitGives buffer.old s n mid buffer.new result }
 {
-    let mut i = 0;
     let mut m = 0;
-    while i < n {
+    for i in 0..n {
         let x = buffer[s + i];
         if x / 2 < mid {
             buffer[s + i] = buffer[s + m];
             buffer[s + m] = x;
             m += 1;
         }
-        i += 1;
     }
     m
 }
@@ -69,12 +67,10 @@ fn span(buffer: &[u64], s: usize, n: usize) -> Reach
 {
     let mut low = buffer[s] / 2;
     let mut high = low;
-    let mut i = 1;
-    while i < n {
+    for i in 1..n {
         let k = buffer[s + i] / 2;
         low = lesser(low, k);
         high = greater(high, k);
-        i += 1;
     }
     Reach {
         low: low,
@@ -88,12 +84,10 @@ fn evens(buffer: &[u64], s: usize, n: usize) -> usize
     ensures { EvensGives buffer.now s n result }
 {
     let mut b: usize = 0;
-    let mut i = 0;
-    while i < n {
+    for i in 0..n {
         if buffer[s + i] % 2 == 0 {
             b += 1;
         }
-        i += 1;
     }
     b
 }
@@ -269,12 +263,10 @@ pub fn walk(
 // How many entries have a key below x.
 fn under(buffer: &[u64], x: u64) -> usize {
     let mut c: usize = 0;
-    let mut i = 0;
-    while i < buffer.len() {
+    for i in 0..buffer.len() {
         if buffer[i] / 2 < x {
             c += 1;
         }
-        i += 1;
     }
     c
 }
@@ -387,8 +379,7 @@ fn gather(points: u64, faces: &[u32], from: u64, top: u64, buffer: &mut [u64]) -
     let size = buffer.len();
     let mut to = top;
     let mut n: usize = 0;
-    let mut i = 0;
-    while i < faces.len() {
+    for i in 0..faces.len() {
         let j = next(i);
         let v = faces[i] as u64;
         let u = faces[j] as u64;
@@ -398,7 +389,6 @@ fn gather(points: u64, faces: &[u32], from: u64, top: u64, buffer: &mut [u64]) -
         if n == size {
             return Got { to: to, n: n };
         }
-        i += 1;
     }
     Got { to: to, n: n }
 }

@@ -25,10 +25,8 @@ fn put_zeros(line: &mut [u8], at: usize, n: usize)
     requires { at + n ≤ length line.old }
     ensures { Puts line.old at (replicate n 0) line.new (at + n) }
 {
-    let mut i = 0;
-    while i < n {
+    for i in 0..n {
         line[at + i] = 0;
-        i += 1;
     }
 }
 
@@ -113,10 +111,8 @@ fn put_parts(counts: &[u32], line: &mut [u8]) -> usize
     ensures { by.LineGives line.old (by.parts (rule.summed counts.now)) line.new result }
 {
     let mut at = 0;
-    let mut k = 0;
-    while k < LABELS {
+    for k in 0..LABELS {
         at = put_next(line, at, value(counts, k), k);
-        k += 1;
     }
     at
 }

@@ -7,12 +7,10 @@ use std::io;
 // How many bytes from `from` on are one, as all were before the call.
 fn ones(room: &[u8], from: usize) -> usize {
     let mut n = 0;
-    let mut i = from;
-    while i < room.len() {
+    for i in from..room.len() {
         if room[i] == 1 {
             n += 1;
         }
-        i += 1;
     }
     n
 }

@@ -41,12 +41,10 @@ fn same(field: &[u8], text: &[u8]) -> bool
     if field.len() != text.len() {
         return false;
     }
-    let mut i = 0;
-    while i < text.len() {
+    for i in 0..text.len() {
         if field[i] != text[i] {
             return false;
         }
-        i += 1;
     }
     true
 }

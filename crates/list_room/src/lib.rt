@@ -14,12 +14,10 @@ fn all_are(work: &[u32], n: usize, c: u32) -> bool
     requires { n ≤ length work.now }
     ensures { AllTold work.now n c result }
 {
-    let mut i = 0;
-    while i < n {
+    for i in 0..n {
         if work[i] != c {
             return false;
         }
-        i += 1;
     }
     true
 }

@@ -140,11 +140,9 @@ fn row_length(work: &[u32], row: usize, n: usize, first: u32, last: u32) -> usiz
     ensures upper_bound { result ≤ 25 * n }
 {
     let mut total = 0;
-    let mut i = 0;
-    while i < n {
+    for i in 0..n {
         let kind = told_kind(work[row + i], first, last);
         total += line_length(kind, i as u32);
-        i += 1;
     }
     total
 }
@@ -164,11 +162,9 @@ fn put_row(
     ensures { Puts text.old at (by.row_text work.now row n first last) text.new result }
 {
     let mut next = at;
-    let mut i = 0;
-    while i < n {
+    for i in 0..n {
         let kind = told_kind(work[row + i], first, last);
         next = put_line(text, next, kind, i as u32);
-        i += 1;
     }
     next
 }
@@ -180,15 +176,13 @@ fn corners_below(work: &[u32], rows: Rows, from: usize, v: usize) -> usize
     requires { by.BelowAsks work.now rows from v }
     ensures { result ≡ by.start_of work.now rows v }
 {
-    let mut q = from;
-    while q < 3 * rows.left {
+    for q in from..3 * rows.left {
         let id = work[rows.sorted + q] as usize;
         if work[rows.column + id] as usize >= v {
             return q;
         }
-        q += 1;
     }
-    q
+    3 * rows.left
 }
 
 // How long the field of face i is, if i is not the face told last.
@@ -223,12 +217,10 @@ fn takers_length(work: &[u32], origins: &[u32], rows: Rows, from: usize, to: usi
 {
     let mut total = 0;
     let mut last = rows.left;
-    let mut q = from;
-    while q < to {
+    for q in from..to {
         let i = work[rows.sorted + q] as usize / 3;
         total += taker_length(origins, i, last);
         last = i;
-        q += 1;
     }
     total
 }
@@ -249,12 +241,10 @@ fn put_takers(
 {
     let mut next = at;
     let mut last = rows.left;
-    let mut q = from;
-    while q < to {
+    for q in from..to {
         let i = work[rows.sorted + q] as usize / 3;
         next = put_taker(text, next, origins, i, last);
         last = i;
-        q += 1;
     }
     next
 }
@@ -308,12 +298,10 @@ fn splits_length(work: &[u32], origins: &[u32], rows: Rows) -> usize
 {
     let mut total = 0;
     let mut from = corners_below(work, rows, 0, rows.points);
-    let mut j = 0;
-    while j < rows.splits {
+    for j in 0..rows.splits {
         let to = corners_below(work, rows, from, rows.points + j + 1);
         total += split_length(work, origins, rows, j, from, to);
         from = to;
-        j += 1;
     }
     total
 }
@@ -326,12 +314,10 @@ fn put_splits(text: &mut [u8], at: usize, work: &[u32], origins: &[u32], rows: R
 {
     let mut next = at;
     let mut from = corners_below(work, rows, 0, rows.points);
-    let mut j = 0;
-    while j < rows.splits {
+    for j in 0..rows.splits {
         let to = corners_below(work, rows, from, rows.points + j + 1);
         next = put_split(text, next, work, origins, rows, j, from, to);
         from = to;
-        j += 1;
     }
     next
 }

@@ -10,12 +10,10 @@ fn put_edges(work: &[u32], faces: &[u32], at: usize, m: usize, edges: &mut [u32]
     ensures { EdgesGives work.now faces.now at m edges.old edges.new }
 {
     let n = faces.len();
-    let mut r = 0;
-    while r < m {
+    for r in 0..m {
         let id = work[at + 3 * n + work[at + 4 * n + r] as usize] as usize;
         edges[2 * r] = work[at + id];
         edges[2 * r + 1] = work[at + n + id];
-        r += 1;
     }
 }
 
@@ -34,10 +32,8 @@ fn put_lengths(points: &[f64], edges: &[u32], m: usize, lengths: &mut [f64])
     requires { LengthsAsks points.now edges.now m lengths.old }
     ensures { LengthsGives points.now edges.now m lengths.old lengths.new }
 {
-    let mut r = 0;
-    while r < m {
+    for r in 0..m {
         lengths[r] = measure::distance(points, edges[2 * r + 1], edges[2 * r]);
-        r += 1;
     }
 }
 
@@ -56,11 +52,9 @@ pub fn list_face_edges(work: &[u32], faces: &[u32], at: usize, face_edges: &mut 
     ensures { (q : FaceEdgesAsks work.now faces.now at face_edges.old) → FaceEdgesGives q face_edges.new }
 {
     let runs = at + 2 * faces.len();
-    let mut i = 0;
-    while i < faces.len() / 3 {
+    for i in 0..faces.len() / 3 {
         face_edges[3 * i] = work[runs + 3 * i + 1];
         face_edges[3 * i + 1] = work[runs + 3 * i + 2];
         face_edges[3 * i + 2] = work[runs + 3 * i];
-        i += 1;
     }
 }

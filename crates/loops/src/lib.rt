@@ -41,10 +41,8 @@ fn mirror(work: &[u32], spare: usize, n: usize, loop_vertices: &mut [u32], from:
     requires { MirrorAsks work.now spare n loop_vertices.old from }
     ensures { MirrorGives work.now spare n loop_vertices.old from loop_vertices.new }
 {
-    let mut i = 0;
-    while i < n {
+    for i in 0..n {
         loop_vertices[from + i] = work[spare + (n - 1 - i)];
-        i += 1;
     }
 }
 
@@ -95,8 +93,7 @@ fn trace(
         loop_vertices: 0,
         loop_ends: 0,
     };
-    let mut v = 0;
-    while v < points {
+    for v in 0..points {
         found = add_loop(
             work,
             points,
@@ -107,7 +104,6 @@ fn trace(
             loop_ends,
             found,
         );
-        v += 1;
     }
     found
 }

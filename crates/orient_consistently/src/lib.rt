@@ -94,10 +94,8 @@ fn walk_all(work: &mut [u32], faces: &[u32], n: usize) -> usize
     ensures { AllGives work.old faces.now n work.new result }
 {
     let mut marks = 0;
-    let mut i = 0;
-    while i < n {
+    for i in 0..n {
         marks = begin(work, faces, n, i, marks);
-        i += 1;
     }
     marks
 }
@@ -107,15 +105,13 @@ fn turn_all(faces: &mut [u32], work: &[u32], n: usize)
     requires { TurnAsks faces.old work.now n }
     ensures { TurnGives faces.old work.now n faces.new }
 {
-    let mut i = 0;
-    while i < n {
+    for i in 0..n {
         if work[3 + i] == 2 {
             let p = 3 * i + 1;
             let b = faces[p];
             faces[p] = faces[p + 1];
             faces[p + 1] = b;
         }
-        i += 1;
     }
 }
 

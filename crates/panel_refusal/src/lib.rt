@@ -28,14 +28,12 @@ fn adds_up(counts: &[u32], length: usize) -> bool
     ensures { result ≡ eqb (3 * rule.total counts.now) length }
 {
     let mut left = length;
-    let mut k = 0;
-    while k < counts.len() {
+    for k in 0..counts.len() {
         let taken = 3 * (counts[k] as usize);
         if left < taken {
             return false;
         }
         left -= taken;
-        k += 1;
     }
     left == 0
 }
@@ -65,13 +63,11 @@ pub fn largest(point_counts: &[u32], face_counts: &[u32]) -> usize
     ensures { result ≡ rule.largest point_counts.now face_counts.now }
 {
     let mut most = 0;
-    let mut k = 0;
-    while k < point_counts.len() {
+    for k in 0..point_counts.len() {
         let room = 16 * (point_counts[k] as usize) + 64 * (face_counts[k] as usize) + 64;
         if most < room {
             most = room;
         }
-        k += 1;
     }
     most
 }

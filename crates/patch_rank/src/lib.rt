@@ -18,12 +18,10 @@ fn lay_keys(numbers: &[f64], count: usize, work: &mut [u32])
     requires { LayAsks numbers.now count work.old }
     ensures { LayGives numbers.now count work.old work.new }
 {
-    let mut k = 0;
-    while k < count {
+    for k in 0..count {
         let bits = f64::to_bits(numbers[7 * k]);
         work[2 * k] = (bits / HALF) as u32;
         work[2 * k + 1] = (bits % HALF) as u32;
-        k += 1;
     }
 }
 
@@ -41,12 +39,10 @@ fn reaching(work: &[u32], count: usize, t: u64) -> usize
     ensures { result ≡ reach (key_at work.now) count t }
 {
     let mut n = 0;
-    let mut k = 0;
-    while k < count {
+    for k in 0..count {
         if t <= key_at(work, k) {
             n += 1;
         }
-        k += 1;
     }
     n
 }
@@ -88,14 +84,12 @@ fn mark(work: &[u32], count: usize, t: u64, passing: usize, n: usize, flags: &mu
     ensures { MarkGives work.now count n flags.old flags.new }
 {
     let mut place = passing;
-    let mut k = 0;
-    while k < count {
+    for k in 0..count {
         let key = key_at(work, k);
         flags[k] = flag(key, t, place, n);
         if key == t {
             place += 1;
         }
-        k += 1;
     }
 }
 

@@ -119,10 +119,8 @@ fn begin(numbers: &mut [f64], count: usize)
         max_y: -1.0 / 0.0,
         max_z: -1.0 / 0.0,
     };
-    let mut k = 0;
-    while k < count {
+    for k in 0..count {
         write(numbers, k, empty);
-        k += 1;
     }
 }
 
@@ -132,13 +130,11 @@ pub fn count_faces(labels: &[u32], counts: &mut [u32], count: usize)
     ensures { CountGives labels.now counts.old count counts.new }
 {
     rows::clear(counts, 0, count);
-    let mut i = 0;
-    while i < labels.len() {
+    for i in 0..labels.len() {
         let patch = labels[i];
         if patch != rules::NO_PATCH {
             counts[patch as usize] += 1;
         }
-        i += 1;
     }
 }
 
@@ -158,12 +154,10 @@ pub fn sum_faces(points: &[f64], faces: &[u32], labels: &[u32], numbers: &mut [f
     ensures { SumGives points.now faces.now labels.now numbers.old count numbers.new }
 {
     begin(numbers, count);
-    let mut i = 0;
-    while i < labels.len() {
+    for i in 0..labels.len() {
         let label = labels[i];
         if label != rules::NO_PATCH {
             add_face(points, faces, i, numbers, label as usize);
         }
-        i += 1;
     }
 }

@@ -94,13 +94,11 @@ fn largest(numbers: &[f64], count: usize) -> f64
     ensures { result ≡ largest_in numbers.now count }
 {
     let mut held = 0.0;
-    let mut k = 0;
-    while k < count {
+    for k in 0..count {
         let area = numbers[7 * k];
         if held < area {
             held = area;
         }
-        k += 1;
     }
     held
 }
@@ -147,13 +145,11 @@ fn drop_small(
     requires { DropAsks face_counts.now numbers.now count flags.old }
     ensures { DropGives face_counts.now numbers.now count (filter_of by) (limit_of least) flags.old flags.new }
 {
-    let mut k = 0;
-    while k < count {
+    for k in 0..count {
         let r = patch_sums::read(numbers, k);
         if falls(face_counts[k], r, by, least) {
             flags[k] = 0;
         }
-        k += 1;
     }
 }
 

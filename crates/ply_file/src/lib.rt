@@ -37,12 +37,10 @@ fn stands(file: &[u8], at: usize, text: &[u8]) -> bool
     if file.len() - at < text.len() {
         return false;
     }
-    let mut i = 0;
-    while i < text.len() {
+    for i in 0..text.len() {
         if file[at + i] != text[i] {
             return false;
         }
-        i += 1;
     }
     true
 }
@@ -117,12 +115,10 @@ fn triples(file: &[u8], at: usize, f: usize) -> Verdict
     requires { ply.FacesAsk file.now at f }
     ensures { by.check_of result ≡ rule.no14 file.now }
 {
-    let mut i = 0;
-    while i < f {
+    for i in 0..f {
         if file[at + 13 * i] != 3 {
             return Verdict::Refused(14, i);
         }
-        i += 1;
     }
     Verdict::Fine
 }
@@ -149,12 +145,10 @@ fn vertices(file: &[u8], at: usize, p: usize) -> Verdict
     requires { ply.VerticesAsk file.now at p }
     ensures { by.check_of result ≡ refusal.no4 (rule.points_of_bytes file.now) }
 {
-    let mut i = 0;
-    while i < p {
+    for i in 0..p {
         if far(file, at + 24 * i) {
             return Verdict::Refused(4, i);
         }
-        i += 1;
     }
     Verdict::Fine
 }
@@ -178,12 +172,10 @@ fn corners(file: &[u8], at: usize, p: usize, f: usize) -> Verdict
     requires { ply.FacesAsk file.now at f }
     ensures { by.check_of result ≡ refusal.no5 p (rule.triples_of file.now) }
 {
-    let mut i = 0;
-    while i < f {
+    for i in 0..f {
         if astray(file, p, at + 13 * i) {
             return Verdict::Refused(5, i);
         }
-        i += 1;
     }
     Verdict::Fine
 }

@@ -67,11 +67,9 @@ fn scan(points: &[f64], faces: &[u32], run: &[u32], start: Choice) -> Choice
     ensures { ScanGives points.now faces.now run.now start result }
 {
     let mut b = start;
-    let mut i = 0;
-    while i < run.len() {
+    for i in 0..run.len() {
         let j = run[i] as usize / 3;
         b = better(points, faces, b, j);
-        i += 1;
     }
     b
 }
@@ -99,15 +97,13 @@ pub fn best(points: &[f64], faces: &[u32], run: &[u32]) -> usize
 pub fn place(run: &[u32], one: usize) -> usize
     ensures { result ≡ first (eqb one) (faces_in run.now) }
 {
-    let mut i = 0;
-    while i < run.len() {
+    for i in 0..run.len() {
         let j = run[i] as usize / 3;
         if j == one {
             return i;
         }
-        i += 1;
     }
-    i
+    run.len()
 }
 
 // Whether the step from x to y is the one from a to b.
@@ -147,14 +143,12 @@ fn scan_other(
     ensures { OtherGives points.now faces.now run.now (steps.step from to) forward result }
 {
     let mut b = none(faces);
-    let mut i = 0;
-    while i < run.len() {
+    for i in 0..run.len() {
         let j = run[i] as usize / 3;
         let k = walks(faces, j, from, to);
         if k != forward {
             b = better(points, faces, b, j);
         }
-        i += 1;
     }
     b.face
 }

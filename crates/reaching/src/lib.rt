@@ -88,11 +88,9 @@ pub fn reach_run(work: &mut [u32], faces: &[u32], n: usize, from: usize, to: usi
     requires { RunAsks work.old faces.now n from to }
     ensures { ReachRunGives work.old faces.now n from to x y work.new }
 {
-    let mut k = from;
-    while k < to {
+    for k in from..to {
         let i = work[k] as usize / 3;
         reach(work, faces, n, i, x, y);
-        k += 1;
     }
 }
 
@@ -141,11 +139,9 @@ pub fn lone(work: &[u32], faces: &[u32], n: usize, from: usize, to: usize, x: u3
         (map (λ (id : ℕ). id / 3) (part work.now from (to - from))) }
 {
     let mut known: u32 = 0;
-    let mut k = from;
-    while k < to {
+    for k in from..to {
         let i = work[k] as usize / 3;
         known = met(work, faces, n, known, i, x, y);
-        k += 1;
     }
     known
 }

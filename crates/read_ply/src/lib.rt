@@ -21,10 +21,8 @@ fn coordinates(file: &[u8], at: usize, n: usize, points: &mut [f64])
     requires { CoordinatesAsk file.now at n points.old }
     ensures { CoordinatesGive file.now at n points.old points.new }
 {
-    let mut i = 0;
-    while i < n {
+    for i in 0..n {
         points[i] = byte_rows::real_at(file, at + 8 * i);
-        i += 1;
     }
 }
 
@@ -33,15 +31,13 @@ fn triples(file: &[u8], at: usize, f: usize, faces: &mut [u32])
     requires { TriplesAsk file.now at f faces.old }
     ensures { TriplesGive file.now at f faces.old faces.new }
 {
-    let mut i = 0;
-    while i < f {
+    for i in 0..f {
         let a = byte_rows::u32_at(file, at + 13 * i + 1);
         let b = byte_rows::u32_at(file, at + 13 * i + 5);
         let c = byte_rows::u32_at(file, at + 13 * i + 9);
         faces[3 * i] = a;
         faces[3 * i + 1] = b;
         faces[3 * i + 2] = c;
-        i += 1;
     }
 }
 

@@ -38,8 +38,7 @@ fn keys(file: &[u8], n: usize, work: &mut [u32])
     requires { FileAsks file.now n work.old }
     ensures { KeysGives file.now n work.old work.new }
 {
-    let mut c = 0;
-    while c < n {
+    for c in 0..n {
         let i = stl_file::place_of(c);
         let x = one_zero(byte_rows::u32_at(file, i));
         let y = one_zero(byte_rows::u32_at(file, i + 4));
@@ -47,7 +46,6 @@ fn keys(file: &[u8], n: usize, work: &mut [u32])
         work[c] = x;
         work[n + c] = y;
         work[2 * n + c] = z;
-        c += 1;
     }
 }
 
@@ -56,8 +54,7 @@ fn corners(file: &[u8], n: usize, points: &mut [f64])
     requires { CornersAsks file.now n points.old }
     ensures { CornersGives file.now n points.old points.new }
 {
-    let mut c = 0;
-    while c < n {
+    for c in 0..n {
         let i = stl_file::place_of(c);
         let x = stl_file::coordinate(file, i);
         let y = stl_file::coordinate(file, i + 4);
@@ -65,7 +62,6 @@ fn corners(file: &[u8], n: usize, points: &mut [f64])
         points[3 * c] = x;
         points[3 * c + 1] = y;
         points[3 * c + 2] = z;
-        c += 1;
     }
 }
 
@@ -81,12 +77,10 @@ fn flags(n: usize, work: &mut [u32])
     requires { FlagsAsks work.old n }
     ensures { FlagsGives work.old n work.new }
 {
-    let mut c = 0;
-    while c < n {
+    for c in 0..n {
         let j = work[4 * n + c] as usize;
         let flag = other(j, c);
         work[5 * n + c] = flag;
-        c += 1;
     }
 }
 
@@ -95,11 +89,9 @@ fn triples(n: usize, work: &[u32], faces: &mut [u32])
     requires { TriplesAsks work.now n faces.old }
     ensures { TriplesGives work.now n faces.old faces.new }
 {
-    let mut c = 0;
-    while c < n {
+    for c in 0..n {
         let j = work[4 * n + c] as usize;
         faces[c] = work[6 * n + j];
-        c += 1;
     }
 }
 

@@ -17,10 +17,8 @@ fn show_float(rt: &impl Print, x: f64) -> io::Result<()> {
 
 // Writes the bits of each of some numbers.
 fn show_floats(rt: &impl Print, xs: &[f64]) -> io::Result<()> {
-    let mut i = 0;
-    while i < xs.len() {
+    for i in 0..xs.len() {
         show_float(rt, xs[i])?;
-        i += 1;
     }
     Ok(())
 }
@@ -32,10 +30,8 @@ fn show_number(rt: &impl Print, n: u32) -> io::Result<()> {
 
 // Writes each of some numbers in decimal.
 fn show_numbers(rt: &impl Print, xs: &[u32]) -> io::Result<()> {
-    let mut i = 0;
-    while i < xs.len() {
+    for i in 0..xs.len() {
         show_number(rt, xs[i])?;
-        i += 1;
     }
     Ok(())
 }

@@ -105,12 +105,10 @@ fn coordinates(points: &[f64]) -> Verdict
     ensures { by.check_of result ≡ rule.no4 (points_of points.now) }
 {
     let n = points.len() / 3;
-    let mut i = 0;
-    while i < n {
+    for i in 0..n {
         if far(points, i) {
             return Verdict::Refused(4, i);
         }
-        i += 1;
     }
     Verdict::Fine
 }
@@ -135,12 +133,10 @@ pub fn corners(p: usize, faces: &[u32]) -> Verdict
     ensures { by.check_of result ≡ rule.no5 p (faces_of faces.now) }
 {
     let n = faces.len() / 3;
-    let mut i = 0;
-    while i < n {
+    for i in 0..n {
         if astray(p, faces, i) {
             return Verdict::Refused(5, i);
         }
-        i += 1;
     }
     Verdict::Fine
 }
@@ -172,12 +168,10 @@ fn strange(count: usize, label: u32) -> bool
 fn known(count: usize, labels: &[u32]) -> Verdict
     ensures { by.check_of result ≡ rule.no9 count labels.now }
 {
-    let mut i = 0;
-    while i < labels.len() {
+    for i in 0..labels.len() {
         if strange(count, labels[i]) {
             return Verdict::Refused(9, i);
         }
-        i += 1;
     }
     Verdict::Fine
 }

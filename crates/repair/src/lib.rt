@@ -34,10 +34,8 @@ fn write_report(report: &mut [u32], counts: Report)
         counts.nonorientable_components,
         counts.isolated_vertices_removed,
     ];
-    let mut k = 0;
-    while k < rules::COUNTS {
+    for k in 0..rules::COUNTS {
         report[k] = all[k] as u32;
-        k += 1;
     }
 }
 

@@ -48,15 +48,13 @@ fn mend_all(
         counts: 0,
         origins: 0,
     };
-    let mut k = 0;
-    while k < point_counts.len() {
+    for k in 0..point_counts.len() {
         let p = point_counts[k] as usize;
         let f = face_counts[k] as usize;
         at = mend_mesh::mend_next(
             points, faces, p, f, s, options, out_points, out_faces, report, origins, meshes, work,
             k, at,
         );
-        k += 1;
     }
     at
 }

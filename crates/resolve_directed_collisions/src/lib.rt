@@ -35,15 +35,13 @@ fn mark_rest(work: &mut [u32], from: usize, len: usize, marks: usize, count: usi
     ensures { LostGives (λ i. has i (without one (faces_in (part work.old from len)))) work.old marks count work.new }
 {
     let mut seen = false;
-    let mut k = 0;
-    while k < len {
+    for k in 0..len {
         let f = work[from + k] as usize / 3;
         if stays(f, one, seen) {
             seen = true;
         } else {
             work[marks + f] = 1;
         }
-        k += 1;
     }
 }
 
@@ -73,10 +71,8 @@ fn mark_edges(points: &[f64], faces: &[u32], work: &mut [u32], marks: usize)
 {
     let m = table::table(work, faces, points.len() / 3, true, 0);
     rows::clear(work, marks, faces.len() / 3);
-    let mut r = 0;
-    while r < m {
+    for r in 0..m {
         resolve_edge(points, faces, work, marks, r);
-        r += 1;
     }
 }
 

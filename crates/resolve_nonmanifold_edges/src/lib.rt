@@ -40,13 +40,11 @@ fn mark_others(
     requires { EntriesAsks work.old from len marks count }
     ensures { LostGives (lost_of (faces_in (part work.old from len)) one two) work.old marks count work.new }
 {
-    let mut k = 0;
-    while k < len {
+    for k in 0..len {
         let f = work[from + k] as usize / 3;
         if loses(f, one, two) {
             work[marks + f] = 1;
         }
-        k += 1;
     }
 }
 
@@ -81,10 +79,8 @@ fn mark_edges(points: &[f64], faces: &[u32], work: &mut [u32], marks: usize) -> 
     let m = table::table(work, faces, points.len() / 3, false, 0);
     rows::clear(work, marks, faces.len() / 3);
     let mut c = 0;
-    let mut r = 0;
-    while r < m {
+    for r in 0..m {
         c += resolve_edge(points, faces, work, marks, r);
-        r += 1;
     }
     c
 }

@@ -24,8 +24,7 @@ fn near(n: u64) -> u64
     let mut left = n;
     let mut root: u64 = 0;
     let mut rem: u64 = 0;
-    let mut i: u64 = 0;
-    while i < 53 {
+    for i in 0_u64..53 {
         let next = rem * 4 + left / HID;
         let trial = root * 4 + 1;
         left = left % HID * 4;
@@ -36,7 +35,6 @@ fn near(n: u64) -> u64
             rem = next;
             root = root * 2;
         }
-        i += 1;
     }
     if root < rem { root + 1 } else { root }
 }

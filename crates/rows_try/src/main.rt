@@ -12,24 +12,20 @@ fn whole(x: f64) -> u64 {
     if 1.0 / x < 0.0 {
         return 100;
     }
-    let mut n = 0;
     let mut y = 0.0;
-    while n < 100 {
+    for n in 0..100 {
         if x == y {
             return n;
         }
         y = y + 1.0;
-        n += 1;
     }
-    n
+    100
 }
 
 // Writes the floats of a row, which are small whole numbers, and ends the line.
 fn show_points(rt: &impl Print, row: &[f64]) -> io::Result<()> {
-    let mut i = 0;
-    while i < row.len() {
+    for i in 0..row.len() {
         show::number(rt, whole(row[i]))?;
-        i += 1;
     }
     show::end_line(rt)
 }

@@ -100,14 +100,12 @@ fn next_waiting(words: &[u32]) -> usize
     requires { length words.now ≤ most_faces }
     ensures { by.WaitingGives words.now result }
 {
-    let mut g = 0;
-    while g < words.len() {
+    for g in 0..words.len() {
         if words[g] / 4 % 4 == 1 {
             return g;
         }
-        g += 1;
     }
-    g
+    words.len()
 }
 
 // The flag of a corner, if it is v.
@@ -133,14 +131,12 @@ fn settle(faces: &[u32], words: &mut [u32], v: u32) -> usize
     ensures { by.SettleGives faces.now words.old v words.new result }
 {
     let mut bytes = 0;
-    let mut g = 0;
-    while g < words.len() {
+    for g in 0..words.len() {
         if words[g] / 4 % 4 == 2 {
             let c = view(faces, words, g);
             words[g] = words[g] - 8 + flags(c.a, c.b, c.c, v);
             bytes = bytes + 1 + number_length(g as u32);
         }
-        g += 1;
     }
     bytes
 }

@@ -18,10 +18,8 @@ pub fn all_length(points: usize) -> usize
     ensures { result ≡ sum_of (λ v. 2 + field v) (below points) }
 {
     let mut bytes = 0;
-    let mut v = 0;
-    while v < points {
+    for v in 0..points {
         bytes = bytes + 3 + number_length(v as u32);
-        v += 1;
     }
     bytes
 }
@@ -62,12 +60,10 @@ pub fn kept_length(faces: &[u32], index: &[u32], words: &[u32]) -> usize
     ensures { result ≡ by.kept_length faces.now words.now }
 {
     let mut bytes = 0;
-    let mut f = 0;
-    while f < words.len() {
+    for f in 0..words.len() {
         if stands(words, f) {
             bytes = bytes + kept_face(faces, index, words, f);
         }
-        f += 1;
     }
     bytes
 }

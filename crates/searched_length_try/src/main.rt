@@ -25,10 +25,8 @@ fn tell(rt: &impl Print, points: &[f64], faces: &[u32], options: u32) -> io::Res
 
 // The same for each of the options, on a line.
 fn tell_all(rt: &impl Print, points: &[f64], faces: &[u32]) -> io::Result<()> {
-    let mut options = 0;
-    while options < 64 {
+    for options in 0..64 {
         tell(rt, points, faces, options)?;
-        options += 1;
     }
     show::end_line(rt)
 }
@@ -37,10 +35,8 @@ fn tell_all(rt: &impl Print, points: &[f64], faces: &[u32]) -> io::Result<()> {
 fn strip(faces: &mut [u32])
     requires { length faces.old ≤ 100000 }
 {
-    let mut j = 0;
-    while j < faces.len() {
+    for j in 0..faces.len() {
         faces[j] = (j / 3 + j % 3) as u32;
-        j += 1;
     }
 }
 

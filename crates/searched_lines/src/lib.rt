@@ -41,10 +41,8 @@ fn degenerate_length(points: &[f64], s: f64, faces: &[u32], words: &[u32]) -> us
     ensures { by.SumGives (by.degenerate_line s points.now faces.now words.now) (length words.now) result }
 {
     let mut bytes = 0;
-    let mut f = 0;
-    while f < words.len() {
+    for f in 0..words.len() {
         bytes += degenerate_line(points, s, faces, words, f);
-        f += 1;
     }
     bytes
 }
@@ -66,10 +64,8 @@ fn marked_length(words: &[u32], n: usize) -> usize
     ensures { by.SumGives (by.marked_line n words.now) (length words.now) result }
 {
     let mut bytes = 0;
-    let mut f = 0;
-    while f < words.len() {
+    for f in 0..words.len() {
         bytes += marked_line(words, n, f);
-        f += 1;
     }
     bytes
 }
@@ -97,10 +93,8 @@ fn exchange_length(faces: &[u32], words: &[u32]) -> usize
     ensures { by.SumGives (by.exchange_line faces.now words.now) (length words.now) result }
 {
     let mut bytes = 0;
-    let mut f = 0;
-    while f < words.len() {
+    for f in 0..words.len() {
         bytes += exchange_line(faces, words, f);
-        f += 1;
     }
     bytes
 }

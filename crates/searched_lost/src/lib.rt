@@ -48,12 +48,10 @@ pub fn lost_length(faces: &[u32], words: &[u32], points: usize) -> usize
     ensures { (q : by.LostAsks faces.now words.now points) → result ≡ by.lost_to faces.now q.base points (3 * length (viewed faces.now q.base)) }
 {
     let mut bytes = 0;
-    let mut f = 0;
-    while f < words.len() {
+    for f in 0..words.len() {
         if stands(words, f) {
             bytes = bytes + lost_face(faces, words, points, f);
         }
-        f += 1;
     }
     bytes
 }

@@ -55,15 +55,13 @@ pub fn rank(faces: &[u32], words: &[u32], v: u32, id: usize) -> usize
     ensures { result ≡ by.rank_by faces.now words.now v id }
 {
     let mut count = 0;
-    let mut g = 0;
-    while g < words.len() {
+    for g in 0..words.len() {
         if stands(words, g) {
             count = count
                 + rank_corner(faces, words, g, 0, v, id)
                 + rank_corner(faces, words, g, 1, v, id)
                 + rank_corner(faces, words, g, 2, v, id);
         }
-        g += 1;
     }
     count
 }

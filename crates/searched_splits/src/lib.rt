@@ -234,14 +234,12 @@ pub fn split_length(faces: &[u32], index: &[u32], words: &mut [u32], points: usi
 {
     let mut splits = 0;
     let mut bytes = 0;
-    let mut f = 0;
-    while f < words.len() {
+    for f in 0..words.len() {
         if stands(words, f) {
             let told = split_face(faces, index, words, f, points, splits, bytes);
             splits = told.splits;
             bytes = told.bytes;
         }
-        f += 1;
     }
     Told {
         splits: splits,

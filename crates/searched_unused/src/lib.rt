@@ -54,10 +54,8 @@ pub fn unused_length(faces: &[u32], index: &[u32], words: &[u32], points: usize)
     ensures { by.UnusedGives faces.now words.now points result }
 {
     let mut bytes = 0;
-    let mut v = 0;
-    while v < points {
+    for v in 0..points {
         bytes += unused_line(faces, index, words, v as u32);
-        v += 1;
     }
     bytes
 }

@@ -97,10 +97,8 @@ fn meet_times(
     ensures { walking.TimesGives faces.now words.old hand g (step a b) times words.new result }
 {
     let mut now = hand;
-    let mut k = 0;
-    while k < times {
+    for k in 0..times {
         now = meet(faces, words, g, a, b, now);
-        k += 1;
     }
     now
 }
@@ -250,12 +248,10 @@ fn count_standing(words: &[u32]) -> usize
     ensures { result ≡ place words.now (length words.now) }
 {
     let mut n = 0;
-    let mut f = 0;
-    while f < words.len() {
+    for f in 0..words.len() {
         if face_words::stands(words, f) {
             n += 1;
         }
-        f += 1;
     }
     n
 }
@@ -273,10 +269,8 @@ fn walk_all(faces: &[u32], index: &[u32], words: &mut [u32], n: usize) -> Hand
         mark: false,
         marks: 0,
     };
-    let mut f = 0;
-    while f < words.len() {
+    for f in 0..words.len() {
         now = begin(faces, index, words, n, f, now);
-        f += 1;
     }
     now
 }
@@ -285,10 +279,8 @@ fn walk_all(faces: &[u32], index: &[u32], words: &mut [u32], n: usize) -> Hand
 fn clean(words: &mut [u32])
     ensures { walking.CleanGives words.old words.new }
 {
-    let mut f = 0;
-    while f < words.len() {
+    for f in 0..words.len() {
         words[f] = words[f] % 4;
-        f += 1;
     }
 }
 

@@ -20,10 +20,8 @@ pub fn end_line(rt: &impl Print) -> io::Result<()> {
 pub fn numbers(rt: &impl Print, row: &[u32], n: usize) -> io::Result<()>
     requires { n ≤ length row.now }
 {
-    let mut i = 0;
-    while i < n {
+    for i in 0..n {
         number(rt, row[i] as u64)?;
-        i += 1;
     }
     Ok(())
 }
@@ -38,17 +36,15 @@ pub fn row(rt: &impl Print, row: &[u32], n: usize) -> io::Result<()>
 
 // Writes how many entries of two rows of floats are equal, from the front on, and ends the line.
 pub fn equal(rt: &impl Print, row: &[f64], other: &[f64]) -> io::Result<()> {
-    let mut i = 0;
-    while i < row.len() {
+    for i in 0..row.len() {
         if i >= other.len() {
             break;
         }
         if row[i] != other[i] {
             break;
         }
-        i += 1;
     }
-    number(rt, i as u64)?;
+    number(rt, row.len() as u64)?;
     end_line(rt)
 }
 
@@ -75,13 +71,11 @@ fn passed(rt: &impl Print, row: &[u32], begin: usize, i: usize) -> io::Result<us
 // Writes a row by its runs: how many entries, and the number that they all hold.
 pub fn runs(rt: &impl Print, row: &[u32]) -> io::Result<()> {
     let mut begin = 0;
-    let mut i = 0;
-    while i < row.len() {
+    for i in 0..row.len() {
         begin = passed(rt, row, begin, i)?;
-        i += 1;
     }
     if begin < row.len() {
-        run(rt, i - begin, row[begin])?;
+        run(rt, row.len() - begin, row[begin])?;
     }
     end_line(rt)
 }
@@ -99,21 +93,17 @@ fn float(rt: &impl Print, x: f64) -> io::Result<()> {
 
 // Writes a row of floats by their bits, and ends the line.
 pub fn bits(rt: &impl Print, row: &[f64]) -> io::Result<()> {
-    let mut i = 0;
-    while i < row.len() {
+    for i in 0..row.len() {
         float(rt, row[i])?;
-        i += 1;
     }
     end_line(rt)
 }
 
 // Writes a row of bytes in hex, and ends the line.
 pub fn hex(rt: &impl Print, row: &[u8]) -> io::Result<()> {
-    let mut i = 0;
-    while i < row.len() {
+    for i in 0..row.len() {
         let byte = row[i];
         print!(rt; "{byte:02x}")?;
-        i += 1;
     }
     end_line(rt)
 }

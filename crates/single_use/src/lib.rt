@@ -57,12 +57,10 @@ pub fn single(work: &[u32], faces: &[u32], states: usize, at: usize, m: usize) -
     requires { SingleAsks work.now faces.now states at m }
     ensures { result ≡ true → Once (turned_by (part work.now states (length faces.now / 3)) (faces_of faces.now)) }
 {
-    let mut r = 0;
-    while r < m {
+    for r in 0..m {
         if at_odds(work, faces, states, at, r) {
             return false;
         }
-        r += 1;
     }
     true
 }

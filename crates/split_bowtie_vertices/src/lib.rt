@@ -23,10 +23,8 @@ fn copies(points: &mut [f64], v: usize, from: usize, m: usize)
     requires { CopiesAsks points.old v from m }
     ensures { CopiesGives points.old v from m points.new }
 {
-    let mut j = 0;
-    while j < m {
+    for j in 0..m {
         rows::move_point(points, v, from + j);
-        j += 1;
     }
 }
 
@@ -70,15 +68,13 @@ fn split_all(points: &mut [f64], work: &mut [u32], count: usize, n: usize) -> Sp
     let mut begin = 0;
     let mut next = count;
     let mut splits = 0;
-    let mut v = 0;
-    while v < count {
+    for v in 0..count {
         let r = split_vertex(points, work, count, n, v, begin, next);
         if next < r.next {
             splits += 1;
         }
         begin = r.end;
         next = r.next;
-        v += 1;
     }
     Split {
         splits: splits,
@@ -91,11 +87,9 @@ pub fn rename(faces: &mut [u32], work: &[u32], leads: usize, numbers: usize, n: 
     requires { RenameAsks faces.old work.now leads numbers n }
     ensures { RenameGives faces.old work.now leads numbers n faces.new }
 {
-    let mut id = 0;
-    while id < n {
+    for id in 0..n {
         let taken = corner_numbers::new_corner(work, leads, numbers, n, id);
         rows::store(faces, id, taken);
-        id += 1;
     }
 }
 

@@ -52,12 +52,10 @@ fn split_all(work: &mut [u32], count: usize, m: usize, olds: usize) -> usize
 {
     let mut begin = 0;
     let mut next = count;
-    let mut v = 0;
-    while v < count {
+    for v in 0..count {
         let r = split_vertex(work, count, m, olds, v, begin, next);
         begin = r.end;
         next = r.next;
-        v += 1;
     }
     next
 }

@@ -61,12 +61,10 @@ fn corners(file: &[u8], count: usize) -> Verdict
     ensures { by.check_of result ≡ refusal.no4 (rule.corners_of file.now) }
 {
     let n = 3 * count;
-    let mut c = 0;
-    while c < n {
+    for c in 0..n {
         if far(file, c) {
             return Verdict::Refused(4, c);
         }
-        c += 1;
     }
     Verdict::Fine
 }

@@ -125,12 +125,10 @@ fn runs(work: &mut [u32], n: usize, at: usize) -> usize
     ensures { RunsGives work.old n at work.new result }
 {
     let mut m: usize = 0;
-    let mut i: usize = 0;
-    while i < n {
+    for i in 0..n {
         m = note(work, n, at, m, i);
         let id = work[at + 3 * n + i] as usize;
         work[at + 2 * n + id] = (m - 1) as u32;
-        i += 1;
     }
     work[at + 4 * n + m] = n as u32;
     m

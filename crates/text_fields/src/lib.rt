@@ -31,14 +31,12 @@ pub fn find(text: &[u8], from: usize, byte: u8) -> usize
     requires { from ≤ length text.now }
     ensures { by.Piece text.now from byte result }
 {
-    let mut i = from;
-    while i < text.len() {
+    for i in from..text.len() {
         if text[i] == byte {
             return i;
         }
-        i += 1;
     }
-    i
+    text.len()
 }
 
 // The number that a decimal digit writes; 10 for any other byte.
@@ -71,14 +69,12 @@ pub fn read_plain(field: &[u8]) -> Plain
         return Plain::Number(0);
     }
     let mut n = 0;
-    let mut i = 0;
-    while i < field.len() {
+    for i in 0..field.len() {
         let d = digit(field[i]);
         if d == 10 {
             return Plain::Bad;
         }
         n = 10 * n + d;
-        i += 1;
     }
     Plain::Number(n)
 }
@@ -123,14 +119,12 @@ pub fn read_real(field: &[u8]) -> Real
         return Real::Bad;
     }
     let mut n = 0;
-    let mut i = 0;
-    while i < 16 {
+    for i in 0..16 {
         let d = hex_digit(field[i]);
         if d == 16 {
             return Real::Bad;
         }
         n = 16 * n + d;
-        i += 1;
     }
     Real::Number(byte_rows::float(n))
 }

@@ -85,10 +85,8 @@ fn put_points(out: &mut [u8], at: usize, points: &[f64]) -> usize
     ensures { by.LinesGive out.old at (by.point_lines points.now) 53 (length points.now / 3) out.new result }
 {
     let mut next = at;
-    let mut i = 0;
-    while i < points.len() / 3 {
+    for i in 0..points.len() / 3 {
         next = put_point(out, next, points, i);
-        i += 1;
     }
     next
 }
@@ -99,10 +97,8 @@ fn put_faces(out: &mut [u8], at: usize, faces: &[u32]) -> usize
     ensures { by.LinesGive out.old at (by.face_lines faces.now) 35 (length faces.now / 3) out.new result }
 {
     let mut next = at;
-    let mut i = 0;
-    while i < faces.len() / 3 {
+    for i in 0..faces.len() / 3 {
         next = put_face(out, next, faces, i);
-        i += 1;
     }
     next
 }
@@ -113,10 +109,8 @@ fn put_counts(out: &mut [u8], at: usize, report: &[u32]) -> usize
     ensures { by.LinesGive out.old at (by.counts report.now) 11 (length report.now) out.new result }
 {
     let mut next = at;
-    let mut i = 0;
-    while i < report.len() {
+    for i in 0..report.len() {
         next = put_whole(out, next, report[i]);
-        i += 1;
     }
     next
 }

@@ -95,17 +95,14 @@ fn from_faces(rt: &impl Print, count: usize, faces: &[u32]) -> io::Result<()> {
 fn fan(faces: &mut [u32])
     requires { length faces.old ≡ 12303 }
 {
-    let mut i = 0;
-    while i < 2049 {
+    for i in 0..2049 {
         faces[3 * i + 1] = (i + 3) as u32;
         faces[3 * i + 2] = (i + 4) as u32;
-        i += 1;
     }
-    while i < 4101 {
+    for i in 2049..4101 {
         faces[3 * i] = 2;
         faces[3 * i + 1] = 3;
         faces[3 * i + 2] = 4;
-        i += 1;
     }
 }
 

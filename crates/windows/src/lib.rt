@@ -56,8 +56,7 @@ fn pass(
 {
     let inner = w as u64;
     let outer = (w + width) as u64;
-    let mut i = 0;
-    while i < faces.len() {
+    for i in 0..faces.len() {
         let j = std::num::wrapping_sub_u64(faces[i] as u64, v);
         if j < outer {
             if j < inner {
@@ -67,7 +66,6 @@ fn pass(
                 counts[k] = counts[k] + 1;
             }
         }
-        i += 1;
     }
 }
 
@@ -78,8 +76,7 @@ fn fit(counts: &[u32], limit: usize, room: usize, most: usize, ends: &mut [u32])
     ensures { FitGives counts.now limit room most ends.new result }
 {
     let mut s: usize = 0;
-    let mut k = 0;
-    while k < limit {
+    for k in 0..limit {
         let n = 2 * (counts[k] as usize);
         if most < n {
             return k;
@@ -89,9 +86,8 @@ fn fit(counts: &[u32], limit: usize, room: usize, most: usize, ends: &mut [u32])
         }
         ends[k] = s as u32;
         s += n;
-        k += 1;
     }
-    k
+    limit
 }
 
 // Copies the n entries from `s` on to the front of `to`, with `base` added to each.
@@ -99,10 +95,8 @@ fn widen(buffer: &[u32], s: usize, n: usize, base: u64, to: &mut [u64])
     requires { WidenAsks buffer.now s n base to.old }
     ensures { WidenGives buffer.now s n base to.new }
 {
-    let mut i = 0;
-    while i < n {
+    for i in 0..n {
         to[i] = base + buffer[s + i] as u64;
-        i += 1;
     }
 }
 
@@ -122,15 +116,13 @@ fn runs(
     let mut r = t;
     let mut from = v * points;
     let mut s: usize = 0;
-    let mut j = 0;
-    while j < w {
+    for j in 0..w {
         let e = ends[j] as usize;
         let to = from + points;
         widen(buffer, s, e - s, 2 * from, entries);
         r = short_runs::walk(entries, 0, e - s, from, to, points, r);
         from = to;
         s = e;
-        j += 1;
     }
     r
 }

@@ -27,10 +27,8 @@ fn any_in_line(work: &[u32], from: usize, n: usize) -> u32
     ensures { AnyGives 0 0 work.now from n result }
 {
     let mut x: u32 = 0;
-    let mut i = 0;
-    while i < n {
+    for i in 0..n {
         x = x | work[from + i];
-        i += 1;
     }
     x
 }
@@ -47,13 +45,11 @@ fn any_in_four(work: &[u32], from: usize, n: usize) -> u32
     let mut y: u32 = 0;
     let mut z: u32 = 0;
     let mut u: u32 = 0;
-    let mut i = 0;
-    while i < n {
+    for i in 0..n {
         x = x | work[from + i];
         y = y | work[second + i];
         z = z | work[third + i];
         u = u | work[fourth + i];
-        i += 1;
     }
     x | y | z | u
 }
@@ -119,10 +115,8 @@ fn bits_in_line(points: &[f64], from: usize, n: usize) -> u64
     ensures { AnyGives nan zero64 points.now from n result }
 {
     let mut x: u64 = 0;
-    let mut i = 0;
-    while i < n {
+    for i in 0..n {
         x = x | bits(points[from + i]);
-        i += 1;
     }
     x
 }
@@ -139,13 +133,11 @@ fn bits_in_four(points: &[f64], from: usize, n: usize) -> u64
     let mut y: u64 = 0;
     let mut z: u64 = 0;
     let mut u: u64 = 0;
-    let mut i = 0;
-    while i < n {
+    for i in 0..n {
         x = x | bits(points[from + i]);
         y = y | bits(points[second + i]);
         z = z | bits(points[third + i]);
         u = u | bits(points[fourth + i]);
-        i += 1;
     }
     x | y | z | u
 }

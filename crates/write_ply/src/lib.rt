@@ -49,10 +49,8 @@ fn put_reals(out: &mut [u8], at: usize, points: &[f64]) -> usize
     ensures { Puts out.old at (each to.real points.now) out.new result }
 {
     let mut next = at;
-    let mut i = 0;
-    while i < points.len() {
+    for i in 0..points.len() {
         next = byte_rows::put_little(out, next, 8, f64::to_bits(points[i]));
-        i += 1;
     }
     next
 }
@@ -75,10 +73,8 @@ fn put_triples(out: &mut [u8], at: usize, faces: &[u32]) -> usize
 {
     let n = faces.len() / 3;
     let mut next = at;
-    let mut i = 0;
-    while i < n {
+    for i in 0..n {
         next = put_triple(out, next, faces, i);
-        i += 1;
     }
     next
 }

@@ -5,6 +5,3 @@ use Rattle.boundary.proofs.trace.Given as goal
 
 abbrev pub invariant-loop-r : goal.invariant-loop-r
 invariant-loop-r l = Inv l.initial.work l.faces l.count l.m l.row l.work l.r
-
-abbrev pub decreases-loop-r : goal.decreases-loop-r
-decreases-loop-r l = l.m - l.r

@@ -35,9 +35,6 @@ returns-then-begins-work c = first_at c.loop-i.invariant c.loop-i-test.true (fau
 pub returns-then-begins-gt1 : goal.returns-then-begins-gt1
 returns-then-begins-gt1 c = first_at c.loop-i.invariant c.loop-i-test.true (fault_many _ _ c.if-begins-work.false c.if-begins-gt1.true)
 
-pub overflow_add-i : goal.overflow_add-i
-overflow_add-i c = omega (arith, c.requires, c.loop-i-test.true)
-
 pub loop-i-preserved : goal.loop-i-preserved
 loop-i-preserved c = clean_more _ _ _ c.loop-i.invariant c.loop-i-test.true (fault_none _ _ c.if-begins-work.false c.if-begins-gt1.false)
 

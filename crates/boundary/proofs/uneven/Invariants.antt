@@ -6,6 +6,3 @@ use Rattle.boundary.proofs.uneven.Given as goal
 
 abbrev pub invariant-loop-i : goal.invariant-loop-i
 invariant-loop-i l = Clean (uneven l.work l.row (l.row + l.count)) l.count l.i
-
-abbrev pub decreases-loop-i : goal.decreases-loop-i
-decreases-loop-i l = l.count - l.i

@@ -5,6 +5,3 @@ use Rattle.byte_rows.proofs.put_little.Given as goal
 
 abbrev pub invariant-loop-i : goal.invariant-loop-i
 invariant-loop-i l = Little l.initial.out l.at l.k l.n l.out l.m l.i
-
-abbrev pub decreases-loop-i : goal.decreases-loop-i
-decreases-loop-i l = l.k - l.i

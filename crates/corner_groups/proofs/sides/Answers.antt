@@ -94,9 +94,6 @@ offset_bounds-work-to-in-loop-i c = omega (arith, turn c.requires c.loop-i.invar
 pub bounds-work-to-in-loop-i : goal.bounds-work-to-in-loop-i
 bounds-work-to-in-loop-i c = simp length-set (omega (arith, turn c.requires c.loop-i.invariant c.loop-i-test.true))
 
-pub overflow_add-i : goal.overflow_add-i
-overflow_add-i c = omega (arith, turn c.requires c.loop-i.invariant c.loop-i-test.true)
-
 pub loop-i-preserved : goal.loop-i-preserved
 loop-i-preserved c = again c.requires c.loop-i.invariant c.loop-i-test.true c.lower-a.ensures c.higher-b.ensures
 

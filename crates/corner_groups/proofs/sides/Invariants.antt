@@ -23,6 +23,3 @@ pub record Turn (w xs : List ℕ) (from to i : ℕ) : Type 0 where
 
 abbrev pub invariant-loop-i : goal.invariant-loop-i
 invariant-loop-i l = Inv l.initial.work l.faces l.from l.to l.work l.i
-
-abbrev pub decreases-loop-i : goal.decreases-loop-i
-decreases-loop-i l = length l.faces - l.i

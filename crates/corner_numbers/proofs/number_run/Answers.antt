@@ -131,9 +131,6 @@ offset_bounds-work-numbers-else-extra c = omega (arith, turn c.requires c.loop-j
 pub bounds-work-numbers-else-extra : goal.bounds-work-numbers-else-extra
 bounds-work-numbers-else-extra c = omega (arith, turn c.requires c.loop-j.invariant c.loop-j-test.true)
 
-pub overflow_add-j : goal.overflow_add-j
-overflow_add-j c = omega (arith, turn c.requires c.loop-j.invariant c.loop-j-test.true)
-
 pub loop-j-preserved : goal.loop-j-preserved
 loop-j-preserved c = elim c.if-extra.branch [ then-extra w ↦ rw (w.work-is, w.new-is) (again c.requires c.loop-j.invariant c.loop-j-test.true (sym c.extra.ensures ∙ w.if-extra.true) refl refl) | else-extra w ↦ rw (w.work-is, w.new-is) (again c.requires c.loop-j.invariant c.loop-j-test.true (sym c.extra.ensures ∙ w.if-extra.false) refl (omega arith)) ]
 

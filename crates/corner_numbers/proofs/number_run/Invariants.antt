@@ -28,6 +28,3 @@ pub record Turn (w : List ℕ) (run m leads numbers n v new j : ℕ) : Type 0 wh
 
 abbrev pub invariant-loop-j : goal.invariant-loop-j
 invariant-loop-j l = Inv l.initial.work l.run l.m l.leads l.numbers l.n l.v l.next l.work l.new l.j
-
-abbrev pub decreases-loop-j : goal.decreases-loop-j
-decreases-loop-j l = l.m - l.j

@@ -55,9 +55,6 @@ bounds-work-id c = omega (arith, turn c.requires c.loop-p.invariant c.loop-p-tes
 pub returns-then-work-id : goal.returns-then-work-id
 returns-then-work-id c = stops c.requires c.loop-p.invariant c.loop-p-test.true c.if-work-id.true
 
-pub overflow_add-p : goal.overflow_add-p
-overflow_add-p c = omega (arith, turn c.requires c.loop-p.invariant c.loop-p-test.true)
-
 pub loop-p-preserved : goal.loop-p-preserved
 loop-p-preserved c = again c.requires c.loop-p.invariant c.loop-p-test.true c.if-work-id.false
 

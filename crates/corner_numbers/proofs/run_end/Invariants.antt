@@ -18,6 +18,3 @@ pub record Turn (w : List ℕ) (sorted n p : ℕ) : Type 0 where
 
 abbrev pub invariant-loop-p : goal.invariant-loop-p
 invariant-loop-p l = Inv l.work l.sorted l.begin l.n l.v l.p
-
-abbrev pub decreases-loop-p : goal.decreases-loop-p
-decreases-loop-p l = l.n - l.p

@@ -10,9 +10,6 @@ loop-r-init c = mates_begin c.requires
 pub mate-requires : goal.mate-requires
 mate-requires c = mates_ask c.requires c.loop-r.invariant c.loop-r-test.true
 
-pub overflow_add-r : goal.overflow_add-r
-overflow_add-r c = omega (arith, mates_few c.requires c.loop-r.invariant c.loop-r-test.true)
-
 pub loop-r-preserved : goal.loop-r-preserved
 loop-r-preserved c = mates_again c.requires c.loop-r.invariant c.loop-r-test.true c.mate.ensures
 

@@ -5,6 +5,3 @@ use Rattle.crossing.proofs.mate_all.Given as goal
 
 abbrev pub invariant-loop-r : goal.invariant-loop-r
 invariant-loop-r l = MateInv l.initial.work l.faces l.n l.m l.work l.r
-
-abbrev pub decreases-loop-r : goal.decreases-loop-r
-decreases-loop-r l = l.m - l.r

@@ -5,6 +5,3 @@ use Rattle.drop_degenerate.proofs.flag_all.Given as goal
 
 abbrev pub invariant-loop-i : goal.invariant-loop-i
 invariant-loop-i l = Marked l.points l.s l.faces l.n l.initial.work l.work l.repeated l.i
-
-abbrev pub decreases-loop-i : goal.decreases-loop-i
-decreases-loop-i l = l.n - l.i

@@ -22,9 +22,6 @@ offset_bounds-work-faces c = omega (arith, turn c.requires c.loop-i.invariant c.
 pub bounds-work-faces : goal.bounds-work-faces
 bounds-work-faces c = omega (arith, turn c.requires c.loop-i.invariant c.loop-i-test.true)
 
-pub overflow_add-i : goal.overflow_add-i
-overflow_add-i c = omega (arith, turn c.requires c.loop-i.invariant c.loop-i-test.true)
-
 pub loop-i-preserved : goal.loop-i-preserved
 loop-i-preserved c = again c.requires c.loop-i.invariant c.loop-i-test.true
 

@@ -5,6 +5,3 @@ use Rattle.drop_isolated_vertices.proofs.clear_used.Given as goal
 
 abbrev pub invariant-loop-i : goal.invariant-loop-i
 invariant-loop-i l = Used l.faces l.n l.count l.initial.work l.work l.i
-
-abbrev pub decreases-loop-i : goal.decreases-loop-i
-decreases-loop-i l = 3 * l.n - l.i

@@ -28,9 +28,6 @@ bounds-work-numbers c = omega (arith, turn c.requires c.loop-k.invariant c.loop-
 pub store-requires : goal.store-requires
 store-requires c = omega (arith, turn c.requires c.loop-k.invariant c.loop-k-test.true)
 
-pub overflow_add-k : goal.overflow_add-k
-overflow_add-k c = omega (arith, turn c.requires c.loop-k.invariant c.loop-k-test.true)
-
 pub loop-k-preserved : goal.loop-k-preserved
 loop-k-preserved c = rw c.store.ensures (again c.requires c.loop-k.invariant c.loop-k-test.true)
 

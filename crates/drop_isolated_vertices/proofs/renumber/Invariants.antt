@@ -5,6 +5,3 @@ use Rattle.drop_isolated_vertices.proofs.renumber.Given as goal
 
 abbrev pub invariant-loop-k : goal.invariant-loop-k
 invariant-loop-k l = Renumbered l.initial.faces l.n l.work l.numbers l.faces l.k
-
-abbrev pub decreases-loop-k : goal.decreases-loop-k
-decreases-loop-k l = 3 * l.n - l.k

@@ -7,6 +7,3 @@ use Rattle.edge_check.proofs.distinct.Given as goal
 
 abbrev pub invariant-loop-i : goal.invariant-loop-i
 invariant-loop-i l = Clean (repeats_at l.faces) (length l.faces / 3) l.i
-
-abbrev pub decreases-loop-i : goal.decreases-loop-i
-decreases-loop-i l = length l.faces / 3 - l.i

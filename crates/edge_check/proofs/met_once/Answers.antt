@@ -72,9 +72,6 @@ offset_bounds-work-row-then-work-leads c = omega (arith, turn c.requires c.loop-
 pub bounds-work-row-then-work-leads : goal.bounds-work-row-then-work-leads
 bounds-work-row-then-work-leads c = omega (arith, turn c.requires c.loop-c.invariant c.loop-c-test.true)
 
-pub overflow_add-c : goal.overflow_add-c
-overflow_add-c c = omega (arith, turn c.requires c.loop-c.invariant c.loop-c-test.true)
-
 pub loop-c-preserved : goal.loop-c-preserved
 loop-c-preserved c = elim c.if-work-leads.branch [ then-work-leads+else-work-row-ne0 w ↦ rw w.work-is (marked c.requires c.loop-c.invariant c.loop-c-test.true (omega (arith, w.if-work-leads.true)) (omega (arith, w.if-work-row-ne0.false))) | else-work-leads w ↦ rw w.work-is (passed c.requires c.loop-c.invariant c.loop-c-test.true w.if-work-leads.false) ]
 

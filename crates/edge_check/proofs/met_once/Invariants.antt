@@ -6,6 +6,3 @@ use Rattle.edge_check.proofs.met_once.Given as goal
 
 abbrev pub invariant-loop-c : goal.invariant-loop-c
 invariant-loop-c l = Met l.count l.faces l.initial.work l.work l.c
-
-abbrev pub decreases-loop-c : goal.decreases-loop-c
-decreases-loop-c l = length l.faces - l.c

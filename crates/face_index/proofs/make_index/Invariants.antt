@@ -10,6 +10,3 @@ use Rattle.face_index.proofs.make_index.Given as goal
 
 abbrev pub invariant-loop-i : goal.invariant-loop-i
 invariant-loop-i l = Noted l.faces l.initial.index l.size l.index l.i
-
-abbrev pub decreases-loop-i : goal.decreases-loop-i
-decreases-loop-i l = length l.faces - l.i

@@ -5,6 +5,3 @@ use Rattle.face_marks.proofs.put_used.Given as goal
 
 abbrev pub invariant-loop-f : goal.invariant-loop-f
 invariant-loop-f l = Put l.faces l.marks l.n l.initial.bits l.bits l.f
-
-abbrev pub decreases-loop-f : goal.decreases-loop-f
-decreases-loop-f l = l.n - l.f

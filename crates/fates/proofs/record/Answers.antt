@@ -43,9 +43,6 @@ offset_bounds-work-at-in-loop-i c = omega (arith, turn c.requires.flag_asks.add 
 pub bounds-work-at-in-loop-i : goal.bounds-work-at-in-loop-i
 bounds-work-at-in-loop-i c = omega (arith, turn c.requires.flag_asks.add c.loop-i.invariant c.loop-i-test.true, c.requires.flag_asks.flags)
 
-pub overflow_add-i : goal.overflow_add-i
-overflow_add-i c = omega (arith, turn c.requires.flag_asks.add c.loop-i.invariant c.loop-i-test.true, c.requires.flag_asks.flags)
-
 pub loop-i-preserved : goal.loop-i-preserved
 loop-i-preserved c = again c.requires.flag_asks.add c.loop-i.invariant c.loop-i-test.true _ (code_read c.requires.flag_asks c.loop-i.invariant c.loop-i-test.true _ _ c.flagged-told.ensures)
 

@@ -6,6 +6,3 @@ use Rattle.fates.proofs.record_degenerate.Given as goal
 
 abbrev pub invariant-loop-i : goal.invariant-loop-i
 invariant-loop-i l = Adding (by_shape l.faces l.initial.work l.marks) l.origins l.n l.initial.work l.fates l.work l.i
-
-abbrev pub decreases-loop-i : goal.decreases-loop-i
-decreases-loop-i l = l.n - l.i

@@ -6,6 +6,3 @@ use Rattle.fates.proofs.record_turned.Given as goal
 
 abbrev pub invariant-loop-i : goal.invariant-loop-i
 invariant-loop-i l = Adding (by_turn l.input l.faces l.origins) l.origins l.n l.initial.work l.fates l.work l.i
-
-abbrev pub decreases-loop-i : goal.decreases-loop-i
-decreases-loop-i l = l.n - l.i

@@ -148,9 +148,6 @@ offset_bounds-work-labels-else-parent-i-2 c = omega (arith, turn c.requires c.lo
 pub bounds-work-labels-else-parent-i-2 : goal.bounds-work-labels-else-parent-i-2
 bounds-work-labels-else-parent-i-2 c = omega (arith, turn c.requires c.loop-i.invariant c.loop-i-test.true)
 
-pub overflow_add-i : goal.overflow_add-i
-overflow_add-i c = omega (arith, turn c.requires c.loop-i.invariant c.loop-i-test.true)
-
 pub loop-i-preserved : goal.loop-i-preserved
 loop-i-preserved c = let t = c.before.before in
     let a = t.before in

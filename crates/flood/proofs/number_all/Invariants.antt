@@ -18,6 +18,3 @@ pub record Inv {w₀ : List ℕ} {labels n : ℕ} (q : NumberAsks w₀ labels n)
 
 abbrev pub invariant-loop-i : goal.invariant-loop-i
 invariant-loop-i l = (q : NumberAsks l.initial.work l.labels l.things) → Inv q l.work l.count l.i
-
-abbrev pub decreases-loop-i : goal.decreases-loop-i
-decreases-loop-i l = l.things - l.i

@@ -12,6 +12,3 @@ pub record Inv (w₀ : List ℕ) (labels n : ℕ) (w : List ℕ) (i : ℕ) : Typ
 
 abbrev pub invariant-loop-i : goal.invariant-loop-i
 invariant-loop-i l = Inv l.initial.work l.labels l.things l.work l.i
-
-abbrev pub decreases-loop-i : goal.decreases-loop-i
-decreases-loop-i l = l.things - l.i

@@ -84,9 +84,6 @@ offset_bounds-work-labels-in-loop-i-2 c = omega (arith, turn c.requires c.loop-i
 pub bounds-work-labels-in-loop-i-2 : goal.bounds-work-labels-in-loop-i-2
 bounds-work-labels-in-loop-i-2 c = omega (arith, turn c.requires c.loop-i.invariant c.loop-i-test.true)
 
-pub overflow_add-i : goal.overflow_add-i
-overflow_add-i c = omega (arith, turn c.requires c.loop-i.invariant c.loop-i-test.true)
-
 pub loop-i-preserved : goal.loop-i-preserved
 loop-i-preserved c = λ q. again q c.loop-i.invariant c.loop-i-test.true
 

@@ -13,6 +13,3 @@ pub record Inv {w₀ : List ℕ} {labels n : ℕ} (q : PointAsks w₀ labels n) 
 
 abbrev pub invariant-loop-i : goal.invariant-loop-i
 invariant-loop-i l = (q : PointAsks l.initial.work l.labels l.things) → Inv q l.work l.i
-
-abbrev pub decreases-loop-i : goal.decreases-loop-i
-decreases-loop-i l = l.things - l.i

@@ -68,9 +68,6 @@ bounds-buffer-s c = omega (arith, c.requires, c.loop-i.invariant.fewer, c.loop-i
 pub overflow_add-b : goal.overflow_add-b
 overflow_add-b c = omega (arith, c.requires, c.loop-i.invariant.fewer, c.loop-i-test.true)
 
-pub overflow_add-i : goal.overflow_add-i
-overflow_add-i c = omega (arith, c.requires, c.loop-i.invariant.fewer, c.loop-i-test.true)
-
 pub loop-i-preserved : goal.loop-i-preserved
 loop-i-preserved c = elim c.if-buffer-s-eq0.branch [ then-buffer-s-eq0 w ↦ rw w.b-is (counts c.requires c.loop-i.invariant c.loop-i-test.true w.if-buffer-s-eq0.true) | else-buffer-s-eq0 w ↦ rw w.b-is (skips c.requires c.loop-i.invariant c.loop-i-test.true w.if-buffer-s-eq0.false) ]
 

@@ -142,9 +142,6 @@ shape_of-buffer-then-n-size c = c.put_both-g.auto.buffer ∙ c.loop-i.invariant.
 pub returns-then-n-size : goal.returns-then-n-size
 returns-then-n-size c = full c.requires c.loop-i.invariant c.loop-i-test.true c.next-j.ensures c.put_both-g.ensures c.if-n-size.true
 
-pub overflow_add-i : goal.overflow_add-i
-overflow_add-i c = omega (arith, turn c.requires c.loop-i.invariant c.loop-i-test.true c.next-j.ensures)
-
 pub loop-i-preserved : goal.loop-i-preserved
 loop-i-preserved c = again c.requires c.loop-i.invariant c.loop-i-test.true c.next-j.ensures c.put_both-g.ensures c.if-n-size.false
 

@@ -17,6 +17,3 @@ pub record Inv (P : ℕ) (f : List ℕ) (from top : ℕ) (a₀ : List ℕ) (size
 
 abbrev pub invariant-loop-i : goal.invariant-loop-i
 invariant-loop-i l = Inv l.points l.faces l.from l.top l.initial.buffer l.size l.buffer l.to l.n l.i
-
-abbrev pub decreases-loop-i : goal.decreases-loop-i
-decreases-loop-i l = length l.faces - l.i

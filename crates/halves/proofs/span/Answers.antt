@@ -57,9 +57,6 @@ offset_bounds-buffer-s-in-loop-i c = omega (arith, c.requires.0, c.loop-i-test.t
 pub bounds-buffer-s-in-loop-i : goal.bounds-buffer-s-in-loop-i
 bounds-buffer-s-in-loop-i c = omega (arith, c.requires.0, c.loop-i-test.true)
 
-pub overflow_add-i : goal.overflow_add-i
-overflow_add-i c = omega (arith, c.requires.0, c.loop-i-test.true)
-
 pub loop-i-preserved : goal.loop-i-preserved
 loop-i-preserved c = again c.requires c.loop-i.invariant c.loop-i-test.true c.lesser-low.ensures c.greater-high.ensures
 

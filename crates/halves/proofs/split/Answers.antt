@@ -117,9 +117,6 @@ bounds-buffer-s-then-x-mid-3 c = simp length-set (omega (arith, turn c.requires 
 pub overflow_add-m : goal.overflow_add-m
 overflow_add-m c = omega (arith, turn c.requires c.loop-i.invariant c.loop-i-test.true)
 
-pub overflow_add-i : goal.overflow_add-i
-overflow_add-i c = omega (arith, turn c.requires c.loop-i.invariant c.loop-i-test.true)
-
 pub loop-i-preserved : goal.loop-i-preserved
 loop-i-preserved c = elim c.if-x-mid.branch [ then-x-mid w ↦ rw (w.buffer-is, w.m-is) (keeps c.requires c.loop-i.invariant c.loop-i-test.true w.if-x-mid.true) | else-x-mid w ↦ rw (w.buffer-is, w.m-is) (skips c.requires c.loop-i.invariant c.loop-i-test.true w.if-x-mid.false) ]
 

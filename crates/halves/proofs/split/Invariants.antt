@@ -18,6 +18,3 @@ pub record Inv (a₀ : List ℕ) (s n mid : ℕ) (a : List ℕ) (i m : ℕ) : Ty
 
 abbrev pub invariant-loop-i : goal.invariant-loop-i
 invariant-loop-i l = Inv l.initial.buffer l.s l.n l.mid l.buffer l.i l.m
-
-abbrev pub decreases-loop-i : goal.decreases-loop-i
-decreases-loop-i l = l.n - l.i

@@ -6,6 +6,3 @@ use Rattle.line.proofs.put_parts.Given as goal
 
 abbrev pub invariant-loop-k : goal.invariant-loop-k
 invariant-loop-k l = Kept l.counts l.initial.line l.line l.at l.k
-
-abbrev pub decreases-loop-k : goal.decreases-loop-k
-decreases-loop-k l = label_count - l.k

@@ -57,12 +57,6 @@ overflow_cast-work c = omega (arith, c.shared_slice_known-in-loop-q-1.given (c.a
 pub returns-then-work-rows : goal.returns-then-work-rows
 returns-then-work-rows c = stops c.requires c.loop-q.invariant c.loop-q-test.true c.if-work-rows.true
 
-pub overflow_add-q : goal.overflow_add-q
-overflow_add-q c = omega (arith, turn c.requires c.loop-q.q c.loop-q-test.true)
-
-pub loop-q-smaller : goal.loop-q-smaller
-loop-q-smaller c = omega (arith, c.loop-q-test.true)
-
 pub loop-q-preserved : goal.loop-q-preserved
 loop-q-preserved c = again c.requires c.loop-q-test.true c.if-work-rows.false
 

@@ -17,6 +17,3 @@ pub record Turn (w : List ℕ) (rows : Rows) (q : ℕ) : Type 0 where
 
 abbrev pub invariant-loop-q : goal.invariant-loop-q
 invariant-loop-q l = Inv l.work l.rows l.v l.q
-
-abbrev pub decreases-loop-q : goal.decreases-loop-q
-decreases-loop-q l = 3 * l.rows.left - l.q

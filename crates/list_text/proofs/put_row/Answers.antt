@@ -30,12 +30,6 @@ put_line-next-requires c = let v = c.loop-i.invariant in
     subst (λ (k : ℕ). c.loop-i.next + length (kind_text k c.loop-i.i) ≤ length c.loop-i.text) (sym c.told_kind-kind.ensures)
     (row_room (line_at c.args.work.now c.args.row c.args.first c.args.last) c.args.n v c.loop-i-test.true)
 
-pub overflow_add-i : goal.overflow_add-i
-overflow_add-i c = omega (arith, c.requires.row_asks, c.loop-i-test.true)
-
-pub loop-i-smaller : goal.loop-i-smaller
-loop-i-smaller c = omega (arith, c.requires.row_asks, c.loop-i-test.true)
-
 pub loop-i-preserved : goal.loop-i-preserved
 loop-i-preserved c = row_on (line_at c.args.work.now c.args.row c.args.first c.args.last) c.args.n c.loop-i.invariant c.loop-i-test.true
     (rw c.told_kind-kind.ensures at c.put_line-next.ensures)

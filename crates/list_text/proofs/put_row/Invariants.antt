@@ -6,6 +6,3 @@ use Rattle.list_text.proofs.put_row.Given as goal
 
 abbrev pub invariant-loop-i : goal.invariant-loop-i
 invariant-loop-i l = Rowed (line_at l.work l.row l.first l.last) l.n l.initial.text l.at l.text l.next l.i
-
-abbrev pub decreases-loop-i : goal.decreases-loop-i
-decreases-loop-i l = l.n - l.i

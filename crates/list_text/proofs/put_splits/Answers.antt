@@ -24,9 +24,6 @@ put_split-next-requires c = record { split_asks = split_asks c.requires.splits_a
 pub overflow_add-j : goal.overflow_add-j
 overflow_add-j c = omega (arith, c.loop-j-test.true)
 
-pub loop-j-smaller : goal.loop-j-smaller
-loop-j-smaller c = omega (arith, c.loop-j-test.true)
-
 pub loop-j-preserved : goal.loop-j-preserved
 loop-j-preserved c = place_on c.requires.splits_ask c.loop-j.invariant c.loop-j-test.true c.corners_below-to.ensures c.put_split-next.ensures
 

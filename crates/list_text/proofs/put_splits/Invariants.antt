@@ -5,6 +5,3 @@ use Rattle.list_text.proofs.put_splits.Given as goal
 
 abbrev pub invariant-loop-j : goal.invariant-loop-j
 invariant-loop-j l = Placed l.work l.origins l.rows l.initial.text l.at l.text l.next l.from l.j
-
-abbrev pub decreases-loop-j : goal.decreases-loop-j
-decreases-loop-j l = l.rows.splits - l.j

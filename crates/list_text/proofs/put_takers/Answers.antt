@@ -21,12 +21,6 @@ overflow_cast-i c = omega (arith, corner_at c.requires.run_asks c.loop-q.q c.loo
 pub put_taker-next-requires : goal.put_taker-next-requires
 put_taker-next-requires c = record { i_in_bounds = (corner_at c.requires.run_asks c.loop-q.q c.loop-q-test.true).has_origin; last_in_bounds = take_room c.requires.run_asks c.loop-q.invariant c.loop-q-test.true }
 
-pub overflow_add-q : goal.overflow_add-q
-overflow_add-q c = omega (arith, c.loop-q-test.true)
-
-pub loop-q-smaller : goal.loop-q-smaller
-loop-q-smaller c = omega (arith, c.loop-q-test.true)
-
 pub loop-q-preserved : goal.loop-q-preserved
 loop-q-preserved c = take_on c.requires.run_asks c.loop-q.invariant c.loop-q-test.true c.put_taker-next.ensures
 

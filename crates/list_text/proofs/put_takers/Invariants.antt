@@ -5,6 +5,3 @@ use Rattle.list_text.proofs.put_takers.Given as goal
 
 abbrev pub invariant-loop-q : goal.invariant-loop-q
 invariant-loop-q l = Taken l.work l.origins l.rows l.from l.to l.initial.text l.at l.text l.next l.last l.q
-
-abbrev pub decreases-loop-q : goal.decreases-loop-q
-decreases-loop-q l = l.to - l.q

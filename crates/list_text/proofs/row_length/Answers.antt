@@ -31,12 +31,6 @@ line_length-total-requires c = tt
 pub overflow_add-total : goal.overflow_add-total
 overflow_add-total c = omega (arith, c.requires, c.loop-i-test.true, c.loop-i.invariant.small, c.line_length-total.ensures.upper_bound)
 
-pub overflow_add-i : goal.overflow_add-i
-overflow_add-i c = omega (arith, c.requires, c.loop-i-test.true)
-
-pub loop-i-smaller : goal.loop-i-smaller
-loop-i-smaller c = omega (arith, c.requires, c.loop-i-test.true)
-
 pub loop-i-preserved : goal.loop-i-preserved
 loop-i-preserved c = let i = c.loop-i.i in
     record {

@@ -11,6 +11,3 @@ pub record Inv (w : List ℕ) (row n first last total i : ℕ) : Type 0 where
 
 abbrev pub invariant-loop-i : goal.invariant-loop-i
 invariant-loop-i l = Inv l.work l.row l.n l.first l.last l.total l.i
-
-abbrev pub decreases-loop-i : goal.decreases-loop-i
-decreases-loop-i l = l.n - l.i

@@ -27,9 +27,6 @@ overflow_add-total c = omega (arith, total_small c.requires (total_on c.requires
 pub overflow_add-j : goal.overflow_add-j
 overflow_add-j c = omega (arith, c.loop-j-test.true)
 
-pub loop-j-smaller : goal.loop-j-smaller
-loop-j-smaller c = omega (arith, c.loop-j-test.true)
-
 pub loop-j-preserved : goal.loop-j-preserved
 loop-j-preserved c = total_on c.requires c.loop-j.invariant c.loop-j-test.true c.corners_below-to.ensures c.split_length-total.ensures.value c.split_length-total.ensures.from_bound
 

@@ -5,6 +5,3 @@ use Rattle.list_text.proofs.splits_length.Given as goal
 
 abbrev pub invariant-loop-j : goal.invariant-loop-j
 invariant-loop-j l = Totalled l.work l.origins l.rows l.total l.from l.j
-
-abbrev pub decreases-loop-j : goal.decreases-loop-j
-decreases-loop-j l = l.rows.splits - l.j

@@ -24,12 +24,6 @@ taker_length-total-requires c = omega (arith, corner_at c.requires c.loop-q.q c.
 pub overflow_add-total : goal.overflow_add-total
 overflow_add-total c = omega (arith, c.loop-q.invariant.small, c.taker_length-total.ensures.upper_bound, c.loop-q-test.true, c.requires.inside, c.requires.sorted.few)
 
-pub overflow_add-q : goal.overflow_add-q
-overflow_add-q c = omega (arith, c.loop-q-test.true)
-
-pub loop-q-smaller : goal.loop-q-smaller
-loop-q-smaller c = omega (arith, c.loop-q-test.true)
-
 pub loop-q-preserved : goal.loop-q-preserved
 loop-q-preserved c = measure_on c.requires c.loop-q.invariant c.loop-q-test.true c.taker_length-total.ensures.value
 

@@ -6,6 +6,3 @@ use Rattle.listing.proofs.list_face_edges.Given as goal
 
 abbrev pub invariant-loop-i : goal.invariant-loop-i
 invariant-loop-i l = Sides l.work l.faces l.at l.initial.face_edges l.face_edges l.i
-
-abbrev pub decreases-loop-i : goal.decreases-loop-i
-decreases-loop-i l = length l.faces / 3 - l.i

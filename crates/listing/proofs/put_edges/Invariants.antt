@@ -6,6 +6,3 @@ use Rattle.listing.proofs.put_edges.Given as goal
 
 abbrev pub invariant-loop-r : goal.invariant-loop-r
 invariant-loop-r l = Ends l.work (length l.faces) l.at l.m l.initial.edges l.edges l.r
-
-abbrev pub decreases-loop-r : goal.decreases-loop-r
-decreases-loop-r l = l.m - l.r

@@ -5,6 +5,3 @@ use Rattle.listing.proofs.put_lengths.Given as goal
 
 abbrev pub invariant-loop-r : goal.invariant-loop-r
 invariant-loop-r l = Measured l.points l.edges l.m l.initial.lengths l.lengths l.r
-
-abbrev pub decreases-loop-r : goal.decreases-loop-r
-decreases-loop-r l = l.m - l.r

@@ -31,9 +31,6 @@ offset_bounds-loop_vertices-from c = omega (arith, turn c.requires c.loop-i.inva
 pub bounds-loop_vertices-from : goal.bounds-loop_vertices-from
 bounds-loop_vertices-from c = omega (arith, turn c.requires c.loop-i.invariant c.loop-i-test.true)
 
-pub overflow_add-i : goal.overflow_add-i
-overflow_add-i c = omega (arith, turn c.requires c.loop-i.invariant c.loop-i-test.true)
-
 pub loop-i-preserved : goal.loop-i-preserved
 loop-i-preserved c = again c.requires c.loop-i.invariant c.loop-i-test.true
 

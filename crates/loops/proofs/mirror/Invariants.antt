@@ -5,6 +5,3 @@ use Rattle.loops.proofs.mirror.Given as goal
 
 abbrev pub invariant-loop-i : goal.invariant-loop-i
 invariant-loop-i l = Copied l.work l.spare l.n l.initial.loop_vertices l.from l.loop_vertices l.i
-
-abbrev pub decreases-loop-i : goal.decreases-loop-i
-decreases-loop-i l = l.n - l.i

@@ -57,9 +57,6 @@ bounds-faces-p-then-work-i-eq2-3 c = simp length-set (omega (arith, turn_turn c.
 pub overflow_add-i-in-loop-i : goal.overflow_add-i-in-loop-i
 overflow_add-i-in-loop-i c = omega (arith, turn_turn c.requires c.loop-i.invariant c.loop-i-test.true)
 
-pub loop-i-smaller : goal.loop-i-smaller
-loop-i-smaller c = omega (arith, c.loop-i-test.true)
-
 pub loop-i-preserved : goal.loop-i-preserved
 loop-i-preserved c = let p = c.requires in
     let u = c.loop-i.invariant in

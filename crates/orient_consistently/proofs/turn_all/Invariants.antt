@@ -5,6 +5,3 @@ use Rattle.orient_consistently.proofs.turn_all.Given as goal
 
 abbrev pub invariant-loop-i : goal.invariant-loop-i
 invariant-loop-i l = TurnInv l.initial.faces l.work l.n l.faces l.i
-
-abbrev pub decreases-loop-i : goal.decreases-loop-i
-decreases-loop-i l = l.n - l.i

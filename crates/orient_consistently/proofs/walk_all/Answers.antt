@@ -10,12 +10,6 @@ loop-i-init c = all_begin c.requires
 pub begin-marks-requires : goal.begin-marks-requires
 begin-marks-requires c = all_ask c.requires c.loop-i.invariant c.loop-i-test.true
 
-pub overflow_add-i : goal.overflow_add-i
-overflow_add-i c = omega (arith, c.requires.going.ready.fits.few, c.loop-i-test.true)
-
-pub loop-i-smaller : goal.loop-i-smaller
-loop-i-smaller c = omega (arith, c.loop-i-test.true)
-
 pub loop-i-preserved : goal.loop-i-preserved
 loop-i-preserved c = all_again c.requires c.loop-i.invariant c.loop-i-test.true c.begin-marks.ensures
 

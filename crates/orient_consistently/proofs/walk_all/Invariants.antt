@@ -5,6 +5,3 @@ use Rattle.orient_consistently.proofs.walk_all.Given as goal
 
 abbrev pub invariant-loop-i : goal.invariant-loop-i
 invariant-loop-i l = AllInv l.initial.work l.faces l.n l.work l.marks l.i
-
-abbrev pub decreases-loop-i : goal.decreases-loop-i
-decreases-loop-i l = l.n - l.i

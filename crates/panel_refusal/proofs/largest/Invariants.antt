@@ -6,6 +6,3 @@ use Rattle.panel_refusal.proofs.largest.Given as goal
 
 abbrev pub invariant-loop-k : goal.invariant-loop-k
 invariant-loop-k l = Widest l.point_counts l.face_counts l.most l.k
-
-abbrev pub decreases-loop-k : goal.decreases-loop-k
-decreases-loop-k l = length l.point_counts - l.k

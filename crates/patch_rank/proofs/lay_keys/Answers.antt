@@ -50,9 +50,6 @@ bounds-work-k-in-loop-k c = simp length-set (omega (arith, turn c.requires c.loo
 pub overflow_add-k : goal.overflow_add-k
 overflow_add-k c = omega (arith, turn c.requires c.loop-k.invariant c.loop-k-test.true)
 
-pub loop-k-smaller : goal.loop-k-smaller
-loop-k-smaller c = omega (arith, c.loop-k-test.true)
-
 pub loop-k-preserved : goal.loop-k-preserved
 loop-k-preserved c = again c.requires c.loop-k.invariant c.loop-k-test.true
 

@@ -5,6 +5,3 @@ use Rattle.patch_rank.proofs.lay_keys.Given as goal
 
 abbrev pub invariant-loop-k : goal.invariant-loop-k
 invariant-loop-k l = Laid l.numbers l.count l.initial.work l.work l.k
-
-abbrev pub decreases-loop-k : goal.decreases-loop-k
-decreases-loop-k l = l.count - l.k

@@ -20,12 +20,6 @@ bounds-flags-k c = mark_fit c.requires c.loop-k.invariant c.loop-k-test.true
 pub overflow_add-place : goal.overflow_add-place
 overflow_add-place c = omega (arith, place_few c.requires c.loop-k.invariant c.loop-k-test.true, c.requires.few)
 
-pub overflow_add-k : goal.overflow_add-k
-overflow_add-k c = omega (arith, c.loop-k-test.true)
-
-pub loop-k-smaller : goal.loop-k-smaller
-loop-k-smaller c = omega (arith, c.loop-k-test.true)
-
 pub loop-k-preserved : goal.loop-k-preserved
 loop-k-preserved c = let p = c.requires in
     let ek = c.key_at-key.ensures in

@@ -5,6 +5,3 @@ use Rattle.patch_rank.proofs.mark.Given as goal
 
 abbrev pub invariant-loop-k : goal.invariant-loop-k
 invariant-loop-k l = Marked l.work l.count l.t l.n l.initial.flags l.flags l.place l.k
-
-abbrev pub decreases-loop-k : goal.decreases-loop-k
-decreases-loop-k l = l.count - l.k

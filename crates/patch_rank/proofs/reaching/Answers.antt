@@ -14,12 +14,6 @@ key_at-requires c = let p = c.requires in omega (arith, c.loop-k-test.true)
 pub overflow_add-n : goal.overflow_add-n
 overflow_add-n c = omega (arith, reach_few _ _ _ c.loop-k.invariant, c.loop-k-test.true)
 
-pub overflow_add-k : goal.overflow_add-k
-overflow_add-k c = omega (arith, c.loop-k-test.true)
-
-pub loop-k-smaller : goal.loop-k-smaller
-loop-k-smaller c = omega (arith, c.loop-k-test.true)
-
 pub loop-k-preserved : goal.loop-k-preserved
 loop-k-preserved c = let v = c.loop-k.invariant in
     let h = c.loop-k-test.true in

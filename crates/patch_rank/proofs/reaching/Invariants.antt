@@ -6,6 +6,3 @@ use Rattle.patch_rank.proofs.reaching.Given as goal
 
 abbrev pub invariant-loop-k : goal.invariant-loop-k
 invariant-loop-k l = Reached (key_at l.work) l.count l.t l.n l.k
-
-abbrev pub decreases-loop-k : goal.decreases-loop-k
-decreases-loop-k l = l.count - l.k

@@ -10,9 +10,6 @@ loop-k-init c = begin c.requires
 pub write-requires : goal.write-requires
 write-requires c = turn c.requires c.loop-k.invariant c.loop-k-test.true
 
-pub overflow_add-k : goal.overflow_add-k
-overflow_add-k c = omega (arith, c.loop-k-test.true)
-
 pub loop-k-preserved : goal.loop-k-preserved
 loop-k-preserved c = again c.requires c.loop-k.invariant c.loop-k-test.true c.write.ensures.only_of c.write.ensures.k_after
 

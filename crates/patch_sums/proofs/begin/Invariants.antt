@@ -6,6 +6,3 @@ use Rattle.patch_sums.proofs.begin.Given as goal
 
 abbrev pub invariant-loop-k : goal.invariant-loop-k
 invariant-loop-k l = Begun l.initial.numbers l.count (patch_of l.empty) l.numbers l.k
-
-abbrev pub decreases-loop-k : goal.decreases-loop-k
-decreases-loop-k l = l.count - l.k

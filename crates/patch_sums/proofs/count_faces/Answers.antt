@@ -33,12 +33,6 @@ overflow_add-counts c = omega (arith, turn c.requires c.clear.ensures.only.long 
 pub bounds-counts-patch-then-patch : goal.bounds-counts-patch-then-patch
 bounds-counts-patch-then-patch c = (turn c.requires c.clear.ensures.only.long c.loop-i.invariant c.loop-i-test.true c.if-patch.true).fit
 
-pub overflow_add-i : goal.overflow_add-i
-overflow_add-i c = omega (arith, c.loop-i-test.true, c.requires.few)
-
-pub loop-i-smaller : goal.loop-i-smaller
-loop-i-smaller c = omega (arith, c.loop-i-test.true)
-
 pub loop-i-preserved : goal.loop-i-preserved
 loop-i-preserved c = elim c.if-patch.branch [ then-patch w ↦ rw w.counts-is (counts c.requires c.clear.ensures.only.long c.loop-i.invariant c.loop-i-test.true w.if-patch.true) | else-patch w ↦ rw w.counts-is (skips c.requires c.clear.ensures.only.long c.loop-i.invariant c.loop-i-test.true w.if-patch.false) ]
 

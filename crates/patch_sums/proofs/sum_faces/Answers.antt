@@ -24,12 +24,6 @@ overflow_cast-label c = omega (arith, label_in c.requires c.begin.ensures c.loop
 pub add_face-requires : goal.add_face-requires
 add_face-requires c = add_asks c.requires c.begin.ensures c.loop-i.invariant c.loop-i-test.true c.if-label.true
 
-pub overflow_add-i : goal.overflow_add-i
-overflow_add-i c = omega (arith, c.loop-i-test.true, c.requires.short)
-
-pub loop-i-smaller : goal.loop-i-smaller
-loop-i-smaller c = omega (arith, c.loop-i-test.true)
-
 pub loop-i-preserved : goal.loop-i-preserved
 loop-i-preserved c = elim c.if-label.branch [ then-label w ↦ rw w.numbers-is (adds c.requires c.begin.ensures c.loop-i.invariant c.loop-i-test.true w.if-label.true w.add_face.ensures) | else-label w ↦ rw w.numbers-is (skips c.requires c.begin.ensures c.loop-i.invariant c.loop-i-test.true w.if-label.false) ]
 

@@ -23,12 +23,6 @@ offset_bounds-flags-k c = omega (arith, c.loop-k-test.true, c.requires.few)
 pub bounds-flags-k : goal.bounds-flags-k
 bounds-flags-k c = (drop_turn c.requires c.loop-k.invariant c.loop-k-test.true).flags_fit
 
-pub overflow_add-k : goal.overflow_add-k
-overflow_add-k c = omega (arith, c.loop-k-test.true, c.requires.few)
-
-pub loop-k-smaller : goal.loop-k-smaller
-loop-k-smaller c = omega (arith, c.loop-k-test.true)
-
 pub loop-k-preserved : goal.loop-k-preserved
 loop-k-preserved c = let p = c.requires in
     let er = c.read-r.ensures in

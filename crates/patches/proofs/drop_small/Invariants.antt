@@ -6,6 +6,3 @@ use Rattle.patches.proofs.drop_small.Given as goal
 
 abbrev pub invariant-loop-k : goal.invariant-loop-k
 invariant-loop-k l = Dropped l.face_counts l.numbers l.count (filter_of l.by) (limit_of l.least) l.initial.flags l.flags l.k
-
-abbrev pub decreases-loop-k : goal.decreases-loop-k
-decreases-loop-k l = l.count - l.k

@@ -11,12 +11,6 @@ loop-k-init c = largest_begin _ _
 pub bounds-numbers-k : goal.bounds-numbers-k
 bounds-numbers-k c = let p = c.requires in omega (arith, c.loop-k-test.true)
 
-pub overflow_add-k : goal.overflow_add-k
-overflow_add-k c = omega (arith, c.loop-k-test.true)
-
-pub loop-k-smaller : goal.loop-k-smaller
-loop-k-smaller c = omega (arith, c.loop-k-test.true)
-
 pub loop-k-preserved : goal.loop-k-preserved
 loop-k-preserved c = let v = c.loop-k.invariant in
     let h = c.loop-k-test.true in

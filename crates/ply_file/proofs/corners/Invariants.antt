@@ -6,6 +6,3 @@ use Rattle.ply_file.proofs.corners.Given as goal
 
 abbrev pub invariant-loop-i : goal.invariant-loop-i
 invariant-loop-i l = Clean (astray_at l.p l.file l.at) l.f l.i
-
-abbrev pub decreases-loop-i : goal.decreases-loop-i
-decreases-loop-i l = l.f - l.i

@@ -16,6 +16,3 @@ pub record Inv (ps : List Float) (xs run : List ℕ) (b₀ b : Choice) (i : ℕ)
 
 abbrev pub invariant-loop-i : goal.invariant-loop-i
 invariant-loop-i l = Inv l.points l.faces l.run l.initial.b l.b l.i
-
-abbrev pub decreases-loop-i : goal.decreases-loop-i
-decreases-loop-i l = length l.run - l.i

@@ -19,6 +19,3 @@ pub record Inv (ps : List Float) (xs run : List ℕ) (e : Step) (f : Bool) (b : 
 
 abbrev pub invariant-loop-i : goal.invariant-loop-i
 invariant-loop-i l = Inv l.points l.faces l.run (step l.from l.to) l.forward l.b l.i
-
-abbrev pub decreases-loop-i : goal.decreases-loop-i
-decreases-loop-i l = length l.run - l.i

@@ -19,9 +19,6 @@ overflow_cast-i c = omega (arith, lone_turn c.requires c.loop-k.invariant c.loop
 pub met-known-requires : goal.met-known-requires
 met-known-requires c = lone_ask c.requires c.loop-k.invariant c.loop-k-test.true
 
-pub overflow_add-k : goal.overflow_add-k
-overflow_add-k c = omega (arith, lone_turn c.requires c.loop-k.invariant c.loop-k-test.true)
-
 pub loop-k-preserved : goal.loop-k-preserved
 loop-k-preserved c = lone_again c.requires c.loop-k.invariant c.loop-k-test.true c.met-known.ensures
 

@@ -5,6 +5,3 @@ use Rattle.reaching.proofs.lone.Given as goal
 
 abbrev pub invariant-loop-k : goal.invariant-loop-k
 invariant-loop-k l = LoneInv l.work l.faces l.n l.from l.to l.x l.y l.known l.k
-
-abbrev pub decreases-loop-k : goal.decreases-loop-k
-decreases-loop-k l = l.to - l.k

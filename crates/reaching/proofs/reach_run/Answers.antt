@@ -19,9 +19,6 @@ overflow_cast-i c = omega (arith, reach_turn c.requires c.loop-k.invariant c.loo
 pub reach-requires : goal.reach-requires
 reach-requires c = reach_ask c.requires c.loop-k.invariant c.loop-k-test.true
 
-pub overflow_add-k : goal.overflow_add-k
-overflow_add-k c = omega (arith, reach_turn c.requires c.loop-k.invariant c.loop-k-test.true)
-
 pub loop-k-preserved : goal.loop-k-preserved
 loop-k-preserved c = reach_again c.requires c.loop-k.invariant c.loop-k-test.true c.reach.ensures
 

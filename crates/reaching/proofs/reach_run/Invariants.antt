@@ -5,6 +5,3 @@ use Rattle.reaching.proofs.reach_run.Given as goal
 
 abbrev pub invariant-loop-k : goal.invariant-loop-k
 invariant-loop-k l = ReachInv l.initial.work l.faces l.n l.from l.to l.x l.y l.work l.k
-
-abbrev pub decreases-loop-k : goal.decreases-loop-k
-decreases-loop-k l = l.to - l.k

@@ -5,6 +5,3 @@ use Rattle.read_ply.proofs.coordinates.Given as goal
 
 abbrev pub invariant-loop-i : goal.invariant-loop-i
 invariant-loop-i l = Pointing l.file l.at l.n l.initial.points l.points l.i
-
-abbrev pub decreases-loop-i : goal.decreases-loop-i
-decreases-loop-i l = l.n - l.i

@@ -5,6 +5,3 @@ use Rattle.read_ply.proofs.triples.Given as goal
 
 abbrev pub invariant-loop-i : goal.invariant-loop-i
 invariant-loop-i l = Standing l.file l.at l.f l.initial.faces l.faces l.i
-
-abbrev pub decreases-loop-i : goal.decreases-loop-i
-decreases-loop-i l = l.f - l.i

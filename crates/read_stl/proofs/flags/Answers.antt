@@ -37,9 +37,6 @@ offset_bounds-work-n-in-loop-c c = omega (arith, turn c.requires c.loop-c.invari
 pub bounds-work-n-in-loop-c : goal.bounds-work-n-in-loop-c
 bounds-work-n-in-loop-c c = omega (arith, turn c.requires c.loop-c.invariant c.loop-c-test.true)
 
-pub overflow_add-c : goal.overflow_add-c
-overflow_add-c c = omega (arith, turn c.requires c.loop-c.invariant c.loop-c-test.true)
-
 pub loop-c-preserved : goal.loop-c-preserved
 loop-c-preserved c = again c.requires c.loop-c.invariant c.loop-c-test.true c.other-flag.ensures
 

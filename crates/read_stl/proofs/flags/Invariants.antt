@@ -5,6 +5,3 @@ use Rattle.read_stl.proofs.flags.Given as goal
 
 abbrev pub invariant-loop-c : goal.invariant-loop-c
 invariant-loop-c l = Flagging l.n l.initial.work l.work l.c
-
-abbrev pub decreases-loop-c : goal.decreases-loop-c
-decreases-loop-c l = l.n - l.c

@@ -62,9 +62,6 @@ offset_bounds-work-n-in-loop-c c = omega (arith, turn c.requires c.loop-c.invari
 pub bounds-work-n-in-loop-c : goal.bounds-work-n-in-loop-c
 bounds-work-n-in-loop-c c = simp length-set (omega (arith, turn c.requires c.loop-c.invariant c.loop-c-test.true))
 
-pub overflow_add-c : goal.overflow_add-c
-overflow_add-c c = omega (arith, turn c.requires c.loop-c.invariant c.loop-c-test.true)
-
 pub loop-c-preserved : goal.loop-c-preserved
 loop-c-preserved c = again c.requires c.loop-c.invariant c.loop-c-test.true
     (read_first c.args.file.now c.place_of-i.ensures c.u32_at.ensures c.one_zero-x.ensures.value)

@@ -40,9 +40,6 @@ offset_bounds-faces-c c = omega (arith, turn c.requires c.loop-c.invariant c.loo
 pub bounds-faces-c : goal.bounds-faces-c
 bounds-faces-c c = omega (arith, turn c.requires c.loop-c.invariant c.loop-c-test.true)
 
-pub overflow_add-c : goal.overflow_add-c
-overflow_add-c c = omega (arith, turn c.requires c.loop-c.invariant c.loop-c-test.true)
-
 pub loop-c-preserved : goal.loop-c-preserved
 loop-c-preserved c = again c.requires c.loop-c.invariant c.loop-c-test.true
 

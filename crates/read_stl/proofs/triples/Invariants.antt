@@ -5,6 +5,3 @@ use Rattle.read_stl.proofs.triples.Given as goal
 
 abbrev pub invariant-loop-c : goal.invariant-loop-c
 invariant-loop-c l = Numbering l.work l.n l.initial.faces l.faces l.c
-
-abbrev pub decreases-loop-c : goal.decreases-loop-c
-decreases-loop-c l = l.n - l.c

@@ -6,6 +6,3 @@ use Rattle.refuse.proofs.coordinates.Given as goal
 
 abbrev pub invariant-loop-i : goal.invariant-loop-i
 invariant-loop-i l = Clean (far_at l.points) (length l.points / 3) l.i
-
-abbrev pub decreases-loop-i : goal.decreases-loop-i
-decreases-loop-i l = length l.points / 3 - l.i

@@ -6,6 +6,3 @@ use Rattle.refuse.proofs.corners.Given as goal
 
 abbrev pub invariant-loop-i : goal.invariant-loop-i
 invariant-loop-i l = Clean (astray_at l.p l.faces) (length l.faces / 3) l.i
-
-abbrev pub decreases-loop-i : goal.decreases-loop-i
-decreases-loop-i l = length l.faces / 3 - l.i

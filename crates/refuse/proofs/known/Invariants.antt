@@ -6,6 +6,3 @@ use Rattle.refuse.proofs.known.Given as goal
 
 abbrev pub invariant-loop-i : goal.invariant-loop-i
 invariant-loop-i l = Clean (strange_at l.count l.labels) (length l.labels) l.i
-
-abbrev pub decreases-loop-i : goal.decreases-loop-i
-decreases-loop-i l = length l.labels - l.i

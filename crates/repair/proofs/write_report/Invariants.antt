@@ -6,6 +6,3 @@ use Rattle.repair.proofs.write_report.Given as goal
 
 abbrev pub invariant-loop-k : goal.invariant-loop-k
 invariant-loop-k l = Wrote l.initial.report l.all l.report l.k
-
-abbrev pub decreases-loop-k : goal.decreases-loop-k
-decreases-loop-k l = report_counts - l.k

@@ -19,9 +19,6 @@ overflow_cast-f c = omega (arith, c.shared_slice_known-in-loop-k-2-1.given c.loo
 pub mend_next-at-requires : goal.mend_next-at-requires
 mend_next-at-requires c = turn _ _ _ _ _ _ c.requires c.loop-k.invariant c.loop-k-test.true (omega (arith, c.shared_slice_known-in-loop-k-1.given c.loop-k.k)) (omega (arith, c.shared_slice_known-in-loop-k-2-1.given c.loop-k.k))
 
-pub overflow_add-k : goal.overflow_add-k
-overflow_add-k c = record { fits = next_fits c.loop-k-test.true c.well_formed.1.1.0.0 }
-
 pub loop-k-preserved : goal.loop-k-preserved
 loop-k-preserved c = again _ _ _ _ _ _ c.requires c.loop-k.invariant c.loop-k-test.true c.mend_next-at.ensures
 

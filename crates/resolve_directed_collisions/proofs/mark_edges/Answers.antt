@@ -19,9 +19,6 @@ loop-r-init c = begin _ c.requires c.table-m.ensures c.clear.ensures.only c.clea
 pub resolve_edge-requires : goal.resolve_edge-requires
 resolve_edge-requires c = run_ok c.loop-r.invariant c.loop-r-test.true
 
-pub overflow_add-r : goal.overflow_add-r
-overflow_add-r c = omega (arith, bounds (run_ok c.loop-r.invariant c.loop-r-test.true))
-
 pub loop-r-preserved : goal.loop-r-preserved
 loop-r-preserved c = again c.loop-r.invariant c.loop-r-test.true c.resolve_edge.ensures
 

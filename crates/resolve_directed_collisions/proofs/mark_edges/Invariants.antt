@@ -9,6 +9,3 @@ use Rattle.resolve_directed_collisions.proofs.mark_edges.Given as goal
 
 abbrev pub invariant-loop-r : goal.invariant-loop-r
 invariant-loop-r l = Passed (after_first (value_of l.points l.faces) (faces_of l.faces)) true l.points l.faces l.initial.work l.marks l.m l.work l.r
-
-abbrev pub decreases-loop-r : goal.decreases-loop-r
-decreases-loop-r l = l.m - l.r

@@ -69,9 +69,6 @@ offset_bounds-work-marks c = omega (arith, turn _ c.requires c.loop-k.invariant.
 pub bounds-work-marks : goal.bounds-work-marks
 bounds-work-marks c = omega (arith, turn _ c.requires c.loop-k.invariant.added c.loop-k-test.true)
 
-pub overflow_add-k : goal.overflow_add-k
-overflow_add-k c = omega (arith, turn _ c.requires c.loop-k.invariant.added c.loop-k-test.true)
-
 pub loop-k-preserved : goal.loop-k-preserved
 loop-k-preserved c = let p = c.requires in
     let h = c.loop-k-test.true in

@@ -21,6 +21,3 @@ pub record Seen (w₀ : List ℕ) (from len marks F one : ℕ) (w : List ℕ) (s
 
 abbrev pub invariant-loop-k : goal.invariant-loop-k
 invariant-loop-k l = Seen l.initial.work l.from l.len l.marks l.count l.one l.work l.seen l.k
-
-abbrev pub decreases-loop-k : goal.decreases-loop-k
-decreases-loop-k l = l.len - l.k

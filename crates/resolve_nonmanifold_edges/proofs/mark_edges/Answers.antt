@@ -28,10 +28,6 @@ overflow_add-c c = let at_Edge = c.before.before in
     let v = turn.loop-r.invariant in
     omega (arith, v.fewer, bounds (run_ok v.passed turn.loop-r-test.true), few_counted v turn.loop-r-test.true at_Edge.resolve_edge-c.ensures)
 
-pub overflow_add-r : goal.overflow_add-r
-overflow_add-r c = let turn = c.before.before.before.before in
-    omega (arith, bounds (run_ok turn.loop-r.invariant.passed turn.loop-r-test.true))
-
 pub loop-r-preserved : goal.loop-r-preserved
 loop-r-preserved c = let at_Edge = c.before.before in
     let turn = at_Edge.before.before in

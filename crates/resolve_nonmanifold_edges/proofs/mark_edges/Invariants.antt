@@ -6,6 +6,3 @@ use Rattle.resolve_nonmanifold_edges.proofs.mark_edges.Given as goal
 
 abbrev pub invariant-loop-r : goal.invariant-loop-r
 invariant-loop-r l = Counted l.points l.faces l.initial.work l.marks l.m l.work l.c l.r
-
-abbrev pub decreases-loop-r : goal.decreases-loop-r
-decreases-loop-r l = l.m - l.r

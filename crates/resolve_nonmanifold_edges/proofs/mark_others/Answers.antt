@@ -55,9 +55,6 @@ offset_bounds-work-marks c = omega (arith, turn _ c.requires c.loop-k.invariant 
 pub bounds-work-marks : goal.bounds-work-marks
 bounds-work-marks c = omega (arith, turn _ c.requires c.loop-k.invariant c.loop-k-test.true)
 
-pub overflow_add-k : goal.overflow_add-k
-overflow_add-k c = omega (arith, turn _ c.requires c.loop-k.invariant c.loop-k-test.true)
-
 pub loop-k-preserved : goal.loop-k-preserved
 loop-k-preserved c = let a = c.before.before.before.before in
     let s = a.before.before in

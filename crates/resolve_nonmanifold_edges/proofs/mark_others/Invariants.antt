@@ -14,6 +14,3 @@ lost w from one two k i = lost_of (faces_in (part w from k)) one two i
 
 abbrev pub invariant-loop-k : goal.invariant-loop-k
 invariant-loop-k l = Added (lost l.initial.work l.from l.one l.two) l.initial.work l.len l.marks l.count l.work l.k
-
-abbrev pub decreases-loop-k : goal.decreases-loop-k
-decreases-loop-k l = l.len - l.k

@@ -6,7 +6,3 @@ use Rattle.root.proofs.near.Given as goal
 -- the invariant
 abbrev pub invariant-loop-i : goal.invariant-loop-i
 invariant-loop-i l = Kept l.n l.left l.root l.rem l.i
-
--- the turns that are left
-abbrev pub decreases-loop-i : goal.decreases-loop-i
-decreases-loop-i l = 53 - l.i

@@ -4,6 +4,3 @@ use Rattle.rows_try.proofs.whole.Given as goal
 
 abbrev pub invariant-loop-n : goal.invariant-loop-n
 invariant-loop-n l = l.n ≤ 100
-
-abbrev pub decreases-loop-n : goal.decreases-loop-n
-decreases-loop-n l = 100 - l.n

@@ -22,14 +22,6 @@ bounds-words-g c = omega (arith, c.loop-g-test.true)
 pub returns-then-words-g-eq1 : goal.returns-then-words-g-eq1
 returns-then-words-g-eq1 c = found c.loop-g.invariant c.loop-g-test.true c.if-words-g-eq1.true
 
--- src/lib.rt:104:9
-pub overflow_add-g : goal.overflow_add-g
-overflow_add-g c = omega (arith, c.requires, c.loop-g-test.true)
-
--- src/lib.rt:100:5
-pub loop-g-smaller : goal.loop-g-smaller
-loop-g-smaller c = omega (arith, c.loop-g-test.true)
-
 -- src/lib.rt:100:5
 pub loop-g-preserved : goal.loop-g-preserved
 loop-g-preserved c = none_more c.loop-g.invariant c.loop-g-test.true c.if-words-g-eq1.false

@@ -8,6 +8,3 @@ use Rattle.searched_fans.proofs.next_waiting.Given as goal
 
 abbrev pub invariant-loop-g : goal.invariant-loop-g
 invariant-loop-g l = None l.words l.g
-
-abbrev pub decreases-loop-g : goal.decreases-loop-g
-decreases-loop-g l = length l.words - l.g

@@ -72,14 +72,6 @@ number_length-requires c = tt
 pub overflow_add-bytes-then-words-g-eq2 : goal.overflow_add-bytes-then-words-g-eq2
 overflow_add-bytes-then-words-g-eq2 c = omega (arith, turn c.requires c.loop-g.invariant c.loop-g-test.true, c.number_length.ensures, decimal_short c.loop-g.g)
 
--- src/lib.rt:139:9
-pub overflow_add-g : goal.overflow_add-g
-overflow_add-g c = omega (arith, turn c.requires c.loop-g.invariant c.loop-g-test.true)
-
--- src/lib.rt:133:5
-pub loop-g-smaller : goal.loop-g-smaller
-loop-g-smaller c = omega (arith, c.loop-g.invariant.long, c.loop-g-test.true)
-
 -- src/lib.rt:133:5
 pub loop-g-preserved : goal.loop-g-preserved
 loop-g-preserved c = let p = c.requires in

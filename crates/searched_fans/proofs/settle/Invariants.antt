@@ -11,6 +11,3 @@ use Rattle.searched_fans.proofs.settle.Given as goal
 
 abbrev pub invariant-loop-g : goal.invariant-loop-g
 invariant-loop-g l = Settled l.faces l.initial.words l.v l.words l.bytes l.g
-
-abbrev pub decreases-loop-g : goal.decreases-loop-g
-decreases-loop-g l = length l.initial.words - l.g

@@ -28,14 +28,6 @@ number_length-requires c = tt
 pub overflow_add-bytes-in-loop-v : goal.overflow_add-bytes-in-loop-v
 overflow_add-bytes-in-loop-v c = omega (arith, c.requires, c.loop-v.invariant.few, c.loop-v-test.true, c.number_length.ensures, decimal_short c.loop-v.v)
 
--- src/lib.rt:24:9
-pub overflow_add-v : goal.overflow_add-v
-overflow_add-v c = omega (arith, c.requires, c.loop-v-test.true)
-
--- src/lib.rt:22:5
-pub loop-v-smaller : goal.loop-v-smaller
-loop-v-smaller c = omega (arith, c.loop-v-test.true)
-
 -- src/lib.rt:22:5
 pub loop-v-preserved : goal.loop-v-preserved
 loop-v-preserved c = again c.loop-v.invariant c.loop-v-test.true c.number_length.ensures

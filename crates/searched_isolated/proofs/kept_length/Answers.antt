@@ -27,14 +27,6 @@ kept_face-bytes-requires c = record { face_asks = record { worded = c.requires.k
 pub overflow_add-bytes : goal.overflow_add-bytes
 overflow_add-bytes c = omega (arith, c.requires.kept_asks.worded.few, c.loop-f.invariant.few, c.loop-f-test.true, c.kept_face-bytes.ensures, face_most c.args.faces.now c.args.words.now c.loop-f.f)
 
--- src/lib.rt:67:9
-pub overflow_add-f : goal.overflow_add-f
-overflow_add-f c = omega (arith, c.loop-f-test.true, c.requires.kept_asks.worded.few)
-
--- src/lib.rt:63:5
-pub loop-f-smaller : goal.loop-f-smaller
-loop-f-smaller c = omega (arith, c.loop-f-test.true)
-
 -- src/lib.rt:63:5
 pub loop-f-preserved : goal.loop-f-preserved
 loop-f-preserved c = let i = c.loop-f.invariant in

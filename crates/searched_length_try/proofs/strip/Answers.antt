@@ -7,9 +7,6 @@ use Rattle.searched_length_try.proofs.strip.Goals as goal
 pub bounds-faces-j : goal.bounds-faces-j
 bounds-faces-j c = c.loop-j-test.true
 
-pub loop-j-smaller : goal.loop-j-smaller
-loop-j-smaller c = simp length-set (omega arith)
-
 pub loop-j-preserved : goal.loop-j-preserved
 loop-j-preserved c = rw length-set c.loop-j.invariant
 

@@ -6,6 +6,3 @@ use Rattle.searched_length_try.proofs.strip.Given as goal
 
 abbrev pub invariant-loop-j : goal.invariant-loop-j
 invariant-loop-j l = length l.faces ≡ length l.initial.faces
-
-abbrev pub decreases-loop-j : goal.decreases-loop-j
-decreases-loop-j l = length l.faces - l.j

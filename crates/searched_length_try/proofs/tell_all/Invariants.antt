@@ -4,6 +4,3 @@ use Rattle.searched_length_try.proofs.tell_all.Given as goal
 
 abbrev pub invariant-loop-options : goal.invariant-loop-options
 invariant-loop-options g l = l.options ≤ 64
-
-abbrev pub decreases-loop-options : goal.decreases-loop-options
-decreases-loop-options g l = 64 - l.options

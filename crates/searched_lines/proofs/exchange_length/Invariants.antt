@@ -10,6 +10,3 @@ use Rattle.searched_lines.proofs.exchange_length.Given as goal
 
 abbrev pub invariant-loop-f : goal.invariant-loop-f
 invariant-loop-f l = Summed (exchange_line l.faces l.words) (length l.words) l.bytes l.f
-
-abbrev pub decreases-loop-f : goal.decreases-loop-f
-decreases-loop-f l = length l.words - l.f

@@ -21,12 +21,6 @@ lost_face-bytes-requires c = let p = c.requires in face-ask p (c.loop-f.invarian
 pub overflow_add-bytes : goal.overflow_add-bytes
 overflow_add-bytes c = let p = c.requires in omega (arith, (c.loop-f.invariant p).few, c.loop-f-test.true, c.lost_face-bytes.ensures (face-ask p (c.loop-f.invariant p) c.loop-f-test.true c.stands.ensures c.if-stands.true), face_most c.args.faces.now p.base c.args.points c.loop-f.f, p.split.worded.few, p.stage.long)
 
-pub overflow_add-f : goal.overflow_add-f
-overflow_add-f c = omega (arith, c.loop-f-test.true)
-
-pub loop-f-smaller : goal.loop-f-smaller
-loop-f-smaller c = omega (arith, c.loop-f-test.true)
-
 pub loop-f-preserved : goal.loop-f-preserved
 loop-f-preserved c = λ q. elim c.if-stands.branch [ then-stands w ↦ rw w.bytes-is (gone_more q (c.loop-f.invariant q) c.loop-f-test.true c.stands.ensures w.if-stands.true (w.lost_face-bytes.ensures (face-ask q (c.loop-f.invariant q) c.loop-f-test.true c.stands.ensures w.if-stands.true))) | else-stands w ↦ rw w.bytes-is (gone_same q (c.loop-f.invariant q) c.loop-f-test.true c.stands.ensures w.if-stands.false) ]
 

@@ -11,6 +11,3 @@ use Rattle.searched_lost.proofs.lost_length.Given as goal
 
 abbrev pub invariant-loop-f : goal.invariant-loop-f
 invariant-loop-f l = (q : LostAsks l.faces l.words l.points) → Gone q l.bytes l.f
-
-abbrev pub decreases-loop-f : goal.decreases-loop-f
-decreases-loop-f l = length l.words - l.f

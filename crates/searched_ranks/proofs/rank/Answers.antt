@@ -42,14 +42,6 @@ rank_corner-requires-then-stands-2 c = record { worded = c.requires.worded; here
 pub overflow_add-count-then-stands-2 : goal.overflow_add-count-then-stands-2
 overflow_add-count-then-stands-2 c = omega (arith, c.requires.worded.few, c.loop-g.invariant.few, c.loop-g-test.true, c.rank_corner.ensures, c.rank_corner-then-stands.ensures, c.rank_corner-then-stands-2.ensures, count_most c.args.faces.now c.args.words.now c.args.v c.args.id c.loop-g.g 0, count_most c.args.faces.now c.args.words.now c.args.v c.args.id c.loop-g.g 1, count_most c.args.faces.now c.args.words.now c.args.v c.args.id c.loop-g.g 2)
 
--- src/lib.rt:68:9
-pub overflow_add-g : goal.overflow_add-g
-overflow_add-g c = omega (arith, c.loop-g-test.true, c.requires.worded.few)
-
--- src/lib.rt:63:5
-pub loop-g-smaller : goal.loop-g-smaller
-loop-g-smaller c = omega (arith, c.loop-g-test.true)
-
 -- src/lib.rt:63:5
 pub loop-g-preserved : goal.loop-g-preserved
 loop-g-preserved c = let i = c.loop-g.invariant in

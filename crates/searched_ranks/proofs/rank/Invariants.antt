@@ -10,6 +10,3 @@ use Rattle.searched_ranks.proofs.rank.Given as goal
 
 abbrev pub invariant-loop-g : goal.invariant-loop-g
 invariant-loop-g l = Counted l.faces l.words l.v l.id l.count l.g
-
-abbrev pub decreases-loop-g : goal.decreases-loop-g
-decreases-loop-g l = length l.words - l.g

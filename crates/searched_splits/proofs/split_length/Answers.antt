@@ -22,14 +22,6 @@ stands-requires c = c.loop-f-test.true
 pub split_face-told-requires : goal.split_face-told-requires
 split_face-told-requires c = record { face_asks = ask c.requires.split_asks c.loop-f.invariant c.loop-f-test.true (sym c.stands.ensures ∙ c.if-stands.true); indexed = c.requires.indexed }
 
--- src/lib.rt:215:9
-pub overflow_add-f : goal.overflow_add-f
-overflow_add-f c = omega (arith, c.loop-f-test.true, c.loop-f.invariant.stage.long, c.requires.split_asks.worded.few)
-
--- src/lib.rt:209:5
-pub loop-f-smaller : goal.loop-f-smaller
-loop-f-smaller c = omega (arith, c.loop-f-test.true, c.loop-f.invariant.stage.long)
-
 -- src/lib.rt:209:5
 pub loop-f-preserved : goal.loop-f-preserved
 loop-f-preserved c = let p = c.requires.split_asks in

@@ -10,6 +10,3 @@ use Rattle.searched_splits.proofs.split_length.Given as goal
 
 abbrev pub invariant-loop-f : goal.invariant-loop-f
 invariant-loop-f l = Gone l.faces l.initial.words l.points l.words l.splits l.bytes l.f
-
-abbrev pub decreases-loop-f : goal.decreases-loop-f
-decreases-loop-f l = length l.initial.words - l.f

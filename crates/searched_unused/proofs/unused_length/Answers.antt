@@ -19,12 +19,6 @@ unused_line-bytes-requires c = record { worded = c.requires.unused_asks.worded; 
 pub overflow_add-bytes : goal.overflow_add-bytes
 overflow_add-bytes c = omega (arith, c.loop-v.invariant, c.loop-v-test.true, c.unused_line-bytes.ensures, line_short c.args.faces.now c.args.words.now c.loop-v.v, c.requires.unused_asks.few)
 
-pub overflow_add-v : goal.overflow_add-v
-overflow_add-v c = omega (arith, c.loop-v-test.true)
-
-pub loop-v-smaller : goal.loop-v-smaller
-loop-v-smaller c = omega (arith, c.loop-v-test.true)
-
 pub loop-v-preserved : goal.loop-v-preserved
 loop-v-preserved c = add_again c.loop-v.invariant c.loop-v-test.true c.unused_line-bytes.ensures
 

@@ -8,6 +8,3 @@ use Rattle.searched_unused.proofs.unused_length.Given as goal
 
 abbrev pub invariant-loop-v : goal.invariant-loop-v
 invariant-loop-v l = Added l.faces l.words l.points l.bytes l.v
-
-abbrev pub decreases-loop-v : goal.decreases-loop-v
-decreases-loop-v l = l.points - l.v

@@ -11,10 +11,6 @@ pub loop-f-init : goal.loop-f-init
 loop-f-init c = clean_begin
 
 -- src/lib.rt:264:5
-pub loop-f-smaller : goal.loop-f-smaller
-loop-f-smaller c = omega (arith, c.loop-f.invariant.long, c.loop-f-test.true)
-
--- src/lib.rt:264:5
 pub loop-f-preserved : goal.loop-f-preserved
 loop-f-preserved c = clean_again c.loop-f.invariant c.loop-f-test.true
 

@@ -9,6 +9,3 @@ use Rattle.searched_walk.proofs.count_standing.Given as goal
 
 abbrev pub invariant-loop-f : goal.invariant-loop-f
 invariant-loop-f l = Standings l.words l.n l.f
-
-abbrev pub decreases-loop-f : goal.decreases-loop-f
-decreases-loop-f l = length l.words - l.f

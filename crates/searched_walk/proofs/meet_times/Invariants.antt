@@ -9,6 +9,3 @@ use Rattle.searched_walk.proofs.meet_times.Given as goal
 
 abbrev pub invariant-loop-k : goal.invariant-loop-k
 invariant-loop-k l = Times l.faces l.initial.words l.initial.now l.g (step l.a l.b) l.times l.words l.now l.k
-
-abbrev pub decreases-loop-k : goal.decreases-loop-k
-decreases-loop-k l = l.times - l.k

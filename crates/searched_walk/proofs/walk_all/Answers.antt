@@ -16,10 +16,6 @@ pub begin-now-requires : goal.begin-now-requires
 begin-now-requires c = record { begin_asks = all_ask c.requires.all_asks c.loop-f.invariant c.loop-f-test.true; indexed = c.requires.indexed }
 
 -- src/lib.rt:252:5
-pub loop-f-smaller : goal.loop-f-smaller
-loop-f-smaller c = omega (arith, c.loop-f.invariant.kept.long, c.loop-f-test.true)
-
--- src/lib.rt:252:5
 pub loop-f-preserved : goal.loop-f-preserved
 loop-f-preserved c = all_again c.requires.all_asks c.loop-f.invariant c.loop-f-test.true c.begin-now.ensures
 

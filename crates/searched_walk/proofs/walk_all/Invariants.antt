@@ -9,6 +9,3 @@ use Rattle.searched_walk.proofs.walk_all.Given as goal
 
 abbrev pub invariant-loop-f : goal.invariant-loop-f
 invariant-loop-f l = Begun l.faces l.initial.words l.words l.now l.f
-
-abbrev pub decreases-loop-f : goal.decreases-loop-f
-decreases-loop-f l = length l.initial.words - l.f

@@ -5,6 +5,3 @@ use Rattle.show.proofs.runs.Given as goal
 
 abbrev pub invariant-loop-i : goal.invariant-loop-i
 invariant-loop-i g l = (l.begin ≤ l.i) × (l.i ≤ length l.row)
-
-abbrev pub decreases-loop-i : goal.decreases-loop-i
-decreases-loop-i g l = length l.row - l.i

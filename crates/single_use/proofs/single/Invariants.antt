@@ -5,6 +5,3 @@ use Rattle.single_use.proofs.single.Given as goal
 
 abbrev pub invariant-loop-r : goal.invariant-loop-r
 invariant-loop-r l = Passed l.work l.faces l.states l.at l.r
-
-abbrev pub decreases-loop-r : goal.decreases-loop-r
-decreases-loop-r l = l.m - l.r

@@ -58,9 +58,6 @@ overflow_add-from c = omega (arith, move_ok c.requires c.loop-j.invariant c.loop
 pub move_point-requires : goal.move_point-requires
 move_point-requires c = move_ok c.requires c.loop-j.invariant c.loop-j-test.true
 
-pub overflow_add-j : goal.overflow_add-j
-overflow_add-j c = omega (arith, move_ok c.requires c.loop-j.invariant c.loop-j-test.true)
-
 pub loop-j-preserved : goal.loop-j-preserved
 loop-j-preserved c = again c.requires c.loop-j.invariant c.loop-j-test.true c.move_point.ensures
 

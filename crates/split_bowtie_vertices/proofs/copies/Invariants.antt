@@ -15,6 +15,3 @@ pub record Inv (ps₀ : List Float) (v from m : ℕ) (ps : List Float) (j : ℕ)
 
 abbrev pub invariant-loop-j : goal.invariant-loop-j
 invariant-loop-j l = Inv l.initial.points l.v l.from l.m l.points l.j
-
-abbrev pub decreases-loop-j : goal.decreases-loop-j
-decreases-loop-j l = l.m - l.j

@@ -41,9 +41,6 @@ new_corner-taken-requires c = c.requires.each _ c.loop-id-test.true
 pub store-requires : goal.store-requires
 store-requires c = omega (arith, turn c.requires c.loop-id.invariant c.loop-id-test.true)
 
-pub overflow_add-id : goal.overflow_add-id
-overflow_add-id c = omega (arith, turn c.requires c.loop-id.invariant c.loop-id-test.true)
-
 pub loop-id-preserved : goal.loop-id-preserved
 loop-id-preserved c = rw c.store.ensures (again c.requires c.loop-id.invariant c.loop-id-test.true c.new_corner-taken.ensures)
 

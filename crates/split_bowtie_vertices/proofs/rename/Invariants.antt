@@ -18,6 +18,3 @@ pub record Turn (xs : List ℕ) (n id : ℕ) : Type 0 where
 
 abbrev pub invariant-loop-id : goal.invariant-loop-id
 invariant-loop-id l = Inv l.initial.faces l.work l.leads l.numbers l.n l.faces l.id
-
-abbrev pub decreases-loop-id : goal.decreases-loop-id
-decreases-loop-id l = l.n - l.id

@@ -71,9 +71,6 @@ split_vertex-r-requires c = vertex-ok c.requires (c.loop-v.invariant c.requires)
 pub overflow_add-splits : goal.overflow_add-splits
 overflow_add-splits c = omega (arith, turn c.requires (c.loop-v.invariant c.requires) c.loop-v-test.true)
 
-pub overflow_add-v : goal.overflow_add-v
-overflow_add-v c = omega (arith, turn c.requires (c.loop-v.invariant c.requires) c.loop-v-test.true)
-
 pub loop-v-preserved : goal.loop-v-preserved
 loop-v-preserved c = λ q.
     let i = c.loop-v.invariant q in

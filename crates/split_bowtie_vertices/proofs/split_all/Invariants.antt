@@ -25,6 +25,3 @@ pub record Turn (P v splits : ℕ) : Type 0 where
 
 abbrev pub invariant-loop-v : goal.invariant-loop-v
 invariant-loop-v l = (q : AllAsks l.initial.points l.initial.work l.count l.n) → Inv q l.points l.work l.begin l.next l.splits l.v
-
-abbrev pub decreases-loop-v : goal.decreases-loop-v
-decreases-loop-v l = l.count - l.v

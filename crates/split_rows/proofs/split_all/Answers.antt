@@ -37,10 +37,6 @@ pub split_vertex-r-requires : goal.split_vertex-r-requires
 split_vertex-r-requires c = let q = c.requires in
     vertex-ok q (c.loop-v.invariant q) c.loop-v-test.true
 
-pub overflow_add-v : goal.overflow_add-v
-overflow_add-v c = let q = c.requires in
-    omega (arith, turn q (c.loop-v.invariant q) c.loop-v-test.true)
-
 pub loop-v-preserved : goal.loop-v-preserved
 loop-v-preserved c = λ q.
     let i = c.loop-v.invariant q in

@@ -16,6 +16,3 @@ pub record Turn (P v : ℕ) : Type 0 where
 
 abbrev pub invariant-loop-v : goal.invariant-loop-v
 invariant-loop-v l = (q : AllAsks l.initial.work l.count l.m l.olds) → Inv q l.work l.begin l.next l.v
-
-abbrev pub decreases-loop-v : goal.decreases-loop-v
-decreases-loop-v l = l.count - l.v

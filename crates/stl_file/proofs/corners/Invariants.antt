@@ -6,6 +6,3 @@ use Rattle.stl_file.proofs.corners.Given as goal
 
 abbrev pub invariant-loop-c : goal.invariant-loop-c
 invariant-loop-c l = Clean (far_at l.file) (3 * l.count) l.c
-
-abbrev pub decreases-loop-c : goal.decreases-loop-c
-decreases-loop-c l = 3 * l.count - l.c

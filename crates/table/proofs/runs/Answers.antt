@@ -167,9 +167,6 @@ offset_bounds-work-at-in-loop-i c = omega (arith, turn c.requires c.loop-i.invar
 pub bounds-work-at-in-loop-i : goal.bounds-work-at-in-loop-i
 bounds-work-at-in-loop-i c = omega (arith, turn c.requires c.loop-i.invariant c.loop-i-test.true c.note-m.ensures)
 
-pub overflow_add-i : goal.overflow_add-i
-overflow_add-i c = omega (arith, turn c.requires c.loop-i.invariant c.loop-i-test.true c.note-m.ensures)
-
 pub loop-i-preserved : goal.loop-i-preserved
 loop-i-preserved c = again c.requires c.loop-i.invariant c.loop-i-test.true c.note-m.ensures
 

@@ -16,12 +16,6 @@ bounds-report-i c = c.loop-i-test.true
 pub put_whole-next-requires : goal.put_whole-next-requires
 put_whole-next-requires c = count_asks c.requires c.loop-i.invariant c.loop-i-test.true
 
-pub overflow_add-i : goal.overflow_add-i
-overflow_add-i c = omega (arith, c.loop-i-test.true)
-
-pub loop-i-smaller : goal.loop-i-smaller
-loop-i-smaller c = omega (arith, c.loop-i-test.true)
-
 pub loop-i-preserved : goal.loop-i-preserved
 loop-i-preserved c = count_again c.loop-i.invariant c.loop-i-test.true c.put_whole-next.ensures
 

@@ -12,12 +12,6 @@ loop-i-init c = begin face_line _ 35 (omega (arith, c.requires))
 pub put_face-next-requires : goal.put_face-next-requires
 put_face-next-requires c = face_asks _ c.requires c.loop-i.invariant c.loop-i-test.true
 
-pub overflow_add-i : goal.overflow_add-i
-overflow_add-i c = omega (arith, c.loop-i-test.true)
-
-pub loop-i-smaller : goal.loop-i-smaller
-loop-i-smaller c = omega (arith, c.loop-i-test.true)
-
 pub loop-i-preserved : goal.loop-i-preserved
 loop-i-preserved c = face_again _ c.loop-i.invariant c.loop-i-test.true c.put_face-next.ensures
 

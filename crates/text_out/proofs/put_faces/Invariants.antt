@@ -8,6 +8,3 @@ use Rattle.text_out.proofs.put_faces.Given as goal
 
 abbrev pub invariant-loop-i : goal.invariant-loop-i
 invariant-loop-i l = SoFar face_line (faces_of l.faces) 35 l.initial.out l.at l.out l.next l.i
-
-abbrev pub decreases-loop-i : goal.decreases-loop-i
-decreases-loop-i l = length l.faces / 3 - l.i

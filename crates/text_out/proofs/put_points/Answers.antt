@@ -12,12 +12,6 @@ loop-i-init c = begin point_line _ 53 (omega (arith, c.requires.room))
 pub put_point-next-requires : goal.put_point-next-requires
 put_point-next-requires c = point_asks _ c.requires c.loop-i.invariant c.loop-i-test.true
 
-pub overflow_add-i : goal.overflow_add-i
-overflow_add-i c = omega (arith, c.loop-i-test.true)
-
-pub loop-i-smaller : goal.loop-i-smaller
-loop-i-smaller c = omega (arith, c.loop-i-test.true)
-
 pub loop-i-preserved : goal.loop-i-preserved
 loop-i-preserved c = point_again _ c.loop-i.invariant c.loop-i-test.true c.put_point-next.ensures
 

@@ -7,11 +7,5 @@ use Rattle.verdict_try.proofs.fan.Given as goal
 abbrev pub invariant-loop-i : goal.invariant-loop-i
 invariant-loop-i l = (l.i ≤ 2049) × (length l.faces ≡ 12303) × (length l.faces ≡ length l.initial.faces)
 
-abbrev pub decreases-loop-i : goal.decreases-loop-i
-decreases-loop-i l = 2049 - l.i
-
 abbrev pub invariant-loop-i-2 : goal.invariant-loop-i-2
 invariant-loop-i-2 l = (l.i ≤ 4101) × (length l.faces ≡ 12303) × (length l.faces ≡ length l.initial.faces)
-
-abbrev pub decreases-loop-i-2 : goal.decreases-loop-i-2
-decreases-loop-i-2 l = 4101 - l.i

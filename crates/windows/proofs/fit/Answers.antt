@@ -45,9 +45,6 @@ bounds-ends-k c = omega (arith, turn c.requires c.loop-k.invariant)
 pub overflow_add-s : goal.overflow_add-s
 overflow_add-s c = omega (arith, turn c.requires c.loop-k.invariant)
 
-pub overflow_add-k : goal.overflow_add-k
-overflow_add-k c = omega (arith, turn c.requires c.loop-k.invariant)
-
 pub loop-k-preserved : goal.loop-k-preserved
 loop-k-preserved c = again c.requires c.loop-k.invariant c.loop-k-test.true c.if-most-n.false c.if-room-s.false
 

@@ -5,6 +5,3 @@ use Rattle.windows.proofs.fit.Given as goal
 
 abbrev pub invariant-loop-k : goal.invariant-loop-k
 invariant-loop-k l = Fitted l.counts l.limit l.room l.most l.initial.ends l.ends l.s l.k
-
-abbrev pub decreases-loop-k : goal.decreases-loop-k
-decreases-loop-k l = l.limit - l.k

@@ -40,9 +40,6 @@ offset_bounds-counts-k-else-j-inner c = omega (arith, counter_in c.requires c.lo
 pub bounds-counts-k-else-j-inner : goal.bounds-counts-k-else-j-inner
 bounds-counts-k-else-j-inner c = omega (arith, counter_in c.requires c.loop-i.invariant c.loop-i-test.true c.wrapping_sub_u64-j.ensures.value c.wrapping_sub_u64-j.type_inv c.if-j-outer.true c.if-j-inner.false, counter_small c.requires c.loop-i.invariant c.loop-i-test.true c.wrapping_sub_u64-j.ensures.value c.wrapping_sub_u64-j.type_inv c.if-j-outer.true c.if-j-inner.false)
 
-pub overflow_add-i : goal.overflow_add-i
-overflow_add-i c = omega (arith, bounds c.requires c.loop-i.invariant c.loop-i-test.true)
-
 pub loop-i-preserved : goal.loop-i-preserved
 loop-i-preserved c = let p = c.requires in
     let q = c.loop-i.invariant in

@@ -5,6 +5,3 @@ use Rattle.windows.proofs.pass.Given as goal
 
 abbrev pub invariant-loop-i : goal.invariant-loop-i
 invariant-loop-i l = Passed l.faces l.v l.w l.width l.initial.ends l.initial.buffer l.initial.counts l.inner l.outer l.ends l.buffer l.counts l.i
-
-abbrev pub decreases-loop-i : goal.decreases-loop-i
-decreases-loop-i l = length l.faces - l.i

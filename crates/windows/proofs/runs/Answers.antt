@@ -36,12 +36,6 @@ overflow_sub-e-in-loop-j c = omega (arith, turn c.requires c.loop-j.invariant c.
 pub walk-r-requires : goal.walk-r-requires
 walk-r-requires c = walk_asks c.requires c.loop-j.invariant c.loop-j-test.true c.widen.ensures c.widen.auto.to
 
-pub overflow_add-j : goal.overflow_add-j
-overflow_add-j c = omega (arith, turn c.requires c.loop-j.invariant c.loop-j-test.true)
-
-pub loop-j-smaller : goal.loop-j-smaller
-loop-j-smaller c = let h = c.loop-j-test.true in omega arith
-
 pub loop-j-preserved : goal.loop-j-preserved
 loop-j-preserved c = again c.requires c.loop-j.invariant c.loop-j-test.true c.widen.ensures c.widen.auto.to c.walk-r.ensures
 

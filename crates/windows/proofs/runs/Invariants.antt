@@ -5,6 +5,3 @@ use Rattle.windows.proofs.runs.Given as goal
 
 abbrev pub invariant-loop-j : goal.invariant-loop-j
 invariant-loop-j l = Ran l.points l.v l.w l.ends l.buffer l.initial.entries l.initial.r l.entries l.r l.from l.s l.j
-
-abbrev pub decreases-loop-j : goal.decreases-loop-j
-decreases-loop-j l = l.w - l.j

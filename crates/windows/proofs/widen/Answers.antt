@@ -27,9 +27,6 @@ offset_bounds-to-i c = omega (arith, widen_turn c.requires c.loop-i.invariant)
 pub bounds-to-i : goal.bounds-to-i
 bounds-to-i c = omega (arith, widen_turn c.requires c.loop-i.invariant)
 
-pub overflow_add-i : goal.overflow_add-i
-overflow_add-i c = omega (arith, widen_turn c.requires c.loop-i.invariant)
-
 pub loop-i-preserved : goal.loop-i-preserved
 loop-i-preserved c = widen_more c.requires c.loop-i.invariant c.loop-i-test.true
 

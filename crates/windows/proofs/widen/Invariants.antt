@@ -5,6 +5,3 @@ use Rattle.windows.proofs.widen.Given as goal
 
 abbrev pub invariant-loop-i : goal.invariant-loop-i
 invariant-loop-i l = Widened l.buffer l.s l.n l.base l.initial.to l.to l.i
-
-abbrev pub decreases-loop-i : goal.decreases-loop-i
-decreases-loop-i l = l.n - l.i

@@ -6,6 +6,3 @@ use Rattle.wiping.proofs.any_in_four.Given as goal
 
 abbrev pub invariant-loop-i : goal.invariant-loop-i
 invariant-loop-i l = Four 0 0 l.work l.from l.n l.x l.y l.z l.u l.i
-
-abbrev pub decreases-loop-i : goal.decreases-loop-i
-decreases-loop-i l = l.n - l.i

@@ -8,6 +8,3 @@ use Rattle.wiping.proofs.bits_in_four.Given as goal
 
 abbrev pub invariant-loop-i : goal.invariant-loop-i
 invariant-loop-i l = Four nan zero64 l.points l.from l.n l.x l.y l.z l.u l.i
-
-abbrev pub decreases-loop-i : goal.decreases-loop-i
-decreases-loop-i l = l.n - l.i

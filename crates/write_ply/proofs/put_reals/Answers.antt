@@ -16,12 +16,6 @@ float_to_bits-points c = c.requires.numbers _ c.loop-i-test.true
 pub put_little-next-requires : goal.put_little-next-requires
 put_little-next-requires c = omega (arith, real_turn c.requires c.loop-i.invariant c.loop-i-test.true)
 
-pub overflow_add-i : goal.overflow_add-i
-overflow_add-i c = omega (arith, c.loop-i-test.true)
-
-pub loop-i-smaller : goal.loop-i-smaller
-loop-i-smaller c = omega (arith, c.loop-i-test.true)
-
 pub loop-i-preserved : goal.loop-i-preserved
 loop-i-preserved c = again real 8 _ c.loop-i.invariant nan c.loop-i-test.true c.put_little-next.ensures (little_long 8 _)
 

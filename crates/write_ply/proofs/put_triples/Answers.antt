@@ -11,12 +11,6 @@ loop-i-init c = begin triple 13 _ (omega (arith, c.requires.room))
 pub put_triple-next-requires : goal.put_triple-next-requires
 put_triple-next-requires c = triple_asks c.requires c.loop-i.invariant c.loop-i-test.true
 
-pub overflow_add-i : goal.overflow_add-i
-overflow_add-i c = omega (arith, c.loop-i-test.true)
-
-pub loop-i-smaller : goal.loop-i-smaller
-loop-i-smaller c = omega (arith, c.loop-i-test.true)
-
 pub loop-i-preserved : goal.loop-i-preserved
 loop-i-preserved c = triple_again c.args.faces.now c.loop-i.invariant c.loop-i-test.true c.put_triple-next.ensures
 

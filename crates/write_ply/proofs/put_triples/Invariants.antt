@@ -8,6 +8,3 @@ use Rattle.write_ply.proofs.put_triples.Given as goal
 
 abbrev pub invariant-loop-i : goal.invariant-loop-i
 invariant-loop-i l = SoFar triple 13 (faces_of l.faces) l.initial.out l.at l.out l.next l.i
-
-abbrev pub decreases-loop-i : goal.decreases-loop-i
-decreases-loop-i l = length l.faces / 3 - l.i

@@ -36,15 +36,8 @@ pub fn row(rt: &impl Print, row: &[u32], n: usize) -> io::Result<()>
 
 // Writes how many entries of two rows of floats are equal, from the front on, and ends the line.
 pub fn equal(rt: &impl Print, row: &[f64], other: &[f64]) -> io::Result<()> {
-    for i in 0..row.len() {
-        if i >= other.len() {
-            break;
-        }
-        if row[i] != other[i] {
-            break;
-        }
-    }
-    number(rt, row.len() as u64)?;
+    let same = row.iter().zip(other).take_while(|(x, y)| **x == **y).count();
+    number(rt, same as u64)?;
     end_line(rt)
 }
 

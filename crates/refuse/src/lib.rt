@@ -10,11 +10,67 @@ ghost use Rattle.rules.specs.Refusal as rule;
 ghost use Rattle.rules.specs.Rooms as room;
 ghost use Rattle.refuse.specs.Verdicts as by;
 
-// What the checks of a call find: nothing, or a refusal's number and place.
-#[derive(Drop)]
-pub enum Verdict {
-    Fine,
-    Refused(u32, usize),
+// Why a call is refused: a line of the table, with the place there.
+#[derive(Clone, Copy, Debug, PartialEq, Eq)]
+pub enum Refusal {
+    BadLength(usize),
+    TooLarge(usize),
+    BadSetting(usize),
+    BadPoint(usize),
+    BadCorner(usize),
+    ShortRoom(usize),
+    CrowdedEdge(usize),
+    BadBoundary(usize),
+    BadLabel(usize),
+    LabelCount,
+    BadFile,
+    BadPly,
+    NotATriple(usize),
+    BadList(usize),
+}
+
+impl Refusal {
+    // The number that stands for it in the table.
+    pub fn number(self) -> u32
+        ensures { result ≡ by.number_of self }
+    {
+        match self {
+            Refusal::BadLength(_) => 1,
+            Refusal::TooLarge(_) => 2,
+            Refusal::BadSetting(_) => 3,
+            Refusal::BadPoint(_) => 4,
+            Refusal::BadCorner(_) => 5,
+            Refusal::ShortRoom(_) => 6,
+            Refusal::CrowdedEdge(_) => 7,
+            Refusal::BadBoundary(_) => 8,
+            Refusal::BadLabel(_) => 9,
+            Refusal::LabelCount => 10,
+            Refusal::BadFile => 12,
+            Refusal::BadPly => 13,
+            Refusal::NotATriple(_) => 14,
+            Refusal::BadList(_) => 15,
+        }
+    }
+
+    // The place in what is refused; 0 where there is one place alone.
+    pub fn place(self) -> usize
+        ensures { result ≡ by.place_of self }
+    {
+        match self {
+            Refusal::BadLength(place)
+            | Refusal::TooLarge(place)
+            | Refusal::BadSetting(place)
+            | Refusal::BadPoint(place)
+            | Refusal::BadCorner(place)
+            | Refusal::ShortRoom(place)
+            | Refusal::CrowdedEdge(place)
+            | Refusal::BadBoundary(place)
+            | Refusal::BadLabel(place)
+            | Refusal::NotATriple(place)
+            | Refusal::BadList(place) => place,
+            Refusal::LabelCount | Refusal::BadFile | Refusal::BadPly => 0,
+        }
+    }
 }
 
 // The largest coordinate, 2^100.
@@ -23,27 +79,27 @@ const FAR: f64 = 1267650600228229401496703205376.0;
 // ---- 1 and 2: lengths and counts
 
 // 2: P or F too large.
-pub fn counts(p: usize, f: usize) -> Verdict
+pub fn counts(p: usize, f: usize) -> Result<(), Refusal>
     ensures { by.check_of result ≡ rule.decided (by.counts p f) }
 {
     if rules::MOST_POINTS < p {
-        return Verdict::Refused(2, 0);
+        return Err(Refusal::TooLarge(0));
     }
     if rules::MOST_FACES < f {
-        return Verdict::Refused(2, 1);
+        return Err(Refusal::TooLarge(1));
     }
-    Verdict::Fine
+    Ok(())
 }
 
 // 1 and 2: points or faces length no multiple of 3; P or F too large.
-pub fn sizes(points: usize, faces: usize) -> Verdict
+pub fn sizes(points: usize, faces: usize) -> Result<(), Refusal>
     ensures { by.check_of result ≡ rule.decided (by.sizes points faces) }
 {
     if points % 3 != 0 {
-        return Verdict::Refused(1, 0);
+        return Err(Refusal::BadLength(0));
     }
     if faces % 3 != 0 {
-        return Verdict::Refused(1, 1);
+        return Err(Refusal::BadLength(1));
     }
     counts(points / 3, faces / 3)
 }
@@ -61,16 +117,16 @@ fn within(low: f64, x: f64, high: f64) -> bool
 }
 
 // 3: s not in 0..1 (NaN included), or options above 63.
-pub fn settings(s: f64, options: u32) -> Verdict
+pub fn settings(s: f64, options: u32) -> Result<(), Refusal>
     ensures { by.check_of result ≡ rule.decided (by.settings s options) }
 {
     if within(0.0, s, 1.0) {
         if options <= 63 {
-            return Verdict::Fine;
+            return Ok(());
         }
-        return Verdict::Refused(3, 1);
+        return Err(Refusal::BadSetting(1));
     }
-    Verdict::Refused(3, 0)
+    Err(Refusal::BadSetting(0))
 }
 
 // ---- 4 and 5: points and faces
@@ -101,16 +157,16 @@ fn far(points: &[f64], i: usize) -> bool
 }
 
 // 4: a coordinate outside its domain, at the first such point. Unused points are checked too.
-fn coordinates(points: &[f64]) -> Verdict
+fn coordinates(points: &[f64]) -> Result<(), Refusal>
     ensures { by.check_of result ≡ rule.no4 (points_of points.now) }
 {
     let n = points.len() / 3;
     for i in 0..n {
         if far(points, i) {
-            return Verdict::Refused(4, i);
+            return Err(Refusal::BadPoint(i));
         }
     }
-    Verdict::Fine
+    Ok(())
 }
 
 // Whether face i has a corner >= P.
@@ -129,26 +185,23 @@ fn astray(p: usize, faces: &[u32], i: usize) -> bool
 }
 
 // 5: a corner >= P, at the first such face.
-pub fn corners(p: usize, faces: &[u32]) -> Verdict
+pub fn corners(p: usize, faces: &[u32]) -> Result<(), Refusal>
     ensures { by.check_of result ≡ rule.no5 p (faces_of faces.now) }
 {
     let n = faces.len() / 3;
     for i in 0..n {
         if astray(p, faces, i) {
-            return Verdict::Refused(5, i);
+            return Err(Refusal::BadCorner(i));
         }
     }
-    Verdict::Fine
+    Ok(())
 }
 
 // 4 and 5.
-pub fn contents(points: &[f64], faces: &[u32]) -> Verdict
+pub fn contents(points: &[f64], faces: &[u32]) -> Result<(), Refusal>
     ensures { by.check_of result ≡ rule.decided (by.contents points.now faces.now) }
 {
-    let found = coordinates(points);
-    let Verdict::Fine = found else {
-        return found;
-    };
+    coordinates(points)?;
     corners(points.len() / 3, faces)
 }
 
@@ -165,29 +218,26 @@ fn strange(count: usize, label: u32) -> bool
 }
 
 // 9: a label that is neither 4,294,967,295 nor below the patch count, at the first such face.
-fn known(count: usize, labels: &[u32]) -> Verdict
+fn known(count: usize, labels: &[u32]) -> Result<(), Refusal>
     ensures { by.check_of result ≡ rule.no9 count labels.now }
 {
     for i in 0..labels.len() {
         if strange(count, labels[i]) {
-            return Verdict::Refused(9, i);
+            return Err(Refusal::BadLabel(i));
         }
     }
-    Verdict::Fine
+    Ok(())
 }
 
 // 9, in all labels given, and 10: the number of labels differs from F.
-pub fn labelling(count: usize, labels: &[u32], f: usize) -> Verdict
+pub fn labelling(count: usize, labels: &[u32], f: usize) -> Result<(), Refusal>
     ensures { by.check_of result ≡ rule.decided (by.labelling count labels.now f) }
 {
-    let found = known(count, labels);
-    let Verdict::Fine = found else {
-        return found;
-    };
+    known(count, labels)?;
     if labels.len() == f {
-        return Verdict::Fine;
+        return Ok(());
     }
-    Verdict::Refused(10, 0)
+    Err(Refusal::LabelCount)
 }
 
 // ---- 6: the work room that three calls share

@@ -36,7 +36,11 @@ pub fn row(rt: &impl Print, row: &[u32], n: usize) -> io::Result<()>
 
 // Writes how many entries of two rows of floats are equal, from the front on, and ends the line.
 pub fn equal(rt: &impl Print, row: &[f64], other: &[f64]) -> io::Result<()> {
-    let same = row.iter().zip(other).take_while(|(x, y)| **x == **y).count();
+    let same = row
+        .iter()
+        .zip(other)
+        .take_while(|(x, y)| **x == **y)
+        .count();
     number(rt, same as u64)?;
     end_line(rt)
 }

@@ -1,15 +1,15 @@
 -- `refuse::labelling` meets its contract. Assumes nothing.
-use Rattle.refuse.proofs.Groups.{last, hand_on_one, go_on_one}
+use Rattle.std.proofs.lemmas.Result.{err_from_is_err_and}
+use Rattle.refuse.proofs.Groups.{last, stop_at, go_past}
 use Rattle.refuse.proofs.Singles.{as_many, other_number}
 use Rattle.refuse.proofs.labelling.Goals as goal
 
-pub returns-in_default : goal.returns-in_default
-returns-in_default c = hand_on_one _ _ _ _ _ c.known-found.ensures c.in_default.is
+pub returns-in_err-known : goal.returns-in_err-known
+returns-in_err-known c = let p = err_from_is_err_and c.from_residual.result c.from_residual.ensures.1 in
+    rw (p.1, p.2) (stop_at _ _ _ _ c.in_err-known.ensures)
 
 pub returns-then-labels-f : goal.returns-then-labels-f
-returns-then-labels-f c = let t = c.before in
-    go_on_one _ _ _ _ t.known-found.ensures t.in-Fine.is (last _ _ (as_many _ _ c.if-labels-f.true))
+returns-then-labels-f c = go_past _ _ _ c.in_ok-known.ensures (last _ _ (as_many _ _ c.if-labels-f.true))
 
 pub returns : goal.returns
-returns c = let t = c.before in
-    go_on_one _ _ _ _ t.known-found.ensures t.in-Fine.is (last _ _ (other_number _ _ c.if-labels-f.false))
+returns c = go_past _ _ _ c.in_ok-known.ensures (last _ _ (other_number _ _ c.if-labels-f.false))

@@ -1,5 +1,5 @@
 -- `bytes::put_little` meets its contract: the first i bytes are put, and m has the others. Assumes nothing.
-use Prim.Native.Nat.{◌-◌}
+use mathlib.Core.Path.{◌≡◌}
 use native.Mathlib.Omega.{arith}
 use Rattle.byte_rows.proofs.Little.{begin, turn, again, done}
 use Rattle.byte_rows.proofs.put_little.Goals as goal
@@ -23,4 +23,6 @@ pub shape_of-out : goal.shape_of-out
 shape_of-out c = c.loop-i.invariant.begun.only.long
 
 pub returns : goal.returns
-returns c = done c.loop-i.invariant c.loop-i-test.false
+returns c =
+    let e : c.loop-i.i ≡ c.args.k = omega (arith, c.loop-i-test.false, c.loop-i.auto.i-end) in
+    rw e at (done c.loop-i.invariant c.loop-i-test.false)

@@ -1,6 +1,6 @@
 -- `bytes::put_text` meets its contract. Assumes nothing.
-use mathlib.Core.Path.{refl}
-use Prim.Native.Nat.{◌-◌}
+use mathlib.Core.Path.{◌≡◌, refl}
+use lib.ListN.{length}
 use native.Mathlib.Omega.{arith}
 use Rattle.byte_rows.proofs.Putting.{begin, turn, again, done}
 use Rattle.byte_rows.proofs.put_text.Goals as goal
@@ -24,4 +24,6 @@ pub shape_of-out : goal.shape_of-out
 shape_of-out c = c.loop-i.invariant.only.long
 
 pub returns : goal.returns
-returns c = done c.loop-i.invariant c.loop-i-test.false
+returns c =
+    let e : c.loop-i.i ≡ length c.args.text.now = omega (arith, c.loop-i-test.false, c.loop-i.auto.i-end) in
+    rw e at (done c.loop-i.invariant c.loop-i-test.false)

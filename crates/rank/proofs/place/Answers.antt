@@ -41,4 +41,6 @@ pub loop-i-preserved : goal.loop-i-preserved
 loop-i-preserved c = record { most = omega arith; none = below_more _ _ c.loop-i.invariant.none c.if-j-one.false }
 
 pub returns : goal.returns
-returns c = done c.loop-i.invariant c.loop-i-test.false
+returns c =
+    let e : c.loop-i.i ≡ length c.args.run.now = omega (arith, c.loop-i-test.false, c.loop-i.invariant.most) in
+    rw e at (done c.loop-i.invariant c.loop-i-test.false)

@@ -3,3 +3,4 @@ pub mod Scans
 pub mod Groups
 pub mod Singles
 pub mod Accept
+pub mod Refusals

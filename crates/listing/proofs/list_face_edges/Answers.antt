@@ -1,5 +1,4 @@
 -- `listing::list_face_edges` meets its contract: the edges of the first i faces stand at the front. Assumes nothing.
-use Prim.Native.Nat.{◌-◌}
 use native.Mathlib.Omega.{arith}
 use lib.ListN.{length-set}
 use Rattle.listing.proofs.Sides.{begin, turn, again, done}
@@ -88,9 +87,6 @@ offset_bounds-face_edges-i-in-loop-i-2 c = omega (arith, turn c.requires c.loop-
 
 pub bounds-face_edges-i-in-loop-i-2 : goal.bounds-face_edges-i-in-loop-i-2
 bounds-face_edges-i-in-loop-i-2 c = simp length-set (omega (arith, turn c.requires c.loop-i.invariant c.loop-i-test.true))
-
-pub overflow_add-i : goal.overflow_add-i
-overflow_add-i c = omega (arith, turn c.requires c.loop-i.invariant c.loop-i-test.true)
 
 pub loop-i-preserved : goal.loop-i-preserved
 loop-i-preserved c = again c.requires c.loop-i.invariant c.loop-i-test.true

@@ -1,6 +1,4 @@
 -- `listing::list_face_edges` meets its contract: the edges of the first i faces stand at the front. Assumes nothing.
-use Prim.Native.Nat.{◌-◌, ◌/◌}
-use lib.ListN.{length}
 use Rattle.listing.proofs.Sides.{Sides}
 use Rattle.listing.proofs.list_face_edges.Given as goal
 

@@ -1,5 +1,4 @@
 -- `listing::put_edges` meets its contract: the ends of the first r edges stand at the front. Assumes nothing.
-use Prim.Native.Nat.{◌-◌}
 use native.Mathlib.Omega.{arith}
 use lib.ListN.{length-set}
 use Rattle.listing.proofs.Ends.{begin, turn, again, done}
@@ -85,9 +84,6 @@ offset_bounds-edges-r-in-loop-r c = omega (arith, turn c.requires c.loop-r.invar
 
 pub bounds-edges-r-in-loop-r : goal.bounds-edges-r-in-loop-r
 bounds-edges-r-in-loop-r c = simp length-set (omega (arith, turn c.requires c.loop-r.invariant c.loop-r-test.true))
-
-pub overflow_add-r : goal.overflow_add-r
-overflow_add-r c = omega (arith, turn c.requires c.loop-r.invariant c.loop-r-test.true)
 
 pub loop-r-preserved : goal.loop-r-preserved
 loop-r-preserved c = again c.requires c.loop-r.invariant c.loop-r-test.true

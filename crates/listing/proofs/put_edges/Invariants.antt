@@ -1,5 +1,4 @@
 -- `listing::put_edges` meets its contract: the ends of the first r edges stand at the front. Assumes nothing.
-use Prim.Native.Nat.{◌-◌}
 use lib.ListN.{length}
 use Rattle.listing.proofs.Ends.{Ends}
 use Rattle.listing.proofs.put_edges.Given as goal

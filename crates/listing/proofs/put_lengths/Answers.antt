@@ -1,5 +1,4 @@
 -- `listing::put_lengths` meets its contract: the first r lengths stand at the front. Assumes nothing.
-use Prim.Native.Nat.{◌-◌}
 use native.Mathlib.Omega.{arith}
 use Rattle.listing.proofs.Lengths.{begin, turn, inside, again, done}
 use Rattle.listing.proofs.put_lengths.Goals as goal
@@ -36,9 +35,6 @@ offset_bounds-lengths-r c = omega (arith, turn c.requires c.loop-r.invariant c.l
 
 pub bounds-lengths-r : goal.bounds-lengths-r
 bounds-lengths-r c = omega (arith, turn c.requires c.loop-r.invariant c.loop-r-test.true)
-
-pub overflow_add-r-in-loop-r : goal.overflow_add-r-in-loop-r
-overflow_add-r-in-loop-r c = omega (arith, turn c.requires c.loop-r.invariant c.loop-r-test.true)
 
 pub loop-r-preserved : goal.loop-r-preserved
 loop-r-preserved c = again c.requires c.loop-r.invariant c.loop-r-test.true _ c.distance.ensures

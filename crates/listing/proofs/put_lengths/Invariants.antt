@@ -1,5 +1,4 @@
 -- `listing::put_lengths` meets its contract: the first r lengths stand at the front. Assumes nothing.
-use Prim.Native.Nat.{◌-◌}
 use Rattle.listing.proofs.Lengths.{Measured}
 use Rattle.listing.proofs.put_lengths.Given as goal
 

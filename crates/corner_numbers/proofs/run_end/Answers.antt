@@ -2,7 +2,7 @@
 use mathlib.Core.Path.{◌≡◌}
 use mathlib.Core.Logic.{◌≢◌}
 use mathlib.Core.List.{List}
-use Prim.Native.Nat.{ℕ, ◌+◌, ◌-◌, ◌≤◌, ◌<◌}
+use Prim.Native.Nat.{ℕ, ◌+◌, ◌≤◌, ◌<◌}
 use native.Mathlib.Omega.{arith}
 use native.Mathlib.Decide.{ℕ_discrete}
 use lib.ListN.{get_or}
@@ -59,4 +59,4 @@ pub loop-p-preserved : goal.loop-p-preserved
 loop-p-preserved c = again c.requires c.loop-p.invariant c.loop-p-test.true c.if-work-id.false
 
 pub returns : goal.returns
-returns c = done c.requires c.loop-p.invariant c.loop-p-test.false
+returns c = let e : c.loop-p.p ≡ c.args.n = omega (arith, c.loop-p.invariant.most, c.loop-p-test.false) in rw e at (done c.requires c.loop-p.invariant c.loop-p-test.false)

@@ -1,7 +1,7 @@
 -- `corner_numbers::run_end` meets its contract. The invariant: the corners passed are at v. Assumes nothing.
 use mathlib.Core.Path.{◌≡◌}
 use mathlib.Core.List.{List}
-use Prim.Native.Nat.{ℕ, ◌+◌, ◌-◌, ◌≤◌, ◌<◌}
+use Prim.Native.Nat.{ℕ, ◌+◌, ◌≤◌, ◌<◌}
 use lib.ListN.{length, get_or}
 use Rattle.corner_numbers.proofs.run_end.Given as goal
 

@@ -1,5 +1,4 @@
 -- `drop_degenerate::flag_all` meets its contract: the flags of the faces passed are right. Assumes nothing.
-use Prim.Native.Nat.{◌-◌}
 use native.Mathlib.Omega.{arith}
 use Rattle.rules.specs.Float.{is_repeated}
 use Rattle.measure.specs.Measure.{shape_of}
@@ -54,9 +53,6 @@ bounds-work-i c = omega (arith, turn c.requires c.loop-i.invariant c.loop-i-test
 pub overflow_add-repeated : goal.overflow_add-repeated
 overflow_add-repeated c = let at-loop = c.before.before.before.before.before.before.before in
     omega (arith, turn at-loop.requires at-loop.loop-i.invariant c.loop-i-test.true, few_more (is_repeated (shape_of c.shape-form.result)) c.repeats-repeated.ensures)
-
-pub overflow_add-i : goal.overflow_add-i
-overflow_add-i c = omega (arith, turn c.requires c.loop-i.invariant c.loop-i-test.true)
 
 pub loop-i-preserved : goal.loop-i-preserved
 loop-i-preserved c = again c.requires c.loop-i.invariant c.loop-i-test.true c.shape-form.ensures c.leaves.ensures c.repeats-repeated.ensures

@@ -1,5 +1,4 @@
 -- `drop_degenerate::flag_all` meets its contract: the flags of the faces passed are right. Assumes nothing.
-use Prim.Native.Nat.{◌-◌}
 use Rattle.drop_degenerate.proofs.Marking.{Marked}
 use Rattle.drop_degenerate.proofs.flag_all.Given as goal
 

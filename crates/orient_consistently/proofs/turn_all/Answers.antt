@@ -1,5 +1,4 @@
 -- `orient_consistently::turn_all` meets its contract: one face a turn. Assumes nothing.
-use Prim.Native.Nat.{◌-◌}
 use native.Mathlib.Omega.{arith}
 use lib.ListN.{length-set}
 use Rattle.orient_consistently.proofs.Turning.{turn_begin, turn_turn, turn_pair, turn_straight, turn_done}
@@ -53,9 +52,6 @@ offset_bounds-faces-p-then-work-i-eq2-3 c = omega (arith, turn_turn c.requires c
 
 pub bounds-faces-p-then-work-i-eq2-3 : goal.bounds-faces-p-then-work-i-eq2-3
 bounds-faces-p-then-work-i-eq2-3 c = simp length-set (omega (arith, turn_turn c.requires c.loop-i.invariant c.loop-i-test.true))
-
-pub overflow_add-i-in-loop-i : goal.overflow_add-i-in-loop-i
-overflow_add-i-in-loop-i c = omega (arith, turn_turn c.requires c.loop-i.invariant c.loop-i-test.true)
 
 pub loop-i-preserved : goal.loop-i-preserved
 loop-i-preserved c = let p = c.requires in

@@ -1,5 +1,4 @@
 -- `orient_consistently::turn_all` meets its contract: one face a turn. Assumes nothing.
-use Prim.Native.Nat.{◌-◌}
 use Rattle.orient_consistently.proofs.Turning.{TurnInv}
 use Rattle.orient_consistently.proofs.turn_all.Given as goal
 

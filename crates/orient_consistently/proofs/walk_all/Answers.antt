@@ -1,6 +1,4 @@
 -- `orient_consistently::walk_all` meets its contract: one start a turn. Assumes nothing.
-use Prim.Native.Nat.{◌-◌}
-use native.Mathlib.Omega.{arith}
 use Rattle.orient_consistently.proofs.Beginning.{all_begin, all_ask, all_again, all_done}
 use Rattle.orient_consistently.proofs.walk_all.Goals as goal
 

@@ -1,5 +1,4 @@
 -- `orient_consistently::walk_all` meets its contract: one start a turn. Assumes nothing.
-use Prim.Native.Nat.{◌-◌}
 use Rattle.orient_consistently.proofs.Beginning.{AllInv}
 use Rattle.orient_consistently.proofs.walk_all.Given as goal
 

@@ -5,16 +5,10 @@ use mathlib.Core.List.{List}
 use Prim.Native.Nat.{ℕ, ◌+◌, ◌*◌, ◌%◌, ◌≤◌, ◌<◌}
 use borrow.Author.Tests.{lt-ltb, le-ltb}
 use lib.Dec.{T}
-use lib.ListN.{get_or}
 use lib.Ieee.{Float, nan, inf, fin, binary64, is_nan, nan_bits, of_bits, div}
 use lib.Ieee.Bits.{nan_bits_is, nan_bits_above}
 use Rattle.rules.specs.Bytes.{u32_at}
 use Rattle.rules.specs.Ply.{real_at}
-
--- four bytes, the lowest first
-pub four_bytes : (file : List ℕ) (i a b c d : ℕ) → a ≡ get_or file i 0 → b ≡ get_or file (i + 1) 0 → c ≡ get_or file (i + 2) 0 → d ≡ get_or file (i + 3) 0 → a + 256 * b + 65536 * c + 16777216 * d ≡ u32_at file i
-unfolding u32_at
-four_bytes file i a b c d p q r s = rw (p, q, r, s) refl
 
 -- zero by zero is no number
 pub zero_by_zero : div binary64 (of_bits binary64 0) (of_bits binary64 0) ≡ nan

@@ -11,24 +11,12 @@ ghost use Rattle.byte_rows.specs.Put as by;
 
 // ---- read
 
-// A byte as a u32.
-fn wide(x: u8) -> u32
-    ensures value { result ≡ x }
-    ensures upper_bound { result < 256 }
-{
-    x as u32
-}
-
 // The little-endian u32 whose lowest byte is byte i.
 pub fn u32_at(file: &[u8], i: usize) -> u32
     requires { i + 4 ≤ length file.now }
     ensures { result ≡ rule.u32_at file.now i }
 {
-    let a = wide(file[i]);
-    let b = wide(file[i + 1]);
-    let c = wide(file[i + 2]);
-    let d = wide(file[i + 3]);
-    a + 256 * b + 65536 * c + 16777216 * d
+    u32::from_le_bytes([file[i], file[i + 1], file[i + 2], file[i + 3]])
 }
 
 // The float of a bit pattern, also where that is no number's.
@@ -48,7 +36,7 @@ pub fn real_at(file: &[u8], i: usize) -> f64
 {
     let low = u32_at(file, i);
     let high = u32_at(file, i + 4);
-    float(low as u64 + 4294967296 * (high as u64))
+    float(u64::from(low) + 4294967296 * u64::from(high))
 }
 
 // ---- written
@@ -58,10 +46,9 @@ pub fn put_text(out: &mut [u8], at: usize, text: &[u8]) -> usize
     requires { at + length text.now ≤ length out.old }
     ensures { by.Puts out.old at text.now out.new result }
 {
-    for i in 0..text.len() {
-        out[at + i] = text[i];
-    }
-    at + text.len()
+    let end = at + text.len();
+    out[at..end].copy_from_slice(text);
+    end
 }
 
 // Puts the digit of a number below ten into the room, at `at`. Returns where it goes on.
@@ -69,7 +56,7 @@ fn put_digit(out: &mut [u8], at: usize, n: u64) -> usize
     requires { by.DigitAsks out.old at n }
     ensures { by.Puts out.old at ((48 + n) ∷ []) out.new result }
 {
-    out[at] = 48 + n as u8;
+    out[at] = b'0' + n as u8;
     at + 1
 }
 

@@ -1,5 +1,4 @@
 -- `bytes::put_little` meets its contract: the first i bytes are put, and m has the others. Assumes nothing.
-use Prim.Native.Nat.{◌-◌}
 use Rattle.byte_rows.proofs.Little.{Little}
 use Rattle.byte_rows.proofs.put_little.Given as goal
 

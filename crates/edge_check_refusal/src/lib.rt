@@ -6,25 +6,19 @@ ghost use Rattle.rules.specs.Refusal as refusal;
 ghost use Rattle.refuse.specs.Verdicts as by;
 ghost use Rattle.edge_check_refusal.specs.Checks.{check_list};
 
-use refuse::Verdict;
+use refuse::Refusal;
 
 // What the edge check refuses: 1, 2, 5, 6.
-pub fn edge_check_refusal(p: usize, faces: &[u32], work: usize) -> Verdict
+pub fn edge_check_refusal(p: usize, faces: &[u32], work: usize) -> Result<(), Refusal>
     ensures { by.check_of result ≡ refusal.decided (check_list p faces.now work) }
 {
     if faces.len() % 3 != 0 {
-        return Verdict::Refused(1, 1);
+        return Err(Refusal::BadLength(1));
     }
-    let found = refuse::counts(p, faces.len() / 3);
-    let Verdict::Fine = found else {
-        return found;
-    };
-    let found = refuse::corners(p, faces);
-    let Verdict::Fine = found else {
-        return found;
-    };
+    refuse::counts(p, faces.len() / 3)?;
+    refuse::corners(p, faces)?;
     if work < refuse::stated_work(p, faces.len() / 3) {
-        return Verdict::Refused(6, 0);
+        return Err(Refusal::ShortRoom(0));
     }
-    Verdict::Fine
+    Ok(())
 }

@@ -7,10 +7,10 @@ ghost use Rattle.rules.specs.EdgesCall as rule;
 ghost use Rattle.refuse.specs.Verdicts as by;
 ghost use Rattle.edges_refusal.specs.Checks.{edges_list};
 
-use refuse::Verdict;
+use refuse::Refusal;
 
 // The lengths of the rooms lent to the edge call.
-#[derive(Drop)]
+#[derive(Clone, Copy, Debug, PartialEq, Eq)]
 pub struct Rooms {
     pub edges: usize,
     pub lengths: usize,
@@ -19,39 +19,33 @@ pub struct Rooms {
 }
 
 // 6: edges 6F, lengths 3F, face edges 3F, work.
-fn short_room(p: usize, f: usize, rooms: Rooms) -> Verdict
+fn short_room(p: usize, f: usize, rooms: Rooms) -> Result<(), Refusal>
     requires { by.Limits p f }
     ensures { by.check_of result
         ≡ refusal.no6 (rule.edges_rooms p f)
         (rooms.edges ∷ rooms.lengths ∷ rooms.face_edges ∷ rooms.work ∷ []) }
 {
     if rooms.edges < 6 * f {
-        return Verdict::Refused(6, 0);
+        return Err(Refusal::ShortRoom(0));
     }
     if rooms.lengths < 3 * f {
-        return Verdict::Refused(6, 1);
+        return Err(Refusal::ShortRoom(1));
     }
     if rooms.face_edges < 3 * f {
-        return Verdict::Refused(6, 2);
+        return Err(Refusal::ShortRoom(2));
     }
     if rooms.work < refuse::stated_work(p, f) {
-        return Verdict::Refused(6, 3);
+        return Err(Refusal::ShortRoom(3));
     }
-    Verdict::Fine
+    Ok(())
 }
 
 // What the edge call refuses up to 6: 1, 2, 4, 5, 6.
-pub fn edges_refusal(points: &[f64], faces: &[u32], rooms: Rooms) -> Verdict
+pub fn edges_refusal(points: &[f64], faces: &[u32], rooms: Rooms) -> Result<(), Refusal>
     ensures { by.check_of result
         ≡ refusal.decided (edges_list points.now faces.now rooms.edges rooms.lengths rooms.face_edges rooms.work) }
 {
-    let found = refuse::sizes(points.len(), faces.len());
-    let Verdict::Fine = found else {
-        return found;
-    };
-    let found = refuse::contents(points, faces);
-    let Verdict::Fine = found else {
-        return found;
-    };
+    refuse::sizes(points.len(), faces.len())?;
+    refuse::contents(points, faces)?;
     short_room(points.len() / 3, faces.len() / 3, rooms)
 }

@@ -6,20 +6,14 @@ ghost use Rattle.rules.specs.Refusal as refusal;
 ghost use Rattle.refuse.specs.Verdicts as by;
 ghost use Rattle.list_refusal.specs.Checks.{input_list, ReadyTold};
 
-use refuse::Verdict;
+use refuse::Refusal;
 
 // What is refused of the input: 1, 2, 3, 4, 5.
-pub fn input_refusal(points: &[f64], faces: &[u32], s: f64, options: u32) -> Verdict
+pub fn input_refusal(points: &[f64], faces: &[u32], s: f64, options: u32) -> Result<(), Refusal>
     ensures { by.check_of result ≡ refusal.decided (input_list points.now faces.now s options) }
 {
-    let found = refuse::sizes(points.len(), faces.len());
-    let Verdict::Fine = found else {
-        return found;
-    };
-    let found = refuse::settings(s, options);
-    let Verdict::Fine = found else {
-        return found;
-    };
+    refuse::sizes(points.len(), faces.len())?;
+    refuse::settings(s, options)?;
     refuse::contents(points, faces)
 }
 

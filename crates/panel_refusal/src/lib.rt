@@ -7,13 +7,13 @@ ghost use Rattle.rules.specs.PanelCall as rule;
 ghost use Rattle.refuse.specs.Verdicts as by;
 ghost use Rattle.panel_refusal.specs.Checks.{rows_list, panel_list, stated, Sums};
 
-use refuse::Verdict;
+use refuse::Refusal;
 
 // Meshes at most: `PanelCall.most_meshes`.
 pub const MOST_MESHES: usize = 256;
 
 // The lengths of the rooms lent to the call.
-#[derive(Drop)]
+#[derive(Clone, Copy, Debug, PartialEq, Eq)]
 pub struct Rooms {
     pub out_points: usize,
     pub out_faces: usize,
@@ -39,22 +39,27 @@ fn adds_up(counts: &[u32], length: usize) -> bool
 }
 
 // 1 and 2: the rows differ in length, their counts do not add up, there are too many meshes.
-fn rows(point_counts: &[u32], face_counts: &[u32], points: usize, faces: usize) -> Verdict
+fn rows(
+    point_counts: &[u32],
+    face_counts: &[u32],
+    points: usize,
+    faces: usize,
+) -> Result<(), Refusal>
     ensures { by.check_of result ≡ refusal.decided (rows_list point_counts.now face_counts.now points faces) }
 {
     if point_counts.len() != face_counts.len() {
-        return Verdict::Refused(1, 0);
+        return Err(Refusal::BadLength(0));
     }
     if !adds_up(point_counts, points) {
-        return Verdict::Refused(1, 0);
+        return Err(Refusal::BadLength(0));
     }
     if !adds_up(face_counts, faces) {
-        return Verdict::Refused(1, 1);
+        return Err(Refusal::BadLength(1));
     }
     if MOST_MESHES < point_counts.len() {
-        return Verdict::Refused(2, 0);
+        return Err(Refusal::TooLarge(0));
     }
-    Verdict::Fine
+    Ok(())
 }
 
 // The work room of the largest mesh, 0 where there is none.
@@ -73,30 +78,30 @@ pub fn largest(point_counts: &[u32], face_counts: &[u32]) -> usize
 }
 
 // 6: points 3(P+3F), faces 3F, reports, origins F, four entries a mesh, work, for P points and F faces of all m meshes.
-fn short_room(p: usize, f: usize, m: usize, work: usize, rooms: Rooms) -> Verdict
+fn short_room(p: usize, f: usize, m: usize, work: usize, rooms: Rooms) -> Result<(), Refusal>
     requires { Sums p f m }
     ensures { by.check_of result
         ≡ refusal.no6 (stated p f m work) (rooms.out_points ∷ rooms.out_faces ∷ rooms.report ∷ rooms.origins ∷ rooms.meshes ∷ rooms.work ∷ []) }
 {
     if rooms.out_points < 3 * (p + 3 * f) {
-        return Verdict::Refused(6, 0);
+        return Err(Refusal::ShortRoom(0));
     }
     if rooms.out_faces < 3 * f {
-        return Verdict::Refused(6, 1);
+        return Err(Refusal::ShortRoom(1));
     }
     if rooms.report < rules::COUNTS * m {
-        return Verdict::Refused(6, 2);
+        return Err(Refusal::ShortRoom(2));
     }
     if rooms.origins < f {
-        return Verdict::Refused(6, 3);
+        return Err(Refusal::ShortRoom(3));
     }
     if rooms.meshes < 4 * m {
-        return Verdict::Refused(6, 4);
+        return Err(Refusal::ShortRoom(4));
     }
     if rooms.work < work {
-        return Verdict::Refused(6, 5);
+        return Err(Refusal::ShortRoom(5));
     }
-    Verdict::Fine
+    Ok(())
 }
 
 // What the call refuses: 1, 2, 3, 6.
@@ -108,19 +113,13 @@ pub fn panel_refusal(
     s: f64,
     options: u32,
     rooms: Rooms,
-) -> Verdict
+) -> Result<(), Refusal>
     ensures { by.check_of result
         ≡ refusal.decided
         (panel_list (length points.now) (length faces.now) point_counts.now face_counts.now s options rooms.out_points rooms.out_faces rooms.report rooms.origins rooms.meshes rooms.work) }
 {
-    let found = rows(point_counts, face_counts, points.len(), faces.len());
-    let Verdict::Fine = found else {
-        return found;
-    };
-    let found = refuse::settings(s, options);
-    let Verdict::Fine = found else {
-        return found;
-    };
+    rows(point_counts, face_counts, points.len(), faces.len())?;
+    refuse::settings(s, options)?;
     short_room(
         points.len() / 3,
         faces.len() / 3,

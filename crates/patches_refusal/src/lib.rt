@@ -7,10 +7,10 @@ ghost use Rattle.rules.specs.PatchesCall as rule;
 ghost use Rattle.refuse.specs.Verdicts as by;
 ghost use Rattle.patches_refusal.specs.Checks.{patches_list};
 
-use refuse::Verdict;
+use refuse::Refusal;
 
 // The lengths of the rooms lent to the patch call.
-#[derive(Drop)]
+#[derive(Clone, Copy, Debug, PartialEq, Eq)]
 pub struct Rooms {
     pub face_counts: usize,
     pub numbers: usize,
@@ -19,23 +19,23 @@ pub struct Rooms {
 }
 
 // 6: face counts C, numbers 7C, flags C, work 4C.
-fn short_room(count: usize, rooms: Rooms) -> Verdict
+fn short_room(count: usize, rooms: Rooms) -> Result<(), Refusal>
     requires { count ≤ refusal.most_patches }
     ensures { by.check_of result ≡ refusal.no6 (rule.patches_rooms count) (rooms.face_counts ∷ rooms.numbers ∷ rooms.flags ∷ rooms.work ∷ []) }
 {
     if rooms.face_counts < count {
-        return Verdict::Refused(6, 0);
+        return Err(Refusal::ShortRoom(0));
     }
     if rooms.numbers < 7 * count {
-        return Verdict::Refused(6, 1);
+        return Err(Refusal::ShortRoom(1));
     }
     if rooms.flags < count {
-        return Verdict::Refused(6, 2);
+        return Err(Refusal::ShortRoom(2));
     }
     if rooms.work < 4 * count {
-        return Verdict::Refused(6, 3);
+        return Err(Refusal::ShortRoom(3));
     }
-    Verdict::Fine
+    Ok(())
 }
 
 // What the patch call refuses: 1, 2, 4, 5, 9, 10, 6.
@@ -45,25 +45,16 @@ pub fn patches_refusal(
     labels: &[u32],
     count: usize,
     rooms: Rooms,
-) -> Verdict
+) -> Result<(), Refusal>
     ensures { by.check_of result
         ≡ refusal.decided
         (patches_list points.now faces.now labels.now count rooms.face_counts rooms.numbers rooms.flags rooms.work) }
 {
-    let found = refuse::sizes(points.len(), faces.len());
-    let Verdict::Fine = found else {
-        return found;
-    };
+    refuse::sizes(points.len(), faces.len())?;
     if rules::MOST_PATCHES < count {
-        return Verdict::Refused(2, 2);
+        return Err(Refusal::TooLarge(2));
     }
-    let found = refuse::contents(points, faces);
-    let Verdict::Fine = found else {
-        return found;
-    };
-    let found = refuse::labelling(count, labels, faces.len() / 3);
-    let Verdict::Fine = found else {
-        return found;
-    };
+    refuse::contents(points, faces)?;
+    refuse::labelling(count, labels, faces.len() / 3)?;
     short_room(count, rooms)
 }

@@ -7,10 +7,10 @@ ghost use Rattle.rules.specs.RepairCall as rule;
 ghost use Rattle.refuse.specs.Verdicts as by;
 ghost use Rattle.repair_refusal.specs.Checks.{repair_list};
 
-use refuse::Verdict;
+use refuse::Refusal;
 
 // The lengths of the rooms lent to a repair.
-#[derive(Drop)]
+#[derive(Clone, Copy, Debug, PartialEq, Eq)]
 pub struct Rooms {
     pub out_points: usize,
     pub out_faces: usize,
@@ -20,45 +20,42 @@ pub struct Rooms {
 }
 
 // 6: points 3(P+3F), faces 3F, the report, origins F, work.
-fn short_room(p: usize, f: usize, rooms: Rooms) -> Verdict
+fn short_room(p: usize, f: usize, rooms: Rooms) -> Result<(), Refusal>
     requires { by.Limits p f }
     ensures { by.check_of result ≡ refusal.no6 (rule.repair_rooms p f) (rooms.out_points ∷ rooms.out_faces ∷ rooms.report ∷ rooms.origins ∷ rooms.work ∷ []) }
 {
     if rooms.out_points < 3 * (p + 3 * f) {
-        return Verdict::Refused(6, 0);
+        return Err(Refusal::ShortRoom(0));
     }
     if rooms.out_faces < 3 * f {
-        return Verdict::Refused(6, 1);
+        return Err(Refusal::ShortRoom(1));
     }
     if rooms.report < rules::COUNTS {
-        return Verdict::Refused(6, 2);
+        return Err(Refusal::ShortRoom(2));
     }
     if rooms.origins < f {
-        return Verdict::Refused(6, 3);
+        return Err(Refusal::ShortRoom(3));
     }
     if rooms.work < refuse::stated_work(p, f) {
-        return Verdict::Refused(6, 4);
+        return Err(Refusal::ShortRoom(4));
     }
-    Verdict::Fine
+    Ok(())
 }
 
 // What a repair refuses: 1, 2, 3, 4, 5, 6.
-pub fn repair_refusal(points: &[f64], faces: &[u32], s: f64, options: u32, rooms: Rooms) -> Verdict
+pub fn repair_refusal(
+    points: &[f64],
+    faces: &[u32],
+    s: f64,
+    options: u32,
+    rooms: Rooms,
+) -> Result<(), Refusal>
     ensures { by.check_of result
         ≡ refusal.decided
         (repair_list points.now faces.now s options rooms.out_points rooms.out_faces rooms.report rooms.origins rooms.work) }
 {
-    let found = refuse::sizes(points.len(), faces.len());
-    let Verdict::Fine = found else {
-        return found;
-    };
-    let found = refuse::settings(s, options);
-    let Verdict::Fine = found else {
-        return found;
-    };
-    let found = refuse::contents(points, faces);
-    let Verdict::Fine = found else {
-        return found;
-    };
+    refuse::sizes(points.len(), faces.len())?;
+    refuse::settings(s, options)?;
+    refuse::contents(points, faces)?;
     short_room(points.len() / 3, faces.len() / 3, rooms)
 }

@@ -8,10 +8,10 @@ ghost use Rattle.rules.specs.WritePlyCall as rule;
 ghost use Rattle.refuse.specs.Verdicts as by;
 ghost use Rattle.write_ply_refusal.specs.Checks.{Digits, write_ply_list};
 
-use refuse::Verdict;
+use refuse::Refusal;
 
 // The lengths of the rooms lent to the call.
-#[derive(Drop)]
+#[derive(Clone, Copy, Debug, PartialEq, Eq)]
 pub struct Rooms {
     pub file: usize,
     pub work: usize,
@@ -40,30 +40,24 @@ fn file_length(p: usize, f: usize) -> usize
 }
 
 // 6: the file, as long as what is written; work.
-fn short_room(p: usize, f: usize, rooms: Rooms) -> Verdict
+fn short_room(p: usize, f: usize, rooms: Rooms) -> Result<(), Refusal>
     requires { by.Limits p f }
     ensures { by.check_of result ≡ refusal.no6 (rule.write_ply_rooms p f) (rooms.file ∷ rooms.work ∷ []) }
 {
     if rooms.file < file_length(p, f) {
-        return Verdict::Refused(6, 0);
+        return Err(Refusal::ShortRoom(0));
     }
     if rooms.work < refuse::stated_work(p, f) {
-        return Verdict::Refused(6, 1);
+        return Err(Refusal::ShortRoom(1));
     }
-    Verdict::Fine
+    Ok(())
 }
 
 // What writing refuses: 1, 2, 4, 5, 6.
-pub fn write_ply_refusal(points: &[f64], faces: &[u32], rooms: Rooms) -> Verdict
+pub fn write_ply_refusal(points: &[f64], faces: &[u32], rooms: Rooms) -> Result<(), Refusal>
     ensures { by.check_of result ≡ refusal.decided (write_ply_list points.now faces.now rooms.file rooms.work) }
 {
-    let found = refuse::sizes(points.len(), faces.len());
-    let Verdict::Fine = found else {
-        return found;
-    };
-    let found = refuse::contents(points, faces);
-    let Verdict::Fine = found else {
-        return found;
-    };
+    refuse::sizes(points.len(), faces.len())?;
+    refuse::contents(points, faces)?;
     short_room(points.len() / 3, faces.len() / 3, rooms)
 }

@@ -1,14 +1,15 @@
 -- `list_refusal::input_refusal` meets its contract: each group of checks found nothing, or decides. Assumes nothing.
+use Rattle.std.proofs.lemmas.Result.{err_from_is_err_and}
 use Rattle.refuse.proofs.Groups.{hand_on, go_on}
 use Rattle.list_refusal.proofs.input_refusal.Goals as goal
 
-pub returns-in_default : goal.returns-in_default
-returns-in_default c = hand_on _ _ _ _ _ c.sizes-found.ensures c.in_default.is
+pub returns-in_err-sizes : goal.returns-in_err-sizes
+returns-in_err-sizes c = let p = err_from_is_err_and c.from_residual.result c.from_residual.ensures.1 in
+    rw (p.1, p.2) (hand_on _ _ _ _ c.in_err-sizes.ensures)
 
-pub returns-in_default-found : goal.returns-in_default-found
-returns-in_default-found c = go_on _ _ _ _ c.sizes-found.ensures c.in-Fine.is
-    (hand_on _ _ _ _ _ c.settings-found.ensures c.in_default-found.is)
+pub returns-in_err-settings : goal.returns-in_err-settings
+returns-in_err-settings c = let p = err_from_is_err_and c.from_residual-in_err-settings.result c.from_residual-in_err-settings.ensures.1 in
+    rw (p.1, p.2) (go_on _ _ _ c.in_ok-sizes.ensures (hand_on _ _ _ _ c.in_err-settings.ensures))
 
 pub returns : goal.returns
-returns c = go_on _ _ _ _ c.sizes-found.ensures c.in-Fine.is
-    (go_on _ _ _ _ c.settings-found.ensures c.in-Fine-found.is c.contents.ensures)
+returns c = go_on _ _ _ c.in_ok-sizes.ensures (go_on _ _ _ c.in_ok-settings.ensures c.contents.ensures)

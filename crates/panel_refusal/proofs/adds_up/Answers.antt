@@ -1,5 +1,4 @@
 -- `panel_refusal::adds_up` meets its contract: after k counts the others are to add up to what is left. Assumes nothing.
-use Prim.Native.Nat.{◌-◌}
 use native.Mathlib.Omega.{arith}
 use Rattle.panel_refusal.proofs.Adding.{begin, too_much, again, done}
 use Rattle.panel_refusal.proofs.adds_up.Goals as goal

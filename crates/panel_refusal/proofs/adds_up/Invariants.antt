@@ -1,6 +1,4 @@
 -- `panel_refusal::adds_up` meets its contract: after k counts the others are to add up to what is left. Assumes nothing.
-use Prim.Native.Nat.{◌-◌}
-use lib.ListN.{length}
 use Rattle.panel_refusal.proofs.Adding.{Left}
 use Rattle.panel_refusal.proofs.adds_up.Given as goal
 

@@ -1,5 +1,4 @@
 -- `panel_refusal::largest` meets its contract: after k meshes the largest of them, and of the others, is that of all. Assumes nothing.
-use Prim.Native.Nat.{◌-◌}
 use native.Mathlib.Omega.{arith}
 use Rattle.panel_refusal.proofs.Widest.{begin, larger, not_larger, done}
 use Rattle.panel_refusal.proofs.largest.Goals as goal

@@ -1,6 +1,4 @@
 -- `panel_refusal::largest` meets its contract: after k meshes the largest of them, and of the others, is that of all. Assumes nothing.
-use Prim.Native.Nat.{◌-◌}
-use lib.ListN.{length}
 use Rattle.panel_refusal.proofs.Widest.{Widest}
 use Rattle.panel_refusal.proofs.largest.Given as goal
 

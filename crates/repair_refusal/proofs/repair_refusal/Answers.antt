@@ -1,24 +1,24 @@
 -- `repair_refusal::repair_refusal` meets its contract: each group of checks found nothing, or decides. Assumes nothing.
-use Rattle.refuse.proofs.Groups.{found_none, hand_on, go_on, last}
+use mathlib.Core.Path.{sym}
+use Rattle.std.proofs.lemmas.Result.{err_from_is_err_and}
+use Rattle.refuse.proofs.Groups.{hand_on, go_on, last}
 use Rattle.refuse.proofs.Singles.{sizes_fine}
 use Rattle.repair_refusal.proofs.repair_refusal.Goals as goal
 
-pub returns-in_default : goal.returns-in_default
-returns-in_default c = hand_on _ _ _ _ _ c.sizes-found.ensures c.in_default.is
+pub returns-in_err-sizes : goal.returns-in_err-sizes
+returns-in_err-sizes c = let p = err_from_is_err_and c.from_residual.result c.from_residual.ensures.1 in
+    rw (p.1, p.2) (hand_on _ _ _ _ c.in_err-sizes.ensures)
 
-pub returns-in_default-found : goal.returns-in_default-found
-returns-in_default-found c = go_on _ _ _ _ c.sizes-found.ensures c.in-Fine.is
-    (hand_on _ _ _ _ _ c.settings-found.ensures c.in_default-found.is)
+pub returns-in_err-settings : goal.returns-in_err-settings
+returns-in_err-settings c = let p = err_from_is_err_and c.from_residual-in_err-settings.result c.from_residual-in_err-settings.ensures.1 in
+    rw (p.1, p.2) (go_on _ _ _ c.in_ok-sizes.ensures (hand_on _ _ _ _ c.in_err-settings.ensures))
 
-pub returns-in_default-found-2 : goal.returns-in_default-found-2
-returns-in_default-found-2 c = go_on _ _ _ _ c.sizes-found.ensures c.in-Fine.is
-    (go_on _ _ _ _ c.settings-found.ensures c.in-Fine-found.is
-    (hand_on _ _ _ _ _ c.contents-found.ensures c.in_default-found-2.is))
+pub returns-in_err-contents : goal.returns-in_err-contents
+returns-in_err-contents c = let p = err_from_is_err_and c.from_residual-in_err-contents.result c.from_residual-in_err-contents.ensures.1 in
+    rw (p.1, p.2) (go_on _ _ _ c.in_ok-sizes.ensures (go_on _ _ _ c.in_ok-settings.ensures (hand_on _ _ _ _ c.in_err-contents.ensures)))
 
 pub short_room-requires : goal.short_room-requires
-short_room-requires c = sizes_fine _ _ (found_none _ _ c.sizes-found.ensures c.in-Fine.is)
+short_room-requires c = sizes_fine _ _ (sym c.in_ok-sizes.ensures)
 
 pub returns : goal.returns
-returns c = go_on _ _ _ _ c.sizes-found.ensures c.in-Fine.is
-    (go_on _ _ _ _ c.settings-found.ensures c.in-Fine-found.is
-    (go_on _ _ _ _ c.contents-found.ensures c.in-Fine-found-2.is (last _ _ c.short_room.ensures)))
+returns c = go_on _ _ _ c.in_ok-sizes.ensures (go_on _ _ _ c.in_ok-settings.ensures (go_on _ _ _ c.in_ok-contents.ensures (last _ _ c.short_room.ensures)))

@@ -1,5 +1,7 @@
 -- `searched_fans::next_waiting` meets its contract: none before waits. Assumes nothing.
 use Prim.Native.Nat.{◌-◌}
+use mathlib.Core.Path.{◌≡◌}
+use lib.ListN.{length}
 use native.Mathlib.Omega.{arith}
 use Rattle.searched_fans.proofs.Crossing.{none_more, found, none_left}
 use Rattle.searched_fans.proofs.next_waiting.Reads as reads
@@ -28,4 +30,6 @@ loop-g-preserved c = none_more c.loop-g.invariant c.loop-g-test.true c.if-words-
 
 -- src/lib.rt:96:1
 pub returns : goal.returns
-returns c = none_left c.loop-g.invariant c.loop-g-test.false
+returns c =
+    let e : c.loop-g.g ≡ length c.args.words.now = omega arith in
+    rw e at (none_left c.loop-g.invariant c.loop-g-test.false)

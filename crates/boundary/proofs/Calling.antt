@@ -1,6 +1,6 @@
 -- What the edge call needs of the verdict by the table: that its rows fit, that a fault in a room of zeros leaves no trace, that the verdict by the faces
 -- is this one, and that the boundary is then simple. Assumes nothing.
-use mathlib.Core.Path.{◌≡◌, refl, sym, ap, ◌∙◌, subst}
+use mathlib.Core.Path.{◌≡◌, refl, sym, ap, ◌∙◌}
 use mathlib.Core.Bool.{true, false}
 use mathlib.Core.List.{List, [], ◌∷◌}
 use Prim.Native.Nat.{ℕ, ◌+◌, ◌*◌, ◌/◌, ◌≤◌, ◌<◌}
@@ -11,7 +11,7 @@ use Rattle.rows.specs.Region.{Only, Filled, Apart.before}
 use Rattle.rows.proofs.Regions.{only_both, only_more}
 use Rattle.rules.specs.Lists.{all}
 use Rattle.rules.specs.Mesh.{faces_of, face}
-use Rattle.rules.specs.Refusal.{Check, ok, no, decided}
+use Rattle.rules.specs.Refusal.{Check, ok, decided}
 use Rattle.rules.specs.Edges.{boundary, no7, no8}
 use Rattle.rules.specs.Rooms.{work_room}
 use Rattle.rule_laws.proofs.Rising.{all_from}
@@ -21,8 +21,8 @@ use Rattle.rule_laws.proofs.Once.{CornersBelow, Inside}
 use Rattle.rule_laws.proofs.Next.{Simple, no8_simple}
 use Rattle.refuse.specs.Accepted.{Faces}
 use Rattle.refuse.specs.Verdicts.{check_of}
-use Rattle.refuse.specs.declared.Verdict.{Verdict}
-use Rattle.refuse.specs.declared.Verdict.TheVariants.{Fine, Refused}
+use Rattle.std.specs.Prelude.{Result, Ok, Err}
+use Rattle.refuse.specs.declared.Refusal.{Refusal}
 use Rattle.table.specs.Table.{TableAsks, TableGives}
 use Rattle.boundary.specs.Rows.{BoundaryAsks, BoundaryGives}
 use Rattle.wiping.proofs.Zeros.{restored}
@@ -30,16 +30,12 @@ use Rattle.wiping.proofs.Zeros.{restored}
 -- ---- verdicts
 
 -- a verdict that finds nothing is fine
-pub is_fine : (v : Verdict) → check_of v ≡ ok → v ≡ Fine
-is_fine Fine e = refl
-is_fine (Refused n p) e = absurd (subst found e tt)
-  where
-    found : Check → Type 0
-    found ok = ⊥
-    found (no n p) = Unit
+pub is_fine : (v : Result Unit Refusal) → check_of v ≡ ok → v ≡ Ok tt
+is_fine (Ok tt) e = refl
+is_fine (Err r) e = absurd (cc)
 
 -- where one verdict is fine, another on the same checks is
-pub same_fine : (v r : Verdict) (c : Check) → v ≡ Fine → check_of v ≡ c → check_of r ≡ c → r ≡ Fine
+pub same_fine : (v r : Result Unit Refusal) (c : Check) → v ≡ Ok tt → check_of v ≡ c → check_of r ≡ c → r ≡ Ok tt
 same_fine v r c t e f = is_fine r (f ∙ sym e ∙ ap check_of t)
 
 -- ---- accepted faces
@@ -55,7 +51,7 @@ module _ {P : ℕ} {xs : List ℕ} (f : Faces P xs) where
       rw (face_in xs i h) (f.below (3 * i) (omega arith), f.below (3 * i + 1) (omega arith), f.below (3 * i + 2) (omega arith)))
 
   -- where the verdict is fine, their boundary is simple
-  pub fine_simple : (r : Verdict) → r ≡ Fine → check_of r ≡ decided (no7 P (faces_of xs) ∷ no8 P (faces_of xs) ∷ []) → Simple (boundary (faces_of xs))
+  pub fine_simple : (r : Result Unit Refusal) → r ≡ Ok tt → check_of r ≡ decided (no7 P (faces_of xs) ∷ no8 P (faces_of xs) ∷ []) → Simple (boundary (faces_of xs))
   fine_simple r t e =
       no8_simple P (faces_of xs) inside (decided_all (no7 P (faces_of xs) ∷ no8 P (faces_of xs) ∷ []) (sym e ∙ ap check_of t)).1.0
 
@@ -91,7 +87,7 @@ module _ {P : ℕ} {xs w : List ℕ} (f : Faces P xs) (room : work_room P (lengt
           apart = before (omega arith);
         }
 
-    module _ {w₂ : List ℕ} {r : Verdict} (b : BoundaryGives w₁ xs P 0 m (5 * length xs + 1 + P) w₂ r) where
+    module _ {w₂ : List ℕ} {r : Result Unit Refusal} (b : BoundaryGives w₁ xs P 0 m (5 * length xs + 1 + P) w₂ r) where
       -- they write nothing else
       pub written : (n : ℕ) → taken P xs ≤ n → Only 0 n w w₂
       written n h = only_both (only_more (omega arith) (omega arith) g.only) (only_more (omega arith) (omega arith) b.only)

@@ -16,7 +16,7 @@ use Rattle.rules.specs.Edges.{boundary, begins, ends, no8}
 use Rattle.rule_laws.proofs.Lists.{length_below}
 use Rattle.rule_laws.proofs.Rising.{get_or_below}
 use Rattle.rule_laws.proofs.Firsts.{none_at_fault, at_fault}
-use Rattle.boundary.specs.Rows.{FirstOf, uneven, onward, Counted}
+use Rattle.boundary.specs.Rows.{NoneOf, FirstAt, uneven, onward, Counted}
 
 -- where no fault is found, at most one begins
 one_begins : (b e : ℕ) → not (eqb b e && leb b 1) ≡ false → b ≤ 1
@@ -37,21 +37,23 @@ module _ (xs : List ℕ) {w : List ℕ} {P row : ℕ} (c : Counted P row (bounda
   unfolding begins ends
   fault_is v h = rw (get_or_below P v h, c.begins.each v h, c.ends.each v h)
 
-  module _ {r : ℕ} (f : FirstOf (uneven w row (row + P)) P r) where
+  -- the first uneven vertex is 8's place
+  pub eight_found : {r : ℕ} → FirstAt (uneven w row (row + P)) P r → no8 P (faces_of xs) ≡ rule.no 8 r
+  unfolding no8
+  eight_found {r} f =
+      let h = f.within in
+      at_fault fault 0 8 (below P) r (omega (arith, length_below P)) (λ j l. fault_is j (omega arith) ∙ f.before.none j l) (fault_is r h ∙ f.found)
+
+  module _ (f : NoneOf (uneven w row (row + P)) P) where
     -- where no vertex is uneven, 8 is not given
-    pub eight_none : P ≤ r → no8 P (faces_of xs) ≡ ok
+    pub eight_none : no8 P (faces_of xs) ≡ ok
     unfolding no8
-    eight_none h =
+    eight_none =
         none_at_fault fault 0 8 (below P) (λ j l. let q : j < P = omega (arith, length_below P) in fault_is j q ∙ f.none j (omega arith))
 
-    -- the first uneven one is 8's place
-    pub eight_found : r < P → no8 P (faces_of xs) ≡ rule.no 8 r
-    unfolding no8
-    eight_found h = at_fault fault 0 8 (below P) r (omega (arith, length_below P)) (λ j l. fault_is j (omega arith) ∙ f.none j l) (fault_is r h ∙ f.found h)
-
-    -- where there is none, the third row has where the boundary goes on from each vertex
-    pub next_row : P ≤ r → Holds (row + 2 * P) P (onward P (boundary (faces_of xs))) w
-    next_row h =
+    -- and the third row has where the boundary goes on from each vertex
+    pub next_row : Holds (row + 2 * P) P (onward P (boundary (faces_of xs))) w
+    next_row =
         record {
           each = λ v l.
               c.next v l

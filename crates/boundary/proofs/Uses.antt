@@ -21,7 +21,7 @@ use Rattle.table.specs.Table.{Tabled, run_of}
 use Rattle.table.proofs.Ids.{edges_keys}
 use Rattle.table.proofs.Places.{none, placed, run_in, run_number, key_at_is, start_least, last_start}
 use Rattle.table.proofs.Theorems.{beginning, entry, runs_fit, along_row, edge_count, users_row}
-use Rattle.boundary.specs.Rows.{FirstOf, long}
+use Rattle.boundary.specs.Rows.{NoneOf, FirstAt, long}
 
 -- more than two lie between a and b
 more_than_two : (k a b c : ℕ) → k ≡ c - a → c ≡ b → ltb 2 k ≡ ltb (a + 2) b
@@ -55,18 +55,19 @@ module _ {w xs : List ℕ} {P at m : ℕ} (t : Tabled w xs P false at m) where
       more_than_two (length (users (faces_of xs) (get_or (edges P (faces_of xs)) r none))) (beginning t r) (get_or w (at + 4 * length xs + r + 1) 0) (beginning t (r + 1)) (run_length r h) (after_is r)
 
   -- where no run is long, 7 is not given
-  pub seven_none : {r : ℕ} → FirstOf (long w (at + 4 * length xs)) m r → m ≤ r → no7 P (faces_of xs) ≡ ok
+  pub seven_none : NoneOf (long w (at + 4 * length xs)) m → no7 P (faces_of xs) ≡ ok
   unfolding no7
-  seven_none v h =
+  seven_none v =
       none_at_fault (λ e. ltb 2 (length (users (faces_of xs) e))) none 7 (edges P (faces_of xs))
       (λ j l. let q : j < m = omega (arith, edge_count t) in long_is j q ∙ v.none j (omega arith))
 
   -- the first long run is 7's place
-  pub seven_found : {r : ℕ} → FirstOf (long w (at + 4 * length xs)) m r → r < m → no7 P (faces_of xs) ≡ rule.no 7 r
+  pub seven_found : {r : ℕ} → FirstAt (long w (at + 4 * length xs)) m r → no7 P (faces_of xs) ≡ rule.no 7 r
   unfolding no7
-  seven_found {r} v h =
+  seven_found {r} v =
+      let h = v.within in
       at_fault (λ e. ltb 2 (length (users (faces_of xs) e))) none 7 (edges P (faces_of xs)) r (omega (arith, edge_count t))
-      (λ j l. long_is j (omega arith) ∙ v.none j l) (long_is r h ∙ v.found h)
+      (λ j l. long_is j (omega arith) ∙ v.before.none j l) (long_is r h ∙ v.found)
 
   -- ---- an entry
 

@@ -1,5 +1,5 @@
 -- The words of this crate's contracts, over a work room w, a flat list of faces xs, P points and the rows from `row` on. Definitions only.
-use Rattle.std.specs.Prelude.{◌≡◌, Bool, true, false, not, ◌&&◌, List, [], ◌∷◌, ◌++◌, map, ℕ, ◌+◌, ◌*◌, ◌^◌, ◌≤◌, ◌<◌, length, get_or, take, eqb, leb, ltb}
+use Rattle.std.specs.Prelude.{◌≡◌, Option, Some, None, Result, Ok, Bool, true, false, not, ◌&&◌, List, [], ◌∷◌, ◌++◌, map, ℕ, ◌+◌, ◌*◌, ◌^◌, ◌≤◌, ◌<◌, length, get_or, take, eqb, leb, ltb}
 use Rattle.rows.specs.Region.{Apart, Only, Holds}
 use Rattle.rules.specs.Lists.{filter, count, each}
 use Rattle.rules.specs.Mesh.{Face, faces_of}
@@ -7,15 +7,23 @@ use Rattle.rules.specs.Steps.{Step, step, edge, same, users, edges}
 use Rattle.rules.specs.Refusal.{decided}
 use Rattle.rules.specs.Edges.{no7, no8, boundary}
 use Rattle.refuse.specs.Verdicts.{check_of}
-use Rattle.refuse.specs.declared.Verdict.{Verdict}
-use Rattle.refuse.specs.declared.Verdict.TheVariants.{Fine}
+use Rattle.refuse.specs.declared.Refusal.{Refusal}
 use Rattle.table.specs.Table.{Tabled}
 
--- i is the first of n places where the test is true, or n
-pub record FirstOf (at : ℕ → Bool) (n i : ℕ) : Type 0 where
-  pub at_most : i ≤ n
-  pub none : (j : ℕ) → j < i → at j ≡ false
-  pub found : i < n → at i ≡ true
+-- the test is true at none of the first n places
+pub record NoneOf (at : ℕ → Bool) (n : ℕ) : Type 0 where
+  pub none : (j : ℕ) → j < n → at j ≡ false
+
+-- i is the first of n places where it is true
+pub record FirstAt (at : ℕ → Bool) (n i : ℕ) : Type 0 where
+  pub within : i < n
+  pub before : NoneOf at i
+  pub found : at i ≡ true
+
+-- the first of n places where it is true, if there is one
+abbrev pub FirstOf : (ℕ → Bool) → ℕ → Option ℕ → Type 0
+FirstOf at n (Some i) = FirstAt at n i
+FirstOf at n None = NoneOf at n
 
 -- run r has more than two entries, by where the runs begin
 abbrev pub long : List ℕ → ℕ → ℕ → Bool
@@ -76,7 +84,7 @@ pub record CrowdAsks (w xs : List ℕ) (at m : ℕ) : Type 0 where
   pub tabled : Tabled w xs P false at m
 
 -- the verdict is the rules' of 7
-abbrev pub CrowdGives : {w xs : List ℕ} {at m : ℕ} → CrowdAsks w xs at m → Verdict → Type 0
+abbrev pub CrowdGives : {w xs : List ℕ} {at m : ℕ} → CrowdAsks w xs at m → Result Unit Refusal → Type 0
 CrowdGives {w} {xs} q r = check_of r ≡ decided (no7 q.P (faces_of xs) ∷ [])
 
 -- a table of the undirected edges with m runs, and room for the rows apart from it
@@ -86,9 +94,9 @@ pub record BoundaryAsks (w xs : List ℕ) (P at m row : ℕ) : Type 0 where
   pub fit : row + 3 * P ≤ length w
   pub apart : Apart at (5 * length xs + 1) row (3 * P)
 
--- only the rows are written, the table stands; the verdict is the rules' of 7 and 8; where it is fine, the third row has where the boundary goes on
-pub record BoundaryGives (w xs : List ℕ) (P at m row : ℕ) (w' : List ℕ) (r : Verdict) : Type 0 where
+-- only the rows are written, the table stands; the verdict is the rules' of 7 and 8; where it is Ok, the third row has where the boundary goes on
+pub record BoundaryGives (w xs : List ℕ) (P at m row : ℕ) (w' : List ℕ) (r : Result Unit Refusal) : Type 0 where
   pub only : Only row (3 * P) w w'
   pub tabled : Tabled w' xs P false at m
   pub says : check_of r ≡ decided (no7 P (faces_of xs) ∷ no8 P (faces_of xs) ∷ [])
-  pub next : r ≡ Fine → Holds (row + 2 * P) P (onward P (boundary (faces_of xs))) w'
+  pub next : r ≡ Ok tt → Holds (row + 2 * P) P (onward P (boundary (faces_of xs))) w'

@@ -10,10 +10,10 @@
 ghost use Rattle.std.specs.Prelude.{◌≡◌, ◌+◌, ◌≤◌, ◌<◌, length};
 ghost use Rattle.boundary.specs.Rows.{FirstOf, long, uneven, AddAsks, AddGives, TraceAsks, TraceGives, CrowdAsks, CrowdGives, BoundaryAsks, BoundaryGives};
 
-use refuse::Verdict;
+use refuse::Refusal;
 
-// The first of the m runs that has more than two entries, or m: the runs begin where the row `starts` says, which has one entry more.
-fn crowded(work: &[u32], starts: usize, m: usize) -> usize
+// The first of the m runs that has more than two entries, if there is one: the runs begin where the row `starts` says, which has one entry more.
+fn crowded(work: &[u32], starts: usize, m: usize) -> Option<usize>
     requires { starts + m + 1 ≤ length work.now }
     ensures { FirstOf (long work.now starts) m result }
 {
@@ -21,10 +21,10 @@ fn crowded(work: &[u32], starts: usize, m: usize) -> usize
         let from = work[starts + i] as usize;
         let to = work[starts + i + 1] as usize;
         if from + 2 < to {
-            return i;
+            return Some(i);
         }
     }
-    m
+    None
 }
 
 // Counts the boundary edge from v to u at both ends, and notes where it ends.
@@ -55,33 +55,29 @@ fn trace(work: &mut [u32], faces: &[u32], count: usize, at: usize, m: usize, row
     }
 }
 
-// The lowest vertex that does not begin as many boundary edges as it ends, or more than one; or P.
-fn uneven(work: &[u32], count: usize, row: usize) -> usize
+// The lowest vertex that does not begin as many boundary edges as it ends, or begins more than one, if there is one.
+fn uneven(work: &[u32], count: usize, row: usize) -> Option<usize>
     requires { row + count + count ≤ length work.now }
     ensures { FirstOf (uneven work.now row (row + count)) count result }
 {
     for i in 0..count {
         let begins = work[row + i];
-        if begins != work[row + count + i] {
-            return i;
-        }
-        if 1 < begins {
-            return i;
+        if begins != work[row + count + i] || 1 < begins {
+            return Some(i);
         }
     }
-    count
+    None
 }
 
 // 7 or nothing, from the table at `at` with m runs: 7 at the position of the first edge that occurs more than twice.
-pub fn crowd(work: &[u32], faces: &[u32], at: usize, m: usize) -> Verdict
+pub fn crowd(work: &[u32], faces: &[u32], at: usize, m: usize) -> Result<(), Refusal>
     requires { CrowdAsks work.now faces.now at m }
     ensures { (q : CrowdAsks work.now faces.now at m) → CrowdGives q result }
 {
-    let r = crowded(work, at + 4 * faces.len(), m);
-    if r < m {
-        return Verdict::Refused(7, r);
+    match crowded(work, at + 4 * faces.len(), m) {
+        Some(r) => Err(Refusal::CrowdedEdge(r)),
+        None => Ok(()),
     }
-    Verdict::Fine
 }
 
 // 7, else 8, else nothing, from the table at `at` with m runs: 7 at the position of the first edge that occurs more than twice, 8 at the lowest
@@ -93,20 +89,16 @@ pub fn boundary(
     at: usize,
     m: usize,
     row: usize,
-) -> Verdict
+) -> Result<(), Refusal>
     requires { BoundaryAsks work.old faces.now count at m row }
     ensures { BoundaryGives work.old faces.now count at m row work.new result }
 {
-    let found = crowd(work, faces, at, m);
-    let Verdict::Fine = found else {
-        return found;
-    };
+    crowd(work, faces, at, m)?;
     rows::clear(work, row, 2 * count);
     rows::fill(work, row + 2 * count, count, count as u32);
     trace(work, faces, count, at, m, row);
-    let v = uneven(work, count, row);
-    if v < count {
-        return Verdict::Refused(8, v);
+    match uneven(work, count, row) {
+        Some(v) => Err(Refusal::BadBoundary(v)),
+        None => Ok(()),
     }
-    Verdict::Fine
 }

@@ -1,27 +1,20 @@
 -- `boundary::boundary` meets its contract: 7, then the rows are made, and 8 by the rows. Assumes nothing.
+use Rattle.std.proofs.lemmas.Result.{err_from_is_err_and}
 use Rattle.boundary.proofs.Ending.{crowd-asks, refused_seven, trace_asks, refused_eight, fine}
 use Rattle.boundary.proofs.boundary.Goals as goal
 
-pub crowd-found-requires : goal.crowd-found-requires
-crowd-found-requires c = crowd-asks c.requires
+pub crowd-requires : goal.crowd-requires
+crowd-requires c = crowd-asks c.requires
 
-pub returns-in_default : goal.returns-in_default
-returns-in_default c = refused_seven c.requires c.crowd-found.ensures _ _ c.in_default.is
+pub returns-in_err-crowd : goal.returns-in_err-crowd
+returns-in_err-crowd c = let p = err_from_is_err_and c.from_residual.result c.from_residual.ensures.1 in
+    rw (p.1, p.2) (refused_seven c.requires _ c.in_err-crowd.ensures)
 
 pub trace-requires : goal.trace-requires
-trace-requires c = let test = c.in-Fine.is in
-    let cleared = c.clear.ensures in
-    let filled = c.fill.ensures in
-    trace_asks c.requires c.crowd-found.ensures test cleared.only cleared.filled filled.only filled.filled
+trace-requires c = trace_asks c.requires c.in_ok-crowd.ensures c.clear.ensures.only c.clear.ensures.filled c.fill.ensures.only c.fill.ensures.filled
 
-pub returns-then-v-count : goal.returns-then-v-count
-returns-then-v-count c = let test = c.in-Fine.is in
-    let cleared = c.clear.ensures in
-    let filled = c.fill.ensures in
-    refused_eight c.requires c.crowd-found.ensures test cleared.only cleared.filled filled.only filled.filled c.trace.ensures c.uneven-v.ensures c.if-v-count.true
+pub returns-in-Some : goal.returns-in-Some
+returns-in-Some c = refused_eight c.requires c.in_ok-crowd.ensures c.clear.ensures.only c.clear.ensures.filled c.fill.ensures.only c.fill.ensures.filled c.trace.ensures c.in-Some.ensures
 
-pub returns : goal.returns
-returns c = let test = c.in-Fine.is in
-    let cleared = c.clear.ensures in
-    let filled = c.fill.ensures in
-    fine c.requires c.crowd-found.ensures test cleared.only cleared.filled filled.only filled.filled c.trace.ensures c.uneven-v.ensures c.if-v-count.false
+pub returns-in-None : goal.returns-in-None
+returns-in-None c = fine c.requires c.in_ok-crowd.ensures c.clear.ensures.only c.clear.ensures.filled c.fill.ensures.only c.fill.ensures.filled c.trace.ensures c.in-None.ensures

@@ -2,11 +2,11 @@
 use Rattle.boundary.proofs.Ending.{starts_fit, crowd_seven, crowd_none}
 use Rattle.boundary.proofs.crowd.Goals as goal
 
-pub crowded-r-requires : goal.crowded-r-requires
-crowded-r-requires c = starts_fit c.requires
+pub crowded-requires : goal.crowded-requires
+crowded-requires c = starts_fit c.requires
 
-pub returns-then-r-m : goal.returns-then-r-m
-returns-then-r-m c = crowd_seven c.crowded-r.ensures c.if-r-m.true
+pub returns-in-Some : goal.returns-in-Some
+returns-in-Some c = crowd_seven c.in-Some.ensures
 
-pub returns : goal.returns
-returns c = crowd_none c.crowded-r.ensures c.if-r-m.false
+pub returns-in-None : goal.returns-in-None
+returns-in-None c = crowd_none c.in-None.ensures

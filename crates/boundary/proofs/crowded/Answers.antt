@@ -1,5 +1,5 @@
 -- `boundary::crowded` meets its contract: no run before i is long. Assumes nothing.
-use Prim.Native.Nat.{◌+◌, ◌-◌}
+use Prim.Native.Nat.{◌+◌}
 use native.Mathlib.Omega.{arith}
 use borrow.Author.Tests.{lt-ltb, le-ltb}
 use Rattle.refuse.proofs.Scans.{clean_begin, clean_more}
@@ -41,9 +41,6 @@ overflow_add-from-in-loop-i c = omega (arith, c.shared_slice_known-in-loop-i-1.g
 
 pub returns-then-from-to : goal.returns-then-from-to
 returns-then-from-to c = first_at c.loop-i.invariant c.loop-i-test.true (lt-ltb _ _ c.if-from-to.true)
-
-pub overflow_add-i : goal.overflow_add-i
-overflow_add-i c = omega (arith, c.requires, c.loop-i-test.true)
 
 pub loop-i-preserved : goal.loop-i-preserved
 loop-i-preserved c = clean_more _ _ _ c.loop-i.invariant c.loop-i-test.true (le-ltb _ _ c.if-from-to.false)

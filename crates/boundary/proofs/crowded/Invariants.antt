@@ -1,5 +1,4 @@
 -- `boundary::crowded` meets its contract: no run before i is long. Assumes nothing.
-use Prim.Native.Nat.{◌-◌}
 use Rattle.refuse.proofs.Scans.{Clean}
 use Rattle.boundary.specs.Rows.{long}
 use Rattle.boundary.proofs.crowded.Given as goal

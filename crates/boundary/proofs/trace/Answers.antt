@@ -1,5 +1,4 @@
 -- `boundary::trace` meets its contract: the rows say what is so of the boundary edges along the edges before r. Assumes nothing.
-use Prim.Native.Nat.{◌-◌}
 use native.Mathlib.Omega.{arith}
 use Rattle.boundary.proofs.Tracing.{begin, bounds, turn, add_asks, counts, skips, done}
 use Rattle.boundary.proofs.trace.Goals as goal
@@ -73,9 +72,6 @@ overflow_cast-faces-then-to-from-eq1 c = omega (arith, add_asks c.requires c.loo
 
 pub add-requires : goal.add-requires
 add-requires c = add_asks c.requires c.loop-r.invariant c.loop-r-test.true c.after-j.ensures
-
-pub overflow_add-r : goal.overflow_add-r
-overflow_add-r c = omega (arith, bounds c.requires c.loop-r.invariant c.loop-r-test.true)
 
 pub loop-r-preserved : goal.loop-r-preserved
 loop-r-preserved c = let p = c.requires in

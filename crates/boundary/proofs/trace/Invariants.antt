@@ -1,5 +1,4 @@
 -- `boundary::trace` meets its contract: the rows say what is so of the boundary edges along the edges before r. Assumes nothing.
-use Prim.Native.Nat.{◌-◌}
 use Rattle.boundary.proofs.Tracing.{Inv}
 use Rattle.boundary.proofs.trace.Given as goal
 

@@ -1,8 +1,7 @@
 -- `boundary::uneven` meets its contract: no vertex before i is at fault. Assumes nothing.
-use Prim.Native.Nat.{◌-◌}
 use native.Mathlib.Omega.{arith}
 use Rattle.refuse.proofs.Scans.{clean_begin, clean_more}
-use Rattle.boundary.proofs.Scans.{first_at, first_none, fault_other, fault_many, fault_none}
+use Rattle.boundary.proofs.Scans.{first_at, first_none, fault_some, fault_none}
 use Rattle.boundary.proofs.uneven.Goals as goal
 
 pub loop-i-init : goal.loop-i-init
@@ -30,10 +29,7 @@ pub bounds-work-row-in-loop-i : goal.bounds-work-row-in-loop-i
 bounds-work-row-in-loop-i c = omega (arith, c.requires, c.loop-i-test.true)
 
 pub returns-then-begins-work : goal.returns-then-begins-work
-returns-then-begins-work c = first_at c.loop-i.invariant c.loop-i-test.true (fault_other _ _ c.if-begins-work.true)
-
-pub returns-then-begins-gt1 : goal.returns-then-begins-gt1
-returns-then-begins-gt1 c = first_at c.loop-i.invariant c.loop-i-test.true (fault_many _ _ c.if-begins-work.false c.if-begins-gt1.true)
+returns-then-begins-work c = first_at c.loop-i.invariant c.loop-i-test.true (fault_some _ _ c.then-begins-work.either)
 
 pub loop-i-preserved : goal.loop-i-preserved
 loop-i-preserved c = clean_more _ _ _ c.loop-i.invariant c.loop-i-test.true (fault_none _ _ c.if-begins-work.false c.if-begins-gt1.false)

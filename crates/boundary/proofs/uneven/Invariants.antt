@@ -1,5 +1,5 @@
 -- `boundary::uneven` meets its contract: no vertex before i is at fault. Assumes nothing.
-use Prim.Native.Nat.{◌+◌, ◌-◌}
+use Prim.Native.Nat.{◌+◌}
 use Rattle.refuse.proofs.Scans.{Clean}
 use Rattle.boundary.specs.Rows.{uneven}
 use Rattle.boundary.proofs.uneven.Given as goal

@@ -10,7 +10,7 @@ use lib.ListN.{length, set, length-append}
 use lib.Seq.{take-suc-set}
 use Rattle.rows.specs.Region.{part, Out, Out.below, Out.above, Apart, Apart.before, Apart.after, Only2, Holds}
 use Rattle.rows.proofs.Regions.{kept, part_add, only_none, only_set, only_more}
-use Rattle.rules.specs.Lists.{any, each, has}
+use Rattle.rules.specs.Lists.{any, has}
 use Rattle.rules.specs.Edges.{turn}
 use Rattle.rule_laws.proofs.Along.{down}
 use Rattle.rule_laws.proofs.Growing.{vertices}

@@ -11,7 +11,7 @@ ghost use Rattle.loops.specs.Walks.{WalkAsks, WalkGives, MirrorAsks, MirrorGives
 ghost use Rattle.loops.specs.Loops.{AddAsks, AddGives, TraceAsks, TraceGives, LoopsAsks, LoopsGives};
 
 // How many vertices stand in the room of the loops, and how many ends.
-#[derive(Drop)]
+#[derive(Clone, Copy, Debug, PartialEq, Eq)]
 pub struct Loops {
     pub loop_vertices: usize,
     pub loop_ends: usize,

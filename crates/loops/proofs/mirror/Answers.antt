@@ -1,5 +1,4 @@
 -- `loops::mirror` meets its contract: the first i entries are copied, the last first. Assumes nothing.
-use Prim.Native.Nat.{◌-◌}
 use native.Mathlib.Omega.{arith}
 use Rattle.loops.proofs.Mirrored.{begin, turn, again, done}
 use Rattle.loops.proofs.mirror.Goals as goal

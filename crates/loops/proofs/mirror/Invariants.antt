@@ -1,5 +1,4 @@
 -- `loops::mirror` meets its contract: the first i entries are copied, the last first. Assumes nothing.
-use Prim.Native.Nat.{◌-◌}
 use Rattle.loops.proofs.Mirrored.{Copied}
 use Rattle.loops.proofs.mirror.Given as goal
 

@@ -1,5 +1,4 @@
 -- `loops::trace` meets its contract: the loops that vertices below v start are listed. Assumes nothing.
-use Prim.Native.Nat.{◌-◌}
 use Rattle.loops.specs.Loops.{TraceAsks}
 use Rattle.loops.proofs.Tracing.{Listing}
 use Rattle.loops.proofs.trace.Given as goal

@@ -1,5 +1,5 @@
 -- `loops::walk` meets its contract: the vertices passed are listed and lead nowhere. Assumes nothing.
-use Prim.Native.Nat.{◌+◌, ◌-◌}
+use Prim.Native.Nat.{◌+◌}
 use native.Mathlib.Omega.{arith}
 use lib.ListN.{length-set}
 use Rattle.loops.proofs.Walking.{begin, start, turn, again, done}

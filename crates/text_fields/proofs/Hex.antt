@@ -1,4 +1,5 @@
 -- A float's field holds 16 hex digits: read digit by digit. Assumes nothing.
+use Rattle.std.specs.Prelude.{Some, None}
 use mathlib.Core.Path.{◌≡◌, refl, sym, ap, ◌∙◌}
 use mathlib.Core.Bool.{Bool, true, false, cond}
 use mathlib.Core.Option.{none, some}
@@ -15,7 +16,7 @@ use Rattle.rules.specs.Lists.{through}
 use Rattle.rule_laws.proofs.Lists.{through_append}
 use Rattle.rules.specs.Text.{equal, hex, of_hex, real}
 use Rattle.text_fields.specs.Fields.{nibble}
-use Rattle.text_fields.proofs.Bytes.{hex_byte, Nibble, nibble_of, nibble_byte}
+use Rattle.text_fields.proofs.Bytes.{hex_byte, nibble_of, nibble_byte}
 use Rattle.rule_laws.proofs.Texts.{equal_same, equal_self}
 
 -- k digits are k bytes
@@ -25,12 +26,12 @@ hex_long zero n = refl
 hex_long (suc k) n = simp length-append (omega (arith, hex_long k (n / 16)))
 
 -- the bytes written are lower-case hex digits
-hex_all : (k n : ℕ) → All (λ b. nibble b ≡ 16 → ⊥) (hex k n)
+hex_all : (k n : ℕ) → All (λ b. nibble b ≡ None → ⊥) (hex k n)
 unfolding hex
 hex_all zero n = tt
 hex_all (suc k) n =
-    all_append (λ b. nibble b ≡ 16 → ⊥) (hex k (n / 16)) (hex_byte (n % 16) ∷ []) (hex_all k (n / 16))
-    ((λ e. omega (arith, nibble_byte (n % 16) (omega arith), e)), tt)
+    all_append (λ b. nibble b ≡ None → ⊥) (hex k (n / 16)) (hex_byte (n % 16) ∷ []) (hex_all k (n / 16))
+    ((λ e. let f = nibble_byte (n % 16) (omega arith) in cc), tt)
 
 -- a field that is not what is written for its number holds none
 pub not_real : (field : List ℕ) → (field ≡ hex 16 (of_hex field) → ⊥) → none ≡ real field
@@ -81,22 +82,19 @@ hex_more i n d h =
     rw (q, r) refl
 
 -- what a turn needs: the number is below 16 ^ 15 before it
-pub record Turn (n d : ℕ) : Type 0 where
+pub record Turn (n : ℕ) : Type 0 where
   pub few : n < 16 ^ 15
-  pub low : d < 16
 
 module _ {field : List ℕ} {n i : ℕ} (v : Nibbles field n i) (h : i < 16) where
-  -- a number of at most 15 digits, and a digit
-  pub nibbles_turn : (b d : ℕ) → d ≡ nibble b → (d ≡ 16 → ⊥) → Turn n d
-  nibbles_turn b d e q =
-      let g : Nibble b d = rw (← e) at (nibble_of b (λ z. q (e ∙ z))) in
-      record { few = omega (arith, v.small, sixteens i 15 (omega arith)); low = g.low }
+  -- a number of at most 15 digits
+  pub nibbles_turn : Turn n
+  nibbles_turn = record { few = omega (arith, v.small, sixteens i 15 (omega arith)) }
 
   -- a digit more
-  pub nibbles_again : length field ≡ 16 → (d : ℕ) → d ≡ nibble (get_or field i 0) → (d ≡ 16 → ⊥) → Nibbles field (16 * n + d) (i + 1)
-  nibbles_again l d e q =
+  pub nibbles_again : length field ≡ 16 → (d : ℕ) → nibble (get_or field i 0) ≡ Some d → Nibbles field (16 * n + d) (i + 1)
+  nibbles_again l d e =
       let b = get_or field i 0 in
-      let g : Nibble b d = rw (← e) at (nibble_of b (λ z. q (e ∙ z))) in
+      let g = nibble_of b d e in
       let k : take (suc i) field ≡ take i field ++ (b ∷ []) = take-suc field i 0 (omega arith) in
       let s = v.small in
       let low = g.low in
@@ -109,9 +107,9 @@ module _ {field : List ℕ} {n i : ℕ} (v : Nibbles field n i) (h : i < 16) whe
       })
 
   -- a byte that is no such digit is written for no float
-  pub no_nibble : length field ≡ 16 → nibble (get_or field i 0) ≡ 16 → none ≡ real field
+  pub no_nibble : length field ≡ 16 → nibble (get_or field i 0) ≡ None → none ≡ real field
   no_nibble l e =
-      not_real field (λ f. all_at (λ b. nibble b ≡ 16 → ⊥) field (rw (← f) at (hex_all 16 (of_hex field))) i (omega arith) e)
+      not_real field (λ f. all_at (λ b. nibble b ≡ None → ⊥) field (rw (← f) at (hex_all 16 (of_hex field))) i (omega arith) e)
 
 -- after the last digit the field is what is written for n
 pub nibbles_done : {field : List ℕ} {n i : ℕ} → Nibbles field n i → length field ≡ 16 → 16 ≤ i → some (of_bits binary64 n) ≡ real field

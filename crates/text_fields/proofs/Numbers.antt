@@ -1,13 +1,15 @@
 -- A field holds a number if it is what is written for it: read digit by digit. Assumes nothing.
+use Rattle.std.specs.Prelude.{Result, Ok, Err, Some, None, OkIff}
+use Rattle.std.specs.Result.{result_ok}
 use mathlib.Core.Path.{◌≡◌, refl, sym, ap, ◌∙◌}
 use mathlib.Core.Bool.{Bool, true, false, cond, ◌&&◌, true≢false}
 use mathlib.Core.Option.{none, some}
 use mathlib.Core.List.{List, [], ◌∷◌, ◌++◌}
-use Prim.Native.Nat.{ℕ, zero, suc, ◌+◌, ◌-◌, ◌*◌, ◌^◌, ◌≤◌, ◌<◌}
+use Prim.Native.Nat.{ℕ, zero, suc, ◌+◌, ◌*◌, ◌^◌, ◌≤◌, ◌<◌}
 use native.Mathlib.Omega.{arith}
 use native.Mathlib.Numerals.{add-one}
-use lib.Dec.{leb}
-use borrow.Author.Tests.{leb-true, le-leb}
+use lib.Dec.{leb, ltb}
+use borrow.Author.Tests.{leb-true, ltb-true, ltb-false, le-leb}
 use lib.ListN.{length, get_or, take}
 use lib.Seq.{take-suc, take_all}
 use Rattle.rules.specs.Line.{digits, decimal, plain}
@@ -16,8 +18,8 @@ use Rattle.rule_laws.proofs.Rising.{all_at}
 use Rattle.rule_laws.proofs.Texts.{equal_same, equal_self}
 use Rattle.rule_laws.proofs.Digits as digit-laws
 use Rattle.rule_laws.proofs.Digits.{digits_are, digits_some, digits_short, digits_lead, tens, digits_plain, plain_decimal, digits_more, digits_of}
-use Rattle.text_fields.specs.Fields.{digit, PlainIs, PlainNone}
-use Rattle.text_fields.proofs.Bytes.{Digit, digit_of, digit_in}
+use Rattle.text_fields.specs.Fields.{digit, PlainIs, PlainNone, held}
+use Rattle.text_fields.proofs.Bytes.{digit_of, digit_in}
 
 -- ---- the loop over the digits
 
@@ -43,10 +45,10 @@ module _ {field : List ℕ} {n i : ℕ} (v : Digits field n i) (h : i < length f
   digits_turn l = record { few = omega (arith, v.small, tens i 18 (omega arith)) }
 
   -- a digit more is written behind the others
-  pub digits_again : (get_or field 0 0 ≡ 48 → ⊥) → (d : ℕ) → d ≡ digit (get_or field i 0) → (d ≡ 10 → ⊥) → Digits field (10 * n + d) (i + 1)
-  digits_again lead d e q =
+  pub digits_again : (get_or field 0 0 ≡ 48 → ⊥) → (d : ℕ) → digit (get_or field i 0) ≡ Some d → Digits field (10 * n + d) (i + 1)
+  digits_again lead d e =
       let b = get_or field i 0 in
-      let g : Digit b d = rw (← e) at (digit_of b (λ z. q (e ∙ z))) in
+      let g = digit_of b d e in
       let k : take (suc i) field ≡ take i field ++ (b ∷ []) = take-suc field i 0 h in
       let s = v.small in
       let low = g.low in
@@ -69,13 +71,14 @@ module _ {field : List ℕ} {n i : ℕ} (v : Digits field n i) (h : i < length f
       positive (suc j) m d y z = omega (arith, y (omega arith))
 
   -- a byte that is no digit is written for no number
-  pub no_digit : digit (get_or field i 0) ≡ 10 → PlainNone field
+  pub no_digit : digit (get_or field i 0) ≡ None → PlainNone field
   unfolding plain
   no_digit e =
       record {
         none = λ n l f.
             let d = all_at digit-laws.Digit field 0 i (rw (← f) at (digits_are 20 n)) h in
-            omega (arith, e, d.low, d.high, digit_in {b = get_or field i 0} d.low d.high);
+            let is = digit_in {b = get_or field i 0} d.low d.high in
+            cc;
       }
 
 -- after the last digit: the field is what is written for n
@@ -156,3 +159,15 @@ module _ {field : List ℕ} {n : ℕ} (p : PlainIs field n) where
   pub whole_is : n ≤ 4294967295 → some n ≡ whole field
   unfolding whole
   whole_is h = rw (value, le-leb n 4294967295 h, plain_decimal n (omega arith), ← p.form, equal_self field) refl
+
+-- so what the conversion to a u32 keeps of it is what the rules read
+pub whole_of : {E : Type 0} {field : List ℕ} {n : ℕ} → PlainIs field n → (r : Result ℕ E) → OkIff r (n < 4294967296) n → held (result_ok r) ≡ whole field
+whole_of p (Ok m) h = ap some h.1 ∙ whole_is p (omega (arith, h.0))
+whole_of {n = n} p (Err e) h = whole_above p (omega (arith, not_below h))
+  where
+    not_below : (n < 4294967296 → ⊥) → 4294967296 ≤ n
+    not_below f = go (ltb n 4294967296) refl
+      where
+        go : (t : Bool) → ltb n 4294967296 ≡ t → 4294967296 ≤ n
+        go true q = absurd (f (ltb-true n 4294967296 q))
+        go false q = ltb-false n 4294967296 q

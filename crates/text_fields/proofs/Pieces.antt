@@ -1,11 +1,17 @@
 -- The pieces of a text, found by walking forward to the next separator. Assumes nothing.
-use mathlib.Core.Path.{◌≡◌, refl, sym, ap, ◌∙◌}
+use Rattle.std.specs.Prelude.{Some, None}
+use Rattle.std.specs.List.{position, position_or_len}
+use Rattle.std.proofs.lemmas.List.Quantifiers.{position-Some}
+use Rattle.std.proofs.lemmas.List.Sums.{fails_before_first}
+use mathlib.Core.Path.{◌≡◌, refl, sym, ap, subst, ◌∙◌}
+use mathlib.Core.Bool.{Bool, true, false, cond, true≢false}
 use mathlib.Core.List.{List, [], ◌∷◌, ◌++◌}
-use Prim.Native.Nat.{ℕ, ◌+◌, ◌-◌, ◌≤◌, ◌<◌}
+use Prim.Native.Nat.{ℕ, zero, suc, ◌+◌, ◌-◌, ◌≤◌, ◌<◌}
 use native.Mathlib.Omega.{arith}
-use borrow.Author.Tests.{eq-eqb, ne_eqb}
-use lib.ListN.{length, get_or, drop}
-use lib.Seq.{drop-cons, drop-length}
+use borrow.Author.Tests.{eq-eqb, ne_eqb, ltb-false}
+use lib.Dec.{T, eqb, ltb, eqb→eq}
+use lib.ListN.{length, get_or, take, drop, length-drop}
+use lib.Seq.{drop-cons, drop-length, get_or-drop, take_all}
 use native.Mathlib.Numerals.{add-one}
 use Rattle.rows.specs.Region.{part}
 use Rattle.rows.proofs.Regions.{part_suc}
@@ -86,3 +92,45 @@ module _ {xs : List ℕ} {from at i : ℕ} (v : Clear xs from at i) where
         last = λ z. v.pieces ∙ ap (before_all (part xs from (i - from))) q ∙ before_empty (part xs from (i - from)) [];
         more = λ z. absurd (omega arith);
       }
+
+-- none among the first k bytes
+none_before : (xs : List ℕ) (from at k : ℕ) → from + k ≤ length xs → ((j : ℕ) → j < k → get_or xs (from + j) 0 ≡ at → ⊥) → Clear xs from at (from + k)
+none_before xs from at zero h n =
+    let e : from ≡ from + 0 = omega arith in
+    subst (Clear xs from at) e (begin (omega arith))
+none_before xs from at (suc k) h n =
+    let v = none_before xs from at k (omega arith) (λ j l. n j (omega arith)) in
+    let e : from + k + 1 ≡ from + suc k = omega arith in
+    subst (Clear xs from at) e (again v (omega arith) (n k (omega arith)))
+
+-- where no byte of the rest is one, none of the text is
+none_at : (xs : List ℕ) (from at j : ℕ) → eqb (get_or (drop from xs) j 0) at ≡ false → get_or xs (from + j) 0 ≡ at → ⊥
+none_at xs from at j e f = true≢false (sym (eq-eqb _ _ (get_or-drop from xs j 0 ∙ f)) ∙ e)
+
+-- the rest of the text, as a slice of it
+rest_of : (xs : List ℕ) (from : ℕ) → take (length xs - from) (drop from xs) ≡ drop from xs
+rest_of xs from = take_all (length xs - from) (drop from xs) (omega (arith, length-drop from xs))
+
+-- the first separator is k bytes further
+pub piece_some : (xs : List ℕ) (from at k : ℕ) → from ≤ length xs → position (λ b. eqb b at) (take (length xs - from) (drop from xs)) ≡ Some k → Piece xs from at (from + k)
+piece_some xs from at k h e =
+    let p = position-Some (λ b. eqb b at) (drop from xs) k 0 (rw rest_of at e) in
+    let l : from + k < length xs = omega (arith, p.0, length-drop from xs) in
+    found (none_before xs from at k (omega arith) (λ j m. none_at xs from at j (p.2 j m))) l (sym (get_or-drop from xs k 0) ∙ eqb→eq _ _ (subst T (sym p.1) tt))
+
+-- there is none
+pub piece_none : (xs : List ℕ) (from at : ℕ) → from ≤ length xs → position (λ b. eqb b at) (take (length xs - from) (drop from xs)) ≡ None → Piece xs from at (length xs)
+piece_none xs from at h e =
+    let test = λ (b : ℕ). eqb b at in
+    let rest = drop from xs in
+    let k : length rest ≤ position_or_len test rest = past (position_or_len test rest) (length rest) (rw rest_of at e) in
+    let l : from + (length xs - from) ≡ length xs = omega arith in
+    let v = none_before xs from at (length xs - from) (omega arith) (λ j m. none_at xs from at j (fails_before_first test rest j 0 (omega (arith, k, length-drop from xs)))) in
+    done (subst (Clear xs from at) l v) (omega arith)
+  where
+    past : (i n : ℕ) → cond (ltb i n) (Some i) None ≡ None → n ≤ i
+    past i n e = go (ltb i n) refl e
+      where
+        go : (t : Bool) → ltb i n ≡ t → cond t (Some i) None ≡ None → n ≤ i
+        go true q z = absurd (cc)
+        go false q z = ltb-false i n q

@@ -1,29 +1,15 @@
 // The fields of a line of text: where a piece ends, and the decimal number or the float that a field writes, or none.
 #![tactic(auto)]
 
-ghost use Rattle.std.specs.Prelude.{◌≡◌, ◌≤◌, length};
+ghost use Rattle.std.specs.Prelude.{◌≡◌, ◌≤◌, eqb, length, position};
 ghost use Rattle.rules.specs.Text as rule;
 ghost use Rattle.text_fields.specs.Fields as by;
 
-// A field read as a number in plain decimal, of at most 19 digits.
-#[derive(Drop)]
-pub enum Plain {
-    Number(u64),
-    Bad,
-}
-
-// A field read as a decimal u32.
-#[derive(Drop)]
-pub enum Whole {
-    Number(u32),
-    Bad,
-}
-
-// A field read as a float.
-#[derive(Drop)]
-pub enum Real {
-    Number(f64),
-    Bad,
+// Where such a byte stands first.
+fn first(bytes: &[u8], byte: u8) -> Option<usize>
+    ensures { result ≡ position (λ b. eqb b byte) bytes.now }
+{
+    bytes.iter().position(|b| *b == byte)
 }
 
 // Where the piece that begins at `from` ends: at the next such byte, or at the end of the text.
@@ -31,100 +17,75 @@ pub fn find(text: &[u8], from: usize, byte: u8) -> usize
     requires { from ≤ length text.now }
     ensures { by.Piece text.now from byte result }
 {
-    for i in from..text.len() {
-        if text[i] == byte {
-            return i;
-        }
+    match first(&text[from..], byte) {
+        Some(i) => from + i,
+        None => text.len(),
     }
-    text.len()
 }
 
-// The number that a decimal digit writes; 10 for any other byte.
-fn digit(byte: u8) -> u64
+// The number that a decimal digit writes.
+#[tactic(auto, unfolding(crate::specs::Fields::digit))]
+fn digit(byte: u8) -> Option<u64>
     ensures { result ≡ by.digit byte }
 {
-    if byte < 48 {
-        return 10;
+    match byte {
+        b'0'..=b'9' => Some((byte - b'0') as u64),
+        _ => None,
     }
-    if byte > 57 {
-        return 10;
-    }
-    (byte - 48) as u64
 }
 
 // The number that a field of at most 19 digits writes, without leading zeros.
-pub fn read_plain(field: &[u8]) -> Plain
+pub fn read_plain(field: &[u8]) -> Option<u64>
     ensures { by.Plains field.now result }
 {
     if field.len() == 0 {
-        return Plain::Bad;
+        return None;
     }
     if field.len() > 19 {
-        return Plain::Bad;
+        return None;
     }
     if field[0] == b'0' {
         if field.len() > 1 {
-            return Plain::Bad;
+            return None;
         }
-        return Plain::Number(0);
+        return Some(0);
     }
     let mut n = 0;
-    for i in 0..field.len() {
-        let d = digit(field[i]);
-        if d == 10 {
-            return Plain::Bad;
-        }
-        n = 10 * n + d;
+    for byte in field {
+        n = 10 * n + digit(*byte)?;
     }
-    Plain::Number(n)
+    Some(n)
 }
 
 // A decimal u32 without leading zeros.
-pub fn read_whole(field: &[u8]) -> Whole
-    ensures { by.whole_of result ≡ rule.whole field.now }
+pub fn read_whole(field: &[u8]) -> Option<u32>
+    ensures { by.held result ≡ rule.whole field.now }
 {
-    let Plain::Number(n) = read_plain(field) else {
-        return Whole::Bad;
-    };
-    if n > 4_294_967_295 {
-        return Whole::Bad;
-    }
-    Whole::Number(n as u32)
+    u32::try_from(read_plain(field)?).ok()
 }
 
-// The number that a lower-case hex digit writes; 16 for any other byte.
-fn hex_digit(byte: u8) -> u64
+// The number that a lower-case hex digit writes.
+#[tactic(auto, unfolding(crate::specs::Fields::nibble))]
+fn hex_digit(byte: u8) -> Option<u64>
     ensures { result ≡ by.nibble byte }
 {
-    if byte < 48 {
-        return 16;
+    match byte {
+        b'0'..=b'9' => Some((byte - b'0') as u64),
+        b'a'..=b'f' => Some((byte - 87) as u64),
+        _ => None,
     }
-    if byte <= 57 {
-        return (byte - 48) as u64;
-    }
-    if byte < 97 {
-        return 16;
-    }
-    if byte > 102 {
-        return 16;
-    }
-    (byte - 87) as u64
 }
 
 // A float as the 16 hex digits of its bits.
-pub fn read_real(field: &[u8]) -> Real
-    ensures { by.real_of result ≡ rule.real field.now }
+pub fn read_real(field: &[u8]) -> Option<f64>
+    ensures { by.held result ≡ rule.real field.now }
 {
     if field.len() != 16 {
-        return Real::Bad;
+        return None;
     }
     let mut n = 0;
-    for i in 0..16 {
-        let d = hex_digit(field[i]);
-        if d == 16 {
-            return Real::Bad;
-        }
-        n = 16 * n + d;
+    for byte in field {
+        n = 16 * n + hex_digit(*byte)?;
     }
-    Real::Number(byte_rows::float(n))
+    Some(byte_rows::float(n))
 }

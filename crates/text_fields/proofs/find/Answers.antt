@@ -1,16 +1,10 @@
--- `text_fields::find` meets its contract: no separator stands before i. Assumes nothing.
-use Prim.Native.Nat.{◌-◌}
-use Rattle.text_fields.proofs.Pieces.{begin, again, found, done}
+-- `text_fields::find` meets its contract: the piece ends at the first separator. Assumes nothing.
+use mathlib.Core.Path.{sym}
+use Rattle.text_fields.proofs.Pieces.{piece_some, piece_none}
 use Rattle.text_fields.proofs.find.Goals as goal
 
-pub loop-i-init : goal.loop-i-init
-loop-i-init c = begin c.requires
+pub returns-in-Some : goal.returns-in-Some
+returns-in-Some c = piece_some c.args.text.now c.args.from c.args.byte c.in-Some.i c.requires (sym c.in-Some.ensures)
 
-pub returns-then-text-i : goal.returns-then-text-i
-returns-then-text-i c = found c.loop-i.invariant c.loop-i-test.true c.if-text-i.true
-
-pub loop-i-preserved : goal.loop-i-preserved
-loop-i-preserved c = again c.loop-i.invariant c.loop-i-test.true c.if-text-i.false
-
-pub returns : goal.returns
-returns c = done c.loop-i.invariant c.loop-i-test.false
+pub returns-in-None : goal.returns-in-None
+returns-in-None c = piece_none c.args.text.now c.args.from c.args.byte c.requires (sym c.in-None.ensures)

@@ -1,8 +1,6 @@
--- `text_fields::read_plain` meets its contract: the first i bytes are what is written for n. Assumes nothing.
-use Prim.Native.Nat.{◌-◌}
-use lib.ListN.{length}
+-- `text_fields::read_plain` meets its contract: the first bytes are what is written for n. Assumes nothing.
 use Rattle.text_fields.proofs.Numbers.{Digits}
 use Rattle.text_fields.proofs.read_plain.Given as goal
 
-abbrev pub invariant-loop-i : goal.invariant-loop-i
-invariant-loop-i l = Digits l.field l.n l.i
+abbrev pub invariant-loop-byte : goal.invariant-loop-byte
+invariant-loop-byte l = Digits l.field l.n l.byte-index

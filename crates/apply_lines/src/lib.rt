@@ -61,7 +61,7 @@ fn apply_line(
             }
         }
         Line::Split(old, new, from, end) => {
-            rows::move_point(points, old as usize, count);
+            rows::move_row(points, old as usize, count);
             take_over(text, from, end, faces, n, old, new);
             Step {
                 next: end + 1,
@@ -121,7 +121,7 @@ pub fn apply_lines(
 {
     let p = points.len() / 3;
     let n = faces.len() / 3;
-    rows::copy_points(points, out_points, 3 * p);
+    rows::copy_row(points, out_points, 3 * p);
     rows::copy_row(faces, out_faces, 3 * n);
     rows::clear(work, 0, p + 4 * n);
     let count = run_lines(text, out_points, out_faces, work, n, p);

@@ -55,5 +55,5 @@ pub fn drop_isolated_vertices(
     mark(faces, n, count, work);
     rows::number_kept(work, 0, count, count);
     renumber(faces, n, work, count);
-    rows::retain_points(points, work, 0, count)
+    rows::retain(points, work, 0, count)
 }

@@ -298,7 +298,7 @@ pub fn mend(
 {
     let p = points.len() / 3;
     let n = faces.len() / 3;
-    rows::copy_points(points, out_points, 3 * p);
+    rows::copy_row(points, out_points, 3 * p);
     rows::copy_row(faces, out_faces, 3 * n);
     rows::number(origins, n);
     in_turn(options, s, out_points, p, out_faces, origins, n, work)

@@ -75,7 +75,7 @@ pub fn finish(
     let numbers = n + count;
     rows::number_kept(work, n, count, numbers);
     drop_isolated_vertices::renumber(faces, kept, work, numbers);
-    let left = rows::retain_points(points, work, n, count);
+    let left = rows::retain(points, work, n, count);
     Finished {
         points: left,
         faces: kept,

@@ -115,8 +115,8 @@ pub fn read_stl(file: &[u8], points: &mut [f64], faces: &mut [u32], work: &mut [
     flags(n, work);
     rows::number_kept(work, 5 * n, n, 6 * n);
     triples(n, work, faces);
-    let p = rows::retain_points(points, work, 5 * n, n);
-    rows::clear_points(points, 3 * p, 3 * n - 3 * p);
+    let p = rows::retain(points, work, 5 * n, n);
+    rows::clear(points, 3 * p, 3 * n - 3 * p);
     wiping::wipe(work, 0, 64 * count + 64);
     Read::Done(3 * p, n)
 }

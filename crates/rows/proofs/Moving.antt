@@ -6,6 +6,7 @@ use Prim.Native.Nat.{ℕ, zero, suc, ◌+◌, ◌*◌, ◌<◌}
 use native.Mathlib.Nat.{add-zero}
 use native.Mathlib.Omega.{arith}
 use lib.ListN.{get_or, set, length-set}
+use Rattle.std.proofs.lemmas.List.{get_or_read}
 use lib.Seq.{get_or-set_same, get_or-set_other}
 use Rattle.rows.specs.Region.{OnlyOf}
 use Rattle.rows.specs.Retain.{MoveAsks, MoveGives}
@@ -41,8 +42,13 @@ module _ {A : Type 0} (d : A) {xs : List A} {from to : ℕ} (p : MoveAsks xs fro
   stored_at (suc (suc (suc i))) h = absurd (omega arith)
 
   -- so the row has moved
-  pub moves : MoveGives d xs from to (stored xs b x y z)
-  moves =
+  moved_to : MoveGives d xs from to (stored xs b x y z)
+  moved_to =
       let o = only_stored {d = d} xs b x y z in
       let l = o.long in
       record { only = o; moved = part_eq_of d (stored xs b x y z) xs b (3 * from) 3 (omega arith) (omega arith) stored_at }
+
+  -- and so it has where the three entries are what three reads gave
+  pub moves : {u v w : A} → u ≡ get_or xs (3 * from) u → v ≡ get_or xs (3 * from + 1) v → w ≡ get_or xs (3 * from + 2) w → MoveGives d xs from to (stored xs b u v w)
+  moves {u} {v} {w} r s t =
+      rw (get_or_read xs (3 * from) u (omega (arith, p.from_fit)) r d, get_or_read xs (3 * from + 1) v (omega (arith, p.from_fit)) s d, get_or_read xs (3 * from + 2) w (omega (arith, p.from_fit)) t d) moved_to

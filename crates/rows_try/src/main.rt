@@ -134,11 +134,11 @@ fn points(rt: &impl Print, points: &mut [f64], work: &[u32], to: &mut [f64]) -> 
     requires work_len { length work.now ≡ 5 }
     requires to_len { length to.old ≡ 6 }
 {
-    show::number(rt, rows::retain_points(points, work, 1, 4) as u64)?;
+    show::number(rt, rows::retain(points, work, 1, 4) as u64)?;
     show_points(rt, points)?;
-    rows::clear_points(points, 6, 5);
+    rows::clear(points, 6, 5);
     show_points(rt, points)?;
-    rows::copy_points(points, to, 4);
+    rows::copy_row(points, to, 4);
     show_points(rt, to)
 }
 

@@ -24,7 +24,7 @@ fn copies(points: &mut [f64], v: usize, from: usize, m: usize)
     ensures { CopiesGives points.old v from m points.new }
 {
     for j in 0..m {
-        rows::move_point(points, v, from + j);
+        rows::move_row(points, v, from + j);
     }
 }
 

@@ -165,7 +165,7 @@ pub fn wipe_points(points: &mut [f64], from: usize, n: usize)
         let at = from + i;
         let m = block(n - i);
         if any_bits(points, at, m) != 0 {
-            rows::clear_points(points, at, m);
+            rows::clear(points, at, m);
         }
         i += m;
     }

@@ -15,8 +15,8 @@ exchange_face-requires c = omega (arith, exchange_fits c.requires c.in-Exchange.
 pub overflow_add-result-in-Exchange : goal.overflow_add-result-in-Exchange
 overflow_add-result-in-Exchange c = omega (arith, exchange_fits c.requires c.in-Exchange.is)
 
-pub move_point-requires : goal.move_point-requires
-move_point-requires c = move_asks c.requires c.in-Split.is
+pub move_row-requires : goal.move_row-requires
+move_row-requires c = move_asks c.requires c.in-Split.is
 
 pub take_over-requires : goal.take_over-requires
 take_over-requires c = take_asks c.requires c.in-Split.is
@@ -37,7 +37,7 @@ pub returns-in-Exchange : goal.returns-in-Exchange
 returns-in-Exchange c = λ q. exchange q c.in-Exchange.is c.exchange_face.ensures
 
 pub returns-in-Split : goal.returns-in-Split
-returns-in-Split c = λ q. split q c.in-Split.is c.move_point.ensures c.take_over.ensures
+returns-in-Split c = λ q. split q c.in-Split.is c.move_row.ensures c.take_over.ensures
 
 pub returns-in-Isolated : goal.returns-in-Isolated
 returns-in-Isolated c = λ q. isolated q c.in-Isolated.is

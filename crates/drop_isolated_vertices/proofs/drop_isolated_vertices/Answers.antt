@@ -9,4 +9,4 @@ pub renumber-requires : goal.renumber-requires
 renumber-requires c = renumber_asks c.requires c.mark.ensures c.number_kept.ensures
 
 pub returns : goal.returns
-returns c = unused_gives c.requires c.mark.ensures c.number_kept.ensures c.renumber.ensures c.retain_points.ensures
+returns c = unused_gives c.requires c.mark.ensures c.number_kept.ensures c.renumber.ensures c.retain.ensures

@@ -9,4 +9,4 @@ pub renumber-requires : goal.renumber-requires
 renumber-requires c = renumber_asks c.requires c.retain-kept.ensures c.number_kept.ensures
 
 pub returns : goal.returns
-returns c = λ q. finish_gives q c.retain-kept.ensures c.number_kept.ensures c.renumber.ensures c.retain_points-left.ensures
+returns c = λ q. finish_gives q c.retain-kept.ensures c.number_kept.ensures c.renumber.ensures c.retain-left.ensures

@@ -28,41 +28,41 @@ number_kept-requires c = number_asks c.args.file.now c.args.points.now c.args.fa
 pub triples-requires : goal.triples-requires
 triples-requires c = triples_asks c.args.file.now c.args.points.now c.args.faces.now c.args.work.now _ c.stl_check.ensures c.in-Fine.is c.u32_at-count.result c.u32_at-count.ensures c.keys.ensures c.equal_rows.ensures c.flags.ensures c.number_kept.ensures
 
-pub retain_points-p-requires : goal.retain_points-p-requires
-retain_points-p-requires c = retain_asks c.args.file.now c.args.points.now c.args.faces.now c.args.work.now _ c.stl_check.ensures c.in-Fine.is c.u32_at-count.result c.u32_at-count.ensures c.keys.ensures c.equal_rows.ensures c.flags.ensures c.number_kept.ensures c.corners.ensures
+pub retain-p-requires : goal.retain-p-requires
+retain-p-requires c = retain_asks c.args.file.now c.args.points.now c.args.faces.now c.args.work.now _ c.stl_check.ensures c.in-Fine.is c.u32_at-count.result c.u32_at-count.ensures c.keys.ensures c.equal_rows.ensures c.flags.ensures c.number_kept.ensures c.corners.ensures
 
 pub overflow_mul-p : goal.overflow_mul-p
-overflow_mul-p c = omega (arith, sizes_after c.args.file.now c.args.points.now c.args.faces.now c.args.work.now _ c.stl_check.ensures c.in-Fine.is c.u32_at-count.result c.u32_at-count.ensures c.keys.ensures c.equal_rows.ensures c.flags.ensures c.number_kept.ensures c.corners.ensures c.retain_points-p.ensures)
+overflow_mul-p c = omega (arith, sizes_after c.args.file.now c.args.points.now c.args.faces.now c.args.work.now _ c.stl_check.ensures c.in-Fine.is c.u32_at-count.result c.u32_at-count.ensures c.keys.ensures c.equal_rows.ensures c.flags.ensures c.number_kept.ensures c.corners.ensures c.retain-p.ensures)
 
 pub overflow_mul-n-6 : goal.overflow_mul-n-6
-overflow_mul-n-6 c = omega (arith, sizes_after c.args.file.now c.args.points.now c.args.faces.now c.args.work.now _ c.stl_check.ensures c.in-Fine.is c.u32_at-count.result c.u32_at-count.ensures c.keys.ensures c.equal_rows.ensures c.flags.ensures c.number_kept.ensures c.corners.ensures c.retain_points-p.ensures)
+overflow_mul-n-6 c = omega (arith, sizes_after c.args.file.now c.args.points.now c.args.faces.now c.args.work.now _ c.stl_check.ensures c.in-Fine.is c.u32_at-count.result c.u32_at-count.ensures c.keys.ensures c.equal_rows.ensures c.flags.ensures c.number_kept.ensures c.corners.ensures c.retain-p.ensures)
 
 pub overflow_mul-p-2 : goal.overflow_mul-p-2
-overflow_mul-p-2 c = omega (arith, sizes_after c.args.file.now c.args.points.now c.args.faces.now c.args.work.now _ c.stl_check.ensures c.in-Fine.is c.u32_at-count.result c.u32_at-count.ensures c.keys.ensures c.equal_rows.ensures c.flags.ensures c.number_kept.ensures c.corners.ensures c.retain_points-p.ensures)
+overflow_mul-p-2 c = omega (arith, sizes_after c.args.file.now c.args.points.now c.args.faces.now c.args.work.now _ c.stl_check.ensures c.in-Fine.is c.u32_at-count.result c.u32_at-count.ensures c.keys.ensures c.equal_rows.ensures c.flags.ensures c.number_kept.ensures c.corners.ensures c.retain-p.ensures)
 
 pub overflow_sub-n : goal.overflow_sub-n
-overflow_sub-n c = omega (arith, sizes_after c.args.file.now c.args.points.now c.args.faces.now c.args.work.now _ c.stl_check.ensures c.in-Fine.is c.u32_at-count.result c.u32_at-count.ensures c.keys.ensures c.equal_rows.ensures c.flags.ensures c.number_kept.ensures c.corners.ensures c.retain_points-p.ensures)
+overflow_sub-n c = omega (arith, sizes_after c.args.file.now c.args.points.now c.args.faces.now c.args.work.now _ c.stl_check.ensures c.in-Fine.is c.u32_at-count.result c.u32_at-count.ensures c.keys.ensures c.equal_rows.ensures c.flags.ensures c.number_kept.ensures c.corners.ensures c.retain-p.ensures)
 
-pub clear_points-requires : goal.clear_points-requires
-clear_points-requires c = omega (arith, sizes_after c.args.file.now c.args.points.now c.args.faces.now c.args.work.now _ c.stl_check.ensures c.in-Fine.is c.u32_at-count.result c.u32_at-count.ensures c.keys.ensures c.equal_rows.ensures c.flags.ensures c.number_kept.ensures c.corners.ensures c.retain_points-p.ensures)
+pub clear-requires : goal.clear-requires
+clear-requires c = omega (arith, sizes_after c.args.file.now c.args.points.now c.args.faces.now c.args.work.now _ c.stl_check.ensures c.in-Fine.is c.u32_at-count.result c.u32_at-count.ensures c.keys.ensures c.equal_rows.ensures c.flags.ensures c.number_kept.ensures c.corners.ensures c.retain-p.ensures)
 
 pub overflow_mul-count-2 : goal.overflow_mul-count-2
-overflow_mul-count-2 c = omega (arith, sizes_after c.args.file.now c.args.points.now c.args.faces.now c.args.work.now _ c.stl_check.ensures c.in-Fine.is c.u32_at-count.result c.u32_at-count.ensures c.keys.ensures c.equal_rows.ensures c.flags.ensures c.number_kept.ensures c.corners.ensures c.retain_points-p.ensures)
+overflow_mul-count-2 c = omega (arith, sizes_after c.args.file.now c.args.points.now c.args.faces.now c.args.work.now _ c.stl_check.ensures c.in-Fine.is c.u32_at-count.result c.u32_at-count.ensures c.keys.ensures c.equal_rows.ensures c.flags.ensures c.number_kept.ensures c.corners.ensures c.retain-p.ensures)
 
 pub overflow_add-count-2 : goal.overflow_add-count-2
-overflow_add-count-2 c = omega (arith, sizes_after c.args.file.now c.args.points.now c.args.faces.now c.args.work.now _ c.stl_check.ensures c.in-Fine.is c.u32_at-count.result c.u32_at-count.ensures c.keys.ensures c.equal_rows.ensures c.flags.ensures c.number_kept.ensures c.corners.ensures c.retain_points-p.ensures)
+overflow_add-count-2 c = omega (arith, sizes_after c.args.file.now c.args.points.now c.args.faces.now c.args.work.now _ c.stl_check.ensures c.in-Fine.is c.u32_at-count.result c.u32_at-count.ensures c.keys.ensures c.equal_rows.ensures c.flags.ensures c.number_kept.ensures c.corners.ensures c.retain-p.ensures)
 
 pub wipe-requires : goal.wipe-requires
-wipe-requires c = omega (arith, sizes_after c.args.file.now c.args.points.now c.args.faces.now c.args.work.now _ c.stl_check.ensures c.in-Fine.is c.u32_at-count.result c.u32_at-count.ensures c.keys.ensures c.equal_rows.ensures c.flags.ensures c.number_kept.ensures c.corners.ensures c.retain_points-p.ensures)
+wipe-requires c = omega (arith, sizes_after c.args.file.now c.args.points.now c.args.faces.now c.args.work.now _ c.stl_check.ensures c.in-Fine.is c.u32_at-count.result c.u32_at-count.ensures c.keys.ensures c.equal_rows.ensures c.flags.ensures c.number_kept.ensures c.corners.ensures c.retain-p.ensures)
 
 pub overflow_mul-result : goal.overflow_mul-result
-overflow_mul-result c = omega (arith, sizes_after c.args.file.now c.args.points.now c.args.faces.now c.args.work.now _ c.stl_check.ensures c.in-Fine.is c.u32_at-count.result c.u32_at-count.ensures c.keys.ensures c.equal_rows.ensures c.flags.ensures c.number_kept.ensures c.corners.ensures c.retain_points-p.ensures)
+overflow_mul-result c = omega (arith, sizes_after c.args.file.now c.args.points.now c.args.faces.now c.args.work.now _ c.stl_check.ensures c.in-Fine.is c.u32_at-count.result c.u32_at-count.ensures c.keys.ensures c.equal_rows.ensures c.flags.ensures c.number_kept.ensures c.corners.ensures c.retain-p.ensures)
 
 pub shape_of-points : goal.shape_of-points
-shape_of-points c = c.clear_points.ensures.only_of.long ∙ (c.retain_points-p.ensures.only.long ∙ c.corners.ensures.only.long)
+shape_of-points c = c.clear.ensures.only.long ∙ (c.retain-p.ensures.only.long ∙ c.corners.ensures.only.long)
 
 pub shape_of-work : goal.shape_of-work
 shape_of-work c = c.wipe.ensures.only.long ∙ (c.number_kept.ensures.only.long ∙ (c.flags.ensures.only.long ∙ (c.equal_rows.ensures.only.long ∙ c.keys.ensures.only.long)))
 
 pub returns : goal.returns
-returns c = is_done c.args.file.now c.args.points.now c.args.faces.now c.args.work.now _ c.stl_check.ensures c.in-Fine.is c.u32_at-count.result c.u32_at-count.ensures c.keys.ensures c.equal_rows.ensures c.flags.ensures c.number_kept.ensures c.corners.ensures c.retain_points-p.ensures c.triples.ensures c.clear_points.ensures.only_of c.clear_points.ensures.holds_of c.wipe.ensures.only c.wipe.ensures.filled
+returns c = is_done c.args.file.now c.args.points.now c.args.faces.now c.args.work.now _ c.stl_check.ensures c.in-Fine.is c.u32_at-count.result c.u32_at-count.ensures c.keys.ensures c.equal_rows.ensures c.flags.ensures c.number_kept.ensures c.corners.ensures c.retain-p.ensures c.triples.ensures c.clear.ensures.only c.clear.ensures.filled c.wipe.ensures.only c.wipe.ensures.filled

@@ -55,11 +55,11 @@ loop-j-init c = begin c.requires
 pub overflow_add-from : goal.overflow_add-from
 overflow_add-from c = omega (arith, move_ok c.requires c.loop-j.invariant c.loop-j-test.true)
 
-pub move_point-requires : goal.move_point-requires
-move_point-requires c = move_ok c.requires c.loop-j.invariant c.loop-j-test.true
+pub move_row-requires : goal.move_row-requires
+move_row-requires c = move_ok c.requires c.loop-j.invariant c.loop-j-test.true
 
 pub loop-j-preserved : goal.loop-j-preserved
-loop-j-preserved c = again c.requires c.loop-j.invariant c.loop-j-test.true c.move_point.ensures
+loop-j-preserved c = again c.requires c.loop-j.invariant c.loop-j-test.true c.move_row.ensures
 
 pub shape_of-points : goal.shape_of-points
 shape_of-points c = c.loop-j.invariant.only.long

@@ -16,8 +16,8 @@ block-m-requires c = tt
 pub any_bits-requires : goal.any_bits-requires
 any_bits-requires c = fits c.loop-i.invariant c.block-m.ensures c.loop-i-test.true c.requires
 
-pub clear_points-requires : goal.clear_points-requires
-clear_points-requires c = fits c.loop-i.invariant c.block-m.ensures c.loop-i-test.true c.requires
+pub clear-requires : goal.clear-requires
+clear-requires c = fits c.loop-i.invariant c.block-m.ensures c.loop-i-test.true c.requires
 
 pub overflow_add-i : goal.overflow_add-i
 overflow_add-i c = omega (arith, c.block-m.ensures.within)
@@ -26,7 +26,7 @@ pub loop-i-smaller : goal.loop-i-smaller
 loop-i-smaller c = nearer c.loop-i.invariant c.block-m.ensures c.loop-i-test.true
 
 pub loop-i-preserved : goal.loop-i-preserved
-loop-i-preserved c = elim c.if-any_bits-ne0.branch [ then-any_bits-ne0 w ↦ rw w.points-is (clears c.loop-i.invariant c.block-m.ensures c.loop-i-test.true w.clear_points.ensures.only_of w.clear_points.ensures.holds_of) | else-any_bits-ne0 w ↦ rw w.points-is (leaves c.loop-i.invariant c.block-m.ensures c.loop-i-test.true (c.any_bits.ensures.clean w.if-any_bits-ne0.false)) ]
+loop-i-preserved c = elim c.if-any_bits-ne0.branch [ then-any_bits-ne0 w ↦ rw w.points-is (clears c.loop-i.invariant c.block-m.ensures c.loop-i-test.true w.clear.ensures.only w.clear.ensures.filled) | else-any_bits-ne0 w ↦ rw w.points-is (leaves c.loop-i.invariant c.block-m.ensures c.loop-i-test.true (c.any_bits.ensures.clean w.if-any_bits-ne0.false)) ]
 
 pub shape_of-points : goal.shape_of-points
 shape_of-points c = c.loop-i.invariant.only.long

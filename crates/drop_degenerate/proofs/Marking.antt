@@ -6,6 +6,7 @@ use Prim.Native.Nat.{ℕ, ◌+◌, ◌*◌, ◌≤◌, ◌<◌}
 use native.Mathlib.Nat.{zero-add}
 use native.Mathlib.Numerals.{add-one}
 use native.Mathlib.Omega.{arith}
+use mir.Val.{bool_byte}
 use lib.Ieee.{Float}
 use lib.ListN.{length, get_or, set}
 use Rattle.rows.specs.Region.{Only, Holds}
@@ -31,6 +32,11 @@ module _ (s : Float) (ps : List Point) (fs : List Face) (i : ℕ) {x : Shape} wh
   counts : x ≡ shape s ps (face fs i) → is_repeated x ≡ repeated1 s ps fs i
   unfolding repeated1
   counts y = ap is_repeated y
+
+-- a flag as a number
+flagged : (b : Bool) → bool_byte b ≡ flag_of b
+flagged true = refl
+flagged false = refl
 
 -- the loop's invariant
 pub record Marked (ps : List Float) (s : Float) (xs : List ℕ) (n : ℕ) (w₀ w : List ℕ) (k i : ℕ) : Type 0 where
@@ -69,15 +75,15 @@ module _ {ps : List Float} {s : Float} {xs : List ℕ} {n : ℕ} {w₀ w : List 
   -- a turn flags one face more, and counts it if it repeats a corner
   pub again :
       {x : Shape} {f g : ℕ} → i < n → x ≡ shape s (points_of ps) (face_of (get_or xs (3 * i) 0) (get_or xs (3 * i + 1) 0) (get_or xs (3 * i + 2) 0))
-      → f ≡ flag_of (is_repeated x || is_thin x) → g ≡ flag_of (is_repeated x) → Marked ps s xs n w₀ (set w i f) (k + g) (i + 1)
+      → f ≡ bool_byte (is_repeated x || is_thin x) → g ≡ bool_byte (is_repeated x) → Marked ps s xs n w₀ (set w i f) (k + g) (i + 1)
   again {x} {f} {g} h d e c =
       let t = turn h in
       let y = measured h d in
       record {
         at_most = omega arith;
-        repeated = rw (add-one, count_below (repeated1 s (points_of ps) (standing xs n)) i) (ap₂ (λ a b. a + b) v.repeated (c ∙ ap flag_of (counts s (points_of ps) (standing xs n) i y)));
+        repeated = rw (add-one, count_below (repeated1 s (points_of ps) (standing xs n)) i) (ap₂ (λ a b. a + b) v.repeated (c ∙ flagged _ ∙ ap flag_of (counts s (points_of ps) (standing xs n) i y)));
         only = rw zero-add at (only_next {a = 0} f v.only);
-        flags = rw zero-add at (holds_next {a = 0} f (omega (arith, t)) (e ∙ ap flag_of (leaves s (points_of ps) (standing xs n) i y)) v.flags);
+        flags = rw zero-add at (holds_next {a = 0} f (omega (arith, t)) (e ∙ flagged _ ∙ ap flag_of (leaves s (points_of ps) (standing xs n) i y)) v.flags);
       }
 
   -- after n turns every flag is written
@@ -93,6 +99,6 @@ module _ {ps : List Float} {s : Float} {xs : List ℕ} {n : ℕ} {w₀ w : List 
       rw e at v.repeated
 
 -- what one face adds to the count is at most one
-pub few_more : {g : ℕ} (b : Bool) → g ≡ flag_of b → g ≤ 1
+pub few_more : {g : ℕ} (b : Bool) → g ≡ bool_byte b → g ≤ 1
 few_more true e = omega arith
 few_more false e = omega arith

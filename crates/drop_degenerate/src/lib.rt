@@ -17,25 +17,25 @@ ghost use Rattle.drop_degenerate.specs.Marks.{flag_of};
 use leaving::Marked;
 use measure::Form;
 
-// 1 for a face that leaves, 0 for one that stays: only a good one does.
-fn leaves(form: Form) -> u32
-    ensures { result ≡ flag_of (is_repeated (shape_of form) || is_thin (shape_of form)) }
+// Whether a face leaves: only a good one stays.
+#[tactic(auto, unfolding(rules::specs::Float::is_repeated, rules::specs::Float::is_thin))]
+fn leaves(form: Form) -> bool
+    ensures { result ≡ (is_repeated (shape_of form) || is_thin (shape_of form)) }
 {
     match form {
-        Form::Good => 0,
-        Form::Repeated => 1,
-        Form::Thin => 1,
+        Form::Good => false,
+        Form::Repeated | Form::Thin => true,
     }
 }
 
-// 1 for a face that repeats a corner, 0 for any other.
-fn repeats(form: Form) -> usize
-    ensures { result ≡ flag_of (is_repeated (shape_of form)) }
+// Whether a face repeats a corner.
+#[tactic(auto, unfolding(rules::specs::Float::is_repeated))]
+fn repeats(form: Form) -> bool
+    ensures { result ≡ is_repeated (shape_of form) }
 {
     match form {
-        Form::Good => 0,
-        Form::Repeated => 1,
-        Form::Thin => 0,
+        Form::Repeated => true,
+        Form::Good | Form::Thin => false,
     }
 }
 
@@ -51,8 +51,8 @@ fn flag_all(points: &[f64], s: f64, faces: &[u32], n: usize, work: &mut [u32]) -
         let b = faces[3 * i + 1];
         let c = faces[3 * i + 2];
         let form = measure::shape(points, s, a, b, c);
-        work[i] = leaves(form);
-        repeated += repeats(form);
+        work[i] = u32::from(leaves(form));
+        repeated += usize::from(repeats(form));
     }
     repeated
 }

@@ -2,8 +2,6 @@
 pub mod Runs
 -- `Alike` has the rules' mark of a face, by its three sorted corners.
 pub mod Alike
--- `Testing` has what the tests of keys say, by the rows.
-pub mod Testing
 -- `Keying` and `Marking` have the two loops, as facts of lists.
 pub mod Keying
 pub mod Marking

@@ -1,7 +1,5 @@
 -- `drop_degenerate::flag_all` meets its contract: the flags of the faces passed are right. Assumes nothing.
 use native.Mathlib.Omega.{arith}
-use Rattle.rules.specs.Float.{is_repeated}
-use Rattle.measure.specs.Measure.{shape_of}
 use Rattle.drop_degenerate.proofs.Marking.{begin, turn, corners_in, again, done, all_counted, few_more}
 use Rattle.drop_degenerate.proofs.flag_all.Goals as goal
 
@@ -51,11 +49,11 @@ pub bounds-work-i : goal.bounds-work-i
 bounds-work-i c = omega (arith, turn c.requires c.loop-i.invariant c.loop-i-test.true)
 
 pub overflow_add-repeated : goal.overflow_add-repeated
-overflow_add-repeated c = let at-loop = c.before.before.before.before.before.before.before in
-    omega (arith, turn at-loop.requires at-loop.loop-i.invariant c.loop-i-test.true, few_more (is_repeated (shape_of c.shape-form.result)) c.repeats-repeated.ensures)
+overflow_add-repeated c = let at-loop = c.before.before.before.before.before.before.before.before.before in
+    omega (arith, turn at-loop.requires at-loop.loop-i.invariant at-loop.loop-i-test.true, few_more c.repeats.result c.from-repeated.ensures)
 
 pub loop-i-preserved : goal.loop-i-preserved
-loop-i-preserved c = again c.requires c.loop-i.invariant c.loop-i-test.true c.shape-form.ensures c.leaves.ensures c.repeats-repeated.ensures
+loop-i-preserved c = again c.requires c.loop-i.invariant c.loop-i-test.true c.shape-form.ensures (rw c.leaves.ensures at c.from.ensures) (rw c.repeats.ensures at c.from-repeated.ensures)
 
 pub shape_of-work : goal.shape_of-work
 shape_of-work c = c.loop-i.invariant.only.long

@@ -1,9 +1,9 @@
 -- The blocks of faces: a row has a bit for each, and which faces are passed with a word or a block. Assumes nothing.
-use mathlib.Core.Path.{◌≡◌, sym, ap, ◌∙◌}
+use mathlib.Core.Path.{◌≡◌, ap}
 use mathlib.Core.List.{List}
 use Prim.Native.Nat.{ℕ, ◌+◌, ◌*◌, ◌/◌, ◌%◌, ◌^◌, ◌≤◌, ◌<◌}
 use native.Mathlib.Omega.{arith}
-use native.Mathlib.Nat.{div-lt_iff_lt-mul, le-div_iff_mul-le, lt-mul-div-succ, div-mul-le_self, mul-le-mul_right, mul_comm, div-le_self}
+use native.Mathlib.Nat.{div-lt_iff_lt-mul, le-div_iff_mul-le, lt-mul-div-succ, div-mul-le_self, mul-le-mul_right, div-le_self}
 use lib.ListN.{length}
 use Rattle.rules.specs.Refusal.{most_faces}
 use Rattle.face_index.specs.Index.{width_of, size_of, bit_of, IndexAsks, PastAsks, PastGives}

@@ -3,7 +3,7 @@ use mathlib.Core.Path.{◌≡◌, refl, sym, ap, ◌∙◌, subst}
 use mathlib.Core.Logic.{◌⊎◌, inl, inr}
 use mathlib.Core.Bool.{Bool, true, false, ◌&&◌}
 use mathlib.Core.List.{List, [], ◌∷◌}
-use Prim.Native.Nat.{ℕ, suc, ◌+◌, ◌*◌, ◌/◌, ◌%◌, ◌≤◌, ◌<◌, min}
+use Prim.Native.Nat.{ℕ, ◌+◌, ◌*◌, ◌/◌, ◌%◌, ◌≤◌, ◌<◌}
 use native.Mathlib.Omega.{arith}
 use native.Mathlib.Nat.{mul-le-mul_right}
 use native.Mathlib.Decide.{dec_lt, ℕ_discrete}
@@ -17,7 +17,7 @@ use Rattle.rule_laws.proofs.Tests.{and_elim}
 use Rattle.rule_laws.proofs.Members.{has_mem, mem_three}
 use Rattle.face_index.specs.Index.{joins, bucket_of, width_of, size_of, bit_of, bit_at, IndexAsks, Indexed, NoteAsks, NoteGives, CandidateAsks, CandidateGives, PastAsks, PastGives}
 use Rattle.face_index.proofs.Setting.{bit_of_and, bucket_low, in_row}
-use Rattle.face_index.proofs.Blocks.{wide, sized, small, block_low}
+use Rattle.face_index.proofs.Blocks.{sized, small, block_low}
 
 -- ---- the index is made
 

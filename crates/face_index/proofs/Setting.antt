@@ -3,7 +3,7 @@ use mathlib.Core.Path.{◌≡◌, sym, ap, ◌∙◌, subst}
 use mathlib.Core.List.{List}
 use Prim.Native.Nat.{ℕ, ◌+◌, ◌*◌, ◌/◌, ◌%◌, ◌^◌, ◌≤◌, ◌<◌, min, max}
 use native.Mathlib.Omega.{arith}
-use native.Mathlib.Nat.{div_self, mod-eq_of_lt, mul-le-mul_right}
+use native.Mathlib.Nat.{div_self, mul-le-mul_right}
 use native.Mathlib.Decide.{ℕ_discrete}
 use lib.Pow.{pow_pos, pow-lt}
 use lib.Bits.{bit_and, bit_or, or_step, and_step, or_shr, and_shr}

@@ -1,35 +1,14 @@
 -- What the tests of corners say, one after the other. Assumes nothing.
-use mathlib.Core.Path.{◌≡◌, refl, sym, ap, ◌∙◌}
-use mathlib.Core.Bool.{Bool, true, false, ◌&&◌, ◌||◌}
+use mathlib.Core.Path.{◌≡◌, sym, ap, ◌∙◌}
+use mathlib.Core.Bool.{Bool, true, false, ◌&&◌}
 use mathlib.Core.List.{List, [], ◌∷◌}
 use Prim.Native.Nat.{ℕ, ◌+◌, ◌*◌}
 use native.Mathlib.Omega.{arith}
-use borrow.Author.Tests.{eq-eqb, ne_eqb}
-use lib.Dec.{eqb}
 use lib.ListN.{get_or}
-use Rattle.rules.specs.Lists.{any, has}
+use Rattle.rules.specs.Lists.{has}
 use Rattle.rules.specs.Mesh.{face, faces_of, corners}
 use Rattle.rule_laws.proofs.Flat.{face_at}
 use Rattle.face_index.specs.Index.{joins, JoinsAsks}
-
-or_false : (b : Bool) → b ≡ (b || false)
-or_false true = refl
-or_false false = refl
-
--- ---- one of three corners
-
-module _ (a x y z : ℕ) where
-  pub among_first : a ≡ x → true ≡ has a (x ∷ y ∷ z ∷ [])
-  unfolding has any
-  among_first e = rw (eq-eqb a x e)
-
-  pub among_second : (a ≡ x → ⊥) → a ≡ y → true ≡ has a (x ∷ y ∷ z ∷ [])
-  unfolding has any
-  among_second n e = rw (ne_eqb a x n, eq-eqb a y e)
-
-  pub among_third : (a ≡ x → ⊥) → (a ≡ y → ⊥) → eqb a z ≡ has a (x ∷ y ∷ z ∷ [])
-  unfolding has any
-  among_third n m = rw (ne_eqb a x n, ne_eqb a y m) (or_false (eqb a z))
 
 -- the corners that are read are those of the face
 module _ {xs : List ℕ} {f : ℕ} (p : JoinsAsks xs f) (a b : ℕ) where

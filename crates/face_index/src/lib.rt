@@ -44,16 +44,11 @@ pub fn make_index(faces: &[u32], index: &mut [u32])
 }
 
 // Whether a is one of x, y and z.
-fn among(a: u32, x: u32, y: u32, z: u32) -> bool
+#[tactic(auto, unfolding(rules::specs::Lists::has, rules::specs::Lists::any))]
+pub fn among(a: u32, x: u32, y: u32, z: u32) -> bool
     ensures { result ≡ has a (x ∷ y ∷ z ∷ []) }
 {
-    if a == x {
-        return true;
-    }
-    if a == y {
-        return true;
-    }
-    a == z
+    a == x || a == y || a == z
 }
 
 // Whether both a and b are corners of face f.
@@ -64,10 +59,7 @@ pub fn joins(faces: &[u32], f: usize, a: u32, b: u32) -> bool
     let x = faces[3 * f];
     let y = faces[3 * f + 1];
     let z = faces[3 * f + 2];
-    if among(a, x, y, z) {
-        return among(b, x, y, z);
-    }
-    false
+    among(a, x, y, z) && among(b, x, y, z)
 }
 
 // The next face after f that is not in a block whose bit is clear in x, the word of the block of f, or the first one of the next word.

@@ -2,13 +2,12 @@
 use mathlib.Core.Path.{◌≡◌, refl, sym, ap, ◌∙◌}
 use mathlib.Core.Bool.{Bool, true, false, cond}
 use mathlib.Core.List.{List, [], ◌∷◌, map, map-map, map-id}
-use Prim.Native.Nat.{ℕ, ◌*◌, ◌/◌, ◌%◌, ◌<◌}
+use Prim.Native.Nat.{ℕ, ◌/◌, ◌%◌, ◌<◌}
 use native.Mathlib.Omega.{arith}
-use borrow.Author.Tests.{eq-eqb}
 use lib.Dec.{T, eqb}
 use lib.ListN.{length, get_or}
 use Rattle.rules.specs.Lists.{below, filter}
-use Rattle.rules.specs.Mesh.{Face, face, faces_of, exchanged}
+use Rattle.rules.specs.Mesh.{face, faces_of, exchanged}
 use Rattle.rule_laws.proofs.Flat.{face_at, length_faces}
 use Rattle.rule_laws.proofs.Rising.{All, all_imp, below_all, map_same}
 use Rattle.rule_laws.proofs.Origins.{origins}

@@ -2,18 +2,17 @@
 use mathlib.Core.Path.{◌≡◌, refl, sym, ap, ap₂, ◌∙◌, subst}
 use mathlib.Core.Bool.{Bool, true, false, not, ◌&&◌, ◌||◌, cond}
 use mathlib.Core.List.{List, [], ◌∷◌, ◌++◌, map, map-append, map-map, append-nil}
-use Prim.Native.Nat.{ℕ, zero, suc, ◌+◌, ◌≤◌, ◌<◌}
+use Prim.Native.Nat.{ℕ, zero, suc, ◌<◌}
 use native.Mathlib.Omega.{arith}
 use native.Mathlib.Decide.{dec_lt, ℕ_discrete}
 use borrow.Author.Tests.{lt-ltb, le-ltb, eq-eqb, ne_eqb}
 use lib.Dec.{T, eqb, ltb}
 use lib.Ieee.Bits.{is_true}
-use lib.ListN.{length, get_or, length-map, length-append, get_or-append}
-use lib.Seq.{get_or-append-add}
+use lib.ListN.{length, get_or, length-map, get_or-append}
 use Rattle.rules.specs.Lists.{below, filter, count, any, each, leave}
 use Rattle.rules.specs.Mesh.{Face, face, faces_of, exchanged}
 use Rattle.rules.specs.Steps.{Step, steps, Entry, entries}
-use Rattle.rule_laws.proofs.Lists.{under_cond, filter_append, filter_map, each_map, map_each, get_or_map_in, stay_at, leave_places, length_below}
+use Rattle.rule_laws.proofs.Lists.{filter_append, filter_map, each_map, map_each, get_or_map_in, leave_places, length_below}
 use Rattle.rule_laws.proofs.Rising.{All, all_imp, all_filter, below_all, get_or_below, map_same}
 use Rattle.rule_laws.proofs.Counting.{count_next, count_stay, count_strict, count_mono, count_injective}
 use Rattle.rule_laws.proofs.Takers.{takers}

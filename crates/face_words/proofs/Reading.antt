@@ -1,16 +1,14 @@
 -- What is read of a face is its view. Assumes nothing.
-use mathlib.Core.Path.{◌≡◌, sym, ap, ◌∙◌}
-use mathlib.Core.Bool.{cond}
+use mathlib.Core.Path.{◌≡◌, sym, ap}
 use mathlib.Core.List.{List}
-use Prim.Native.Nat.{ℕ, ◌<◌, ◌+◌, ◌*◌, ◌/◌, ◌%◌}
+use Prim.Native.Nat.{ℕ, ◌+◌, ◌*◌, ◌/◌, ◌%◌}
 use native.Mathlib.Omega.{arith}
 use borrow.Author.Tests.{eq-eqb, ne_eqb}
-use lib.ListN.{length, get_or}
-use Rattle.rules.specs.Mesh.{Face, face, faces_of, corners, exchanged}
+use lib.ListN.{get_or}
+use Rattle.rules.specs.Mesh.{Face, face, faces_of, exchanged}
 use Rattle.rule_laws.proofs.Flat.{face_at}
 use Rattle.face_words.specs.Words.{straight, view}
-use Rattle.face_words.specs.Views.{seen_as, ViewAsks}
-use Rattle.face_words.specs.declared.Corners.{Corners}
+use Rattle.face_words.specs.Views.{ViewAsks}
 
 module _ {xs w : List ℕ} {f : ℕ} (p : ViewAsks xs w f) where
   -- the face as it was put in
@@ -26,14 +24,3 @@ module _ {xs w : List ℕ} {f : ℕ} (p : ViewAsks xs w f) where
   pub seen_exchanged : (get_or w f 0 / 2 % 2 ≡ 0 → ⊥) → record { a = get_or xs (3 * f) 0; b = get_or xs (3 * f + 2) 0; c = get_or xs (3 * f + 1) 0; origin = f } ≡ view xs w f
   unfolding view straight
   seen_exchanged n = rw (ne_eqb (get_or w f 0 / 2 % 2) 0 n) (unfold exchanged in (ap (λ (g : Face). record { a = g.a; b = g.c; c = g.b; origin = g.origin }) (sym input)))
-
--- a corner that is read
-module _ (xs w : List ℕ) (f k : ℕ) {g : Corners} (e : seen_as g f ≡ view xs w f) where
-  pub corner_first : k ≡ 0 → g.a ≡ get_or (corners (view xs w f)) k 0
-  corner_first h = rw h (ap (λ v. v.a) e)
-
-  pub corner_second : k ≡ 1 → g.b ≡ get_or (corners (view xs w f)) k 0
-  corner_second h = rw h (ap (λ v. v.b) e)
-
-  pub corner_third : k ≡ 2 → g.c ≡ get_or (corners (view xs w f)) k 0
-  corner_third h = rw h (ap (λ v. v.c) e)

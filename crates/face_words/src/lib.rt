@@ -8,7 +8,7 @@ ghost use Rattle.face_words.specs.Words as word;
 ghost use Rattle.face_words.specs.Views.{seen_as, ViewAsks, CornerAsks};
 
 // The corners of a face as it stands.
-#[derive(Clone, Copy)]
+#[derive(Clone, Copy, Debug, PartialEq, Eq)]
 pub struct Corners {
     pub a: u32,
     pub b: u32,
@@ -32,9 +32,9 @@ pub fn view(faces: &[u32], words: &[u32], f: usize) -> Corners
     let b = faces[3 * f + 1];
     let c = faces[3 * f + 2];
     if words[f] / 2 % 2 == 0 {
-        return Corners { a: a, b: b, c: c };
+        return Corners { a, b, c };
     }
-    Corners { a: a, b: c, c: b }
+    Corners { a, b: c, c: b }
 }
 
 // Corner k of face f under its word.
@@ -43,11 +43,9 @@ pub fn corner(faces: &[u32], words: &[u32], f: usize, k: usize) -> u32
     ensures { result ≡ get_or (corners (word.view faces.now words.now f)) k 0 }
 {
     let g = view(faces, words, f);
-    if k == 0 {
-        return g.a;
+    match k {
+        0 => g.a,
+        1 => g.b,
+        _ => g.c,
     }
-    if k == 1 {
-        return g.b;
-    }
-    g.c
 }

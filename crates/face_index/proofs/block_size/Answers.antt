@@ -5,8 +5,6 @@ use native.Mathlib.Nat.{div-le_self}
 use Prim.Native.Nat.{◌*◌, ◌/◌}
 use lib.ListN.{length}
 use Rattle.face_index.specs.Index.{size_of, width_of}
-use Rattle.face_index.proofs.block_size.Reads as reads
-use Rattle.face_index.proofs.block_size.Lts as lts
 use Rattle.face_index.proofs.block_size.Goals as goal
 
 pub overflow_add-result : goal.overflow_add-result

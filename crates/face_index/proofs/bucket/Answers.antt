@@ -3,8 +3,6 @@ use mathlib.Core.Path.{refl}
 use native.Mathlib.Omega.{arith}
 use native.Mathlib.Nat.{mul-le-mul}
 use Rattle.face_index.specs.Index.{bucket_of}
-use Rattle.face_index.proofs.bucket.Reads as reads
-use Rattle.face_index.proofs.bucket.Lts as lts
 use Rattle.face_index.proofs.bucket.Goals as goal
 
 pub overflow_mul-result : goal.overflow_mul-result

@@ -1,12 +1,7 @@
 -- `face_index::make_index` meets its contract. The invariant: the bits of the corners that were passed are set. Assumes nothing.
 use mathlib.Core.Path.{refl}
 use native.Mathlib.Omega.{arith}
-use Prim.Native.Nat.{◌-◌}
 use Rattle.face_index.proofs.Finding.{size_some, note_ok, noted_more, noted_all}
-use Rattle.face_index.proofs.make_index.Reads as reads
-use Rattle.face_index.proofs.make_index.Lts as lts
-use Rattle.face_index.proofs.block_size.Reads as block-size-reads
-use Rattle.face_index.proofs.note.Reads as note-reads
 use Rattle.face_index.proofs.make_index.Goals as goal
 
 pub block_size-size-requires : goal.block_size-size-requires

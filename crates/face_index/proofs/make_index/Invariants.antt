@@ -1,11 +1,5 @@
 -- `face_index::make_index` meets its contract. The invariant: the bits of the corners that were passed are set. Assumes nothing.
-use Prim.Native.Nat.{◌-◌}
-use lib.ListN.{length}
 use Rattle.face_index.proofs.Finding.{Noted}
-use Rattle.face_index.proofs.make_index.Reads as reads
-use Rattle.face_index.proofs.make_index.Lts as lts
-use Rattle.face_index.proofs.block_size.Reads as block-size-reads
-use Rattle.face_index.proofs.note.Reads as note-reads
 use Rattle.face_index.proofs.make_index.Given as goal
 
 abbrev pub invariant-loop-i : goal.invariant-loop-i

@@ -1,13 +1,6 @@
 -- `face_index::next_indexed` meets its contract. The invariant: no face that was passed has both corners. Assumes nothing.
 use native.Mathlib.Omega.{arith}
-use Prim.Native.Nat.{◌-◌}
 use Rattle.face_index.proofs.Finding.{turn, past_ok, found, again, done, row_fits, begin}
-use Rattle.face_index.proofs.next_indexed.Reads as reads
-use Rattle.face_index.proofs.next_indexed.Lts as lts
-use Rattle.face_index.proofs.block_size.Reads as block-size-reads
-use Rattle.face_index.proofs.bucket.Reads as bucket-reads
-use Rattle.face_index.proofs.joins.Reads as joins-reads
-use Rattle.face_index.proofs.past.Reads as past-reads
 use Rattle.face_index.proofs.next_indexed.Goals as goal
 
 pub block_size-size-requires : goal.block_size-size-requires

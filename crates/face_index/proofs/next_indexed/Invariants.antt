@@ -2,12 +2,6 @@
 use Prim.Native.Nat.{◌/◌, ◌-◌}
 use lib.ListN.{length}
 use Rattle.face_index.proofs.Finding.{Passed}
-use Rattle.face_index.proofs.next_indexed.Reads as reads
-use Rattle.face_index.proofs.next_indexed.Lts as lts
-use Rattle.face_index.proofs.block_size.Reads as block-size-reads
-use Rattle.face_index.proofs.bucket.Reads as bucket-reads
-use Rattle.face_index.proofs.joins.Reads as joins-reads
-use Rattle.face_index.proofs.past.Reads as past-reads
 use Rattle.face_index.proofs.next_indexed.Given as goal
 
 abbrev pub invariant-loop-f : goal.invariant-loop-f

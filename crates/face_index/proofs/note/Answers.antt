@@ -1,9 +1,6 @@
 -- `face_index::note` meets its contract: the bit of the word is set. Assumes nothing.
 use native.Mathlib.Omega.{arith}
 use Rattle.face_index.proofs.Setting.{word_read, noted_there}
-use Rattle.face_index.proofs.note.Reads as reads
-use Rattle.face_index.proofs.note.Lts as lts
-use Rattle.face_index.proofs.bucket.Reads as bucket-reads
 use Rattle.face_index.proofs.note.Goals as goal
 
 pub overflow_mul-at : goal.overflow_mul-at

@@ -1,8 +1,6 @@
 -- `face_index::past` meets its contract: a whole word, a block, or one face. Assumes nothing.
 use native.Mathlib.Omega.{arith}
 use Rattle.face_index.proofs.Blocks.{word_near, block_near, block_most, past_word, past_block}
-use Rattle.face_index.proofs.past.Reads as reads
-use Rattle.face_index.proofs.past.Lts as lts
 use Rattle.face_index.proofs.past.Goals as goal
 
 pub overflow_add-result : goal.overflow_add-result

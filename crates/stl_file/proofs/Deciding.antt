@@ -1,16 +1,12 @@
 -- The checks of a file in their order. Assumes nothing.
-use mathlib.Core.Path.{◌≡◌, refl, sym, ap, subst, ◌∙◌}
+use mathlib.Core.Path.{◌≡◌, sym, ap, ◌∙◌}
 use mathlib.Core.List.{List, [], ◌∷◌}
 use Prim.Native.Nat.{ℕ, ◌+◌, ◌*◌, ◌≤◌, ◌<◌}
-use native.Mathlib.Omega.{arith}
 use lib.ListN.{length}
 use Rattle.rules.specs.Refusal.{Check, ok, no, decided, no2, no4, no6, most_faces}
 use Rattle.rules.specs.Bytes.{u32_at}
 use Rattle.rules.specs.Stl.{facets, corners_of, no12, stl_rooms}
-use Rattle.refuse.specs.Verdicts.{check_of}
-use Rattle.refuse.specs.declared.Verdict.{Verdict}
-use Rattle.refuse.specs.declared.Verdict.TheVariants.{Fine, Refused}
-use Rattle.refuse.proofs.Groups.{last, stop_at, go_past, stop_one, go_on_one}
+use Rattle.refuse.proofs.Groups.{last, stop_at, go_past}
 use Rattle.refuse.proofs.Singles.{few, many}
 use Rattle.stl_file.specs.Files.{Whole, stl_list}
 use Rattle.stl_file.proofs.Checks.{wrong, short, right}
@@ -48,11 +44,10 @@ module _ (file : List ℕ) (points faces work : ℕ) where
         is_few : {r : Check} (ys : List Check) → r ≡ decided ys → r ≡ decided (no12 file ∷ no2 1 (facets file) most_faces ∷ ys)
         is_few {r} ys q = is_right _ (go_past _ ys r (few 1 (facets file) most_faces (rw facets_is h)) q)
 
-        module _ (v : Verdict) (q : check_of v ≡ no4 (corners_of file)) where
-          -- 4 at the corner that was found
-          pub is_far : (a b : ℕ) → v ≡ Refused a b → no a b ≡ decided (stl_list file points faces work)
-          is_far a b t = is_few _ (stop_one _ _ v a b q t)
+        -- 4 finds something
+        pub is_far : (a b : ℕ) → no a b ≡ no4 (corners_of file) → no a b ≡ decided (stl_list file points faces work)
+        is_far a b q = is_few _ (stop_at _ _ a b q)
 
-          -- 6 decides
-          pub is_near : (r : Check) → v ≡ Fine → r ≡ no6 (stl_rooms n) (points ∷ faces ∷ work ∷ []) → r ≡ decided (stl_list file points faces work)
-          is_near r t s = is_few _ (go_on_one _ _ v r q t (last _ r (s ∙ ap (λ k. no6 (stl_rooms k) (points ∷ faces ∷ work ∷ [])) (sym facets_is))))
+        -- 4 finds nothing, and 6 decides
+        pub is_near : (r : Check) → ok ≡ no4 (corners_of file) → r ≡ no6 (stl_rooms n) (points ∷ faces ∷ work ∷ []) → r ≡ decided (stl_list file points faces work)
+        is_near r q s = is_few _ (go_past _ _ r q (last _ r (s ∙ ap (λ k. no6 (stl_rooms k) (points ∷ faces ∷ work ∷ [])) (sym facets_is))))

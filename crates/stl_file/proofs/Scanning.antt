@@ -1,13 +1,13 @@
 -- The corners of a file, and the first that is outside its domain. Assumes nothing.
 use mathlib.Core.Path.{◌≡◌, refl, sym, ap, subst, ◌∙◌}
-use mathlib.Core.Bool.{Bool, true, false, not}
-use mathlib.Core.List.{List, map}
+use mathlib.Core.Bool.{Bool, true, false, not, ◌&&◌}
+use mathlib.Core.List.{List}
 use Prim.Native.Nat.{ℕ, ◌+◌, ◌*◌, ◌/◌, ◌%◌, ◌≤◌, ◌<◌}
 use native.Mathlib.Omega.{arith}
 use lib.ListN.{length, get_or, length-map}
 use lib.Ieee.{Float}
 use Rattle.rules.specs.Lists.{below, all}
-use Rattle.rules.specs.Mesh.{Point, point, zero64}
+use Rattle.rules.specs.Mesh.{Point, zero64}
 use Rattle.rules.specs.Refusal.{ok, no, in_domain, no4, most_faces}
 use Rattle.rules.specs.Stl.{facets, coordinate, corner_at, place_of, corners_of}
 use Rattle.rule_laws.proofs.Lists.{length_below, get_or_map_in}
@@ -27,31 +27,18 @@ pub corner_asks : {file : List ℕ} {count c : ℕ} → Whole file count → c <
 unfolding place_of
 corner_asks {file} {count} {c} p h = record { few = omega (arith, p.few); fit = omega (arith, p.long) }
 
--- ---- one corner is far if one of its coordinates is
-module _ (file : List ℕ) (i : ℕ) where
-  -- all three inside
-  pub near :
-      in_domain (coordinate file i) ≡ true → in_domain (coordinate file (i + 4)) ≡ true → in_domain (coordinate file (i + 8)) ≡ true
-      → false ≡ far (corner_at file i)
-  unfolding all corner_at
-  near a b c = rw (a, b, c) refl
-
-  -- x outside
-  pub far_x : in_domain (coordinate file i) ≡ false → true ≡ far (corner_at file i)
-  unfolding all corner_at
-  far_x a = rw a refl
-
-  -- y outside
-  pub far_y : in_domain (coordinate file i) ≡ true → in_domain (coordinate file (i + 4)) ≡ false → true ≡ far (corner_at file i)
-  unfolding all corner_at
-  far_y a b = rw (a, b) refl
-
-  -- z outside
-  pub far_z :
-      in_domain (coordinate file i) ≡ true → in_domain (coordinate file (i + 4)) ≡ true → in_domain (coordinate file (i + 8)) ≡ false
-      → true ≡ far (corner_at file i)
-  unfolding all corner_at
-  far_z a b c = rw (a, b, c) refl
+-- ---- one corner is far unless all its coordinates are inside
+pub far_is :
+    (file : List ℕ) (i : ℕ)
+    → not ((in_domain (coordinate file i) && in_domain (coordinate file (i + 4))) && in_domain (coordinate file (i + 8))) ≡ far (corner_at file i)
+unfolding all corner_at
+far_is file i = ap not (go (in_domain (coordinate file i)) (in_domain (coordinate file (i + 4))) (in_domain (coordinate file (i + 8))))
+  where
+    go : (a b c : Bool) → ((a && b) && c) ≡ (a && (b && (c && true)))
+    go false b c = refl
+    go true false c = refl
+    go true true false = refl
+    go true true true = refl
 
 -- ---- all corners
 

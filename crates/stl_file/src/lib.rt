@@ -9,7 +9,7 @@ ghost use Rattle.rules.specs.Stl as rule;
 ghost use Rattle.refuse.specs.Verdicts as by;
 ghost use Rattle.stl_file.specs.Files.{Whole, CornerAsks, stl_list};
 
-use refuse::Verdict;
+use refuse::Refusal;
 
 // The number that the bits of an f32 stand for, a NaN's too.
 fn widened(bits: u32) -> f64
@@ -43,68 +43,55 @@ fn far(file: &[u8], c: usize) -> bool
     ensures { result ≡ by.far (rule.corner_at file.now (rule.place_of c)) }
 {
     let i = place_of(c);
-    if refuse::in_domain(coordinate(file, i)) {
-        if refuse::in_domain(coordinate(file, i + 4)) {
-            if refuse::in_domain(coordinate(file, i + 8)) {
-                return false;
-            }
-            return true;
-        }
-        return true;
-    }
-    true
+    !(refuse::in_domain(coordinate(file, i))
+        && refuse::in_domain(coordinate(file, i + 4))
+        && refuse::in_domain(coordinate(file, i + 8)))
 }
 
 // 4: a coordinate outside its domain, at the first such corner.
-fn corners(file: &[u8], count: usize) -> Verdict
+fn corners(file: &[u8], count: usize) -> Result<(), Refusal>
     requires { Whole file.now count }
     ensures { by.check_of result ≡ refusal.no4 (rule.corners_of file.now) }
 {
-    let n = 3 * count;
-    for c in 0..n {
+    for c in 0..3 * count {
         if far(file, c) {
-            return Verdict::Refused(4, c);
+            return Err(Refusal::BadPoint(c));
         }
     }
-    Verdict::Fine
+    Ok(())
 }
 
 // 6: points 9F, faces 3F, work 64F+64.
-fn rooms(count: usize, points: usize, faces: usize, work: usize) -> Verdict
+fn rooms(count: usize, points: usize, faces: usize, work: usize) -> Result<(), Refusal>
     requires { count ≤ refusal.most_faces }
     ensures { by.check_of result ≡ refusal.no6 (rule.stl_rooms count) (points ∷ faces ∷ work ∷ []) }
 {
     if points < 9 * count {
-        return Verdict::Refused(6, 0);
+        return Err(Refusal::ShortRoom(0));
     }
     if faces < 3 * count {
-        return Verdict::Refused(6, 1);
+        return Err(Refusal::ShortRoom(1));
     }
     if work < 64 * count + 64 {
-        return Verdict::Refused(6, 2);
+        return Err(Refusal::ShortRoom(2));
     }
-    Verdict::Fine
+    Ok(())
 }
 
 // The refusals of a call that reads a file, in their order: 12, 2, 4, 6; the rooms by their lengths.
-pub fn stl_check(file: &[u8], points: usize, faces: usize, work: usize) -> Verdict
+pub fn stl_check(file: &[u8], points: usize, faces: usize, work: usize) -> Result<(), Refusal>
     ensures { by.check_of result ≡ refusal.decided (stl_list file.now points faces work) }
 {
     if file.len() < 84 {
-        return Verdict::Refused(12, 0);
+        return Err(Refusal::BadFile);
     }
     let count = byte_rows::u32_at(file, 80) as usize;
     if file.len() != 84 + 50 * count {
-        return Verdict::Refused(12, 0);
+        return Err(Refusal::BadFile);
     }
     if rules::MOST_FACES < count {
-        return Verdict::Refused(2, 1);
+        return Err(Refusal::TooLarge(1));
     }
-    match corners(file, count) {
-        Verdict::Fine => {}
-        Verdict::Refused(number, place) => {
-            return Verdict::Refused(number, place);
-        }
-    }
+    corners(file, count)?;
     rooms(count, points, faces, work)
 }

@@ -1,13 +1,12 @@
 -- `stl_file::corners` meets its contract: all corners before c are without fault. Assumes nothing.
 use mathlib.Core.Path.{sym, ◌∙◌}
-use Prim.Native.Nat.{◌-◌}
 use native.Mathlib.Omega.{arith}
 use Rattle.refuse.proofs.Scans.{clean_begin, clean_more}
 use Rattle.stl_file.proofs.Scanning.{corner_asks, no4_none, no4_at, turn}
 use Rattle.stl_file.proofs.corners.Goals as goal
 
-pub overflow_mul-n : goal.overflow_mul-n
-overflow_mul-n c = omega (arith, turn c.requires)
+pub overflow_mul-c-end : goal.overflow_mul-c-end
+overflow_mul-c-end c = omega (arith, turn c.requires)
 
 pub loop-c-init : goal.loop-c-init
 loop-c-init c = clean_begin _ _

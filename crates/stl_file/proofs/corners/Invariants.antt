@@ -1,5 +1,5 @@
 -- `stl_file::corners` meets its contract: all corners before c are without fault. Assumes nothing.
-use Prim.Native.Nat.{◌-◌, ◌*◌}
+use Prim.Native.Nat.{◌*◌}
 use Rattle.refuse.proofs.Scans.{Clean}
 use Rattle.stl_file.proofs.Scanning.{far_at}
 use Rattle.stl_file.proofs.corners.Given as goal

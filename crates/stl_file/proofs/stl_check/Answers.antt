@@ -1,4 +1,5 @@
 -- `stl_file::stl_check` meets its contract: 12, 2, the corners and the rooms, one after the other. Assumes nothing.
+use Rattle.std.proofs.lemmas.Result.{err_from_is_err_and}
 use Rattle.stl_file.proofs.Deciding.{is_short, is_wrong, is_many, is_whole, is_far, is_near}
 use Rattle.stl_file.proofs.stl_check.Goals as goal
 
@@ -14,8 +15,9 @@ returns-then-count-gt-MOST_FACES c = is_many c.args.file.now c.args.points c.arg
 pub corners-requires : goal.corners-requires
 corners-requires c = is_whole c.args.file.now c.args.points c.args.faces c.args.work c.u32_at-count.result c.u32_at-count.ensures c.if-file-count.false c.if-count-gt-MOST_FACES.false
 
-pub returns-in-Refused : goal.returns-in-Refused
-returns-in-Refused c = is_far c.args.file.now c.args.points c.args.faces c.args.work c.u32_at-count.result c.u32_at-count.ensures c.if-file-count.false c.if-count-gt-MOST_FACES.false _ c.corners.ensures _ _ c.in-Refused.is
+pub returns-in_err-corners : goal.returns-in_err-corners
+returns-in_err-corners c = let p = err_from_is_err_and c.from_residual.result c.from_residual.ensures.1 in
+    rw (p.1, p.2) (is_far c.args.file.now c.args.points c.args.faces c.args.work c.u32_at-count.result c.u32_at-count.ensures c.if-file-count.false c.if-count-gt-MOST_FACES.false _ _ c.in_err-corners.ensures)
 
 pub returns : goal.returns
-returns c = is_near c.args.file.now c.args.points c.args.faces c.args.work c.u32_at-count.result c.u32_at-count.ensures c.if-file-count.false c.if-count-gt-MOST_FACES.false _ c.corners.ensures _ c.in-Fine.is c.rooms.ensures
+returns c = is_near c.args.file.now c.args.points c.args.faces c.args.work c.u32_at-count.result c.u32_at-count.ensures c.if-file-count.false c.if-count-gt-MOST_FACES.false _ c.in_ok-corners.ensures c.rooms.ensures

@@ -1,58 +1,41 @@
--- What the scan knows when it goes on from the vertex `at` to v: three cases. Assumes nothing.
+-- What the scan knows when it goes on from the vertex `at` to v. Assumes nothing.
 use mathlib.Core.Path.{◌≡◌, sym, ◌∙◌}
+use Rattle.std.specs.Prelude.{Option, Some, None}
+use Rattle.std.specs.Option.{option_or}
 use Prim.Native.Nat.{ℕ, ◌*◌, ◌≤◌, ◌<◌}
 use native.Mathlib.Omega.{arith}
 use native.Mathlib.Decide.{ℕ_discrete, dec_lt}
-use Rattle.halves.specs.Scan.{Fair, Upto, beginsTo, endsTo}
+use Rattle.halves.specs.declared.State.{State}
+use Rattle.halves.specs.Scan.{Fair, AllFair, Unfair, Judged, Upto, FaultGives, beginsTo, endsTo}
 
-module _ {c : ℕ → ℕ} {P k unique at begins ends bad v : ℕ} (l : at < v) (near : v * P ≤ k) (m : v ≤ P) (t : Upto c P k unique at begins ends bad) where
-  -- the vertex is the first at fault
-  pub close_bad : bad ≡ P → (Fair begins ends → ⊥) → Upto c P k unique v 0 0 at
-  close_bad e f =
-      record {
-        calm = t.calm;
-        counted = t.counted;
-        at_most = m;
-        near = near;
-        begun = sym (t.none_begun v l);
-        ended = sym (t.none_ended v l);
-        none_begun = λ w h. t.none_begun w (omega arith);
-        none_ended = λ w h. t.none_ended w (omega arith);
-        fair = λ w h g. t.fair w g (omega arith);
-        bad_at_most = t.at_most;
-        unfair = λ h. (l, λ g. f (record { even = t.begun ∙ g.even ∙ sym t.ended; once = rw t.begun g.once }));
-      }
-
-  -- it is not at fault
-  pub close_fair : bad ≡ P → begins ≡ ends → begins ≤ 1 → Upto c P k unique v 0 0 bad
-  close_fair e f g =
-      record {
-        calm = t.calm;
-        counted = t.counted;
-        at_most = m;
-        near = near;
-        begun = sym (t.none_begun v l);
-        ended = sym (t.none_ended v l);
-        none_begun = λ w h. t.none_begun w (omega arith);
-        none_ended = λ w h. t.none_ended w (omega arith);
-        fair = λ w h q. go w q (ℕ_discrete w at) (dec_lt w at);
-        bad_at_most = t.bad_at_most;
-        unfair = λ h. absurd (omega arith);
-      }
+module _ {c : ℕ → ℕ} {P k v : ℕ} {s : State} (l : s.at < v) (near : v * P ≤ k) (m : v ≤ P) (t : Upto c P k s) where
+  -- all vertices up to it are fair
+  all_fair : AllFair c P k s.at → Fair s.begins s.ends → AllFair c P k v
+  all_fair j g = record { fair = λ w h. go w (ℕ_discrete w s.at) (dec_lt w s.at) }
     where
-      go : (w : ℕ) → w < bad → Dec (w ≡ at) → Dec (w < at) → Fair (beginsTo c P k w) (endsTo c P k w)
-      go w q (yes x) y = rw x (record { even = sym t.begun ∙ f ∙ t.ended; once = rw (← t.begun) g })
-      go w q (no x) (yes y) = t.fair w y q
-      go w q (no x) (no y) =
+      go : (w : ℕ) → Dec (w ≡ s.at) → Dec (w < s.at) → Fair (beginsTo c P k w) (endsTo c P k w)
+      go w (yes x) y = rw x (record { even = sym t.begun ∙ g.even ∙ t.ended; once = rw (← t.begun) g.once })
+      go w (no x) (yes y) = j.fair w y
+      go w (no x) (no y) =
           let z = t.none_begun w (omega arith) in
           let z' = t.none_ended w (omega arith) in
           record { even = z ∙ sym z'; once = omega arith }
 
-  -- there is one at fault already
-  pub close_late : (bad ≡ P → ⊥) → Upto c P k unique v 0 0 bad
-  close_late e =
-      let b = t.bad_at_most in
-      let u = t.unfair (omega arith) in
+  -- it is the first that is not
+  first_unfair : (w : ℕ) → w ≡ s.at → AllFair c P k s.at → (Fair s.begins s.ends → ⊥) → Unfair c P k v w
+  first_unfair w e j g =
+      rw e
+      (record { passed = l; before = j; unfair = λ q. g (record { even = t.begun ∙ q.even ∙ sym t.ended; once = rw t.begun q.once }) })
+
+  -- the vertex is judged too
+  judged : (old new : Option ℕ) → Judged c P k s.at old → FaultGives s new → Judged c P k v (option_or old new)
+  judged (Some w) new j g = let p = j.passed in record { passed = omega arith; before = j.before; unfair = j.unfair }
+  judged None (Some w) j g = first_unfair w g.0 j g.1
+  judged None None j g = all_fair j g
+
+  -- the next is v
+  pub close_on : (new : Option ℕ) → FaultGives s new → Upto c P k (record { unique = s.unique; at = v; begins = 0; ends = 0; bad = option_or s.bad new })
+  close_on new g =
       record {
         calm = t.calm;
         counted = t.counted;
@@ -62,7 +45,5 @@ module _ {c : ℕ → ℕ} {P k unique at begins ends bad v : ℕ} (l : at < v) 
         ended = sym (t.none_ended v l);
         none_begun = λ w h. t.none_begun w (omega arith);
         none_ended = λ w h. t.none_ended w (omega arith);
-        fair = λ w h g. t.fair w (omega (arith, u.0)) g;
-        bad_at_most = b;
-        unfair = λ h. (omega (arith, u.0), u.1);
+        judged = judged s.bad new t.judged g;
       }

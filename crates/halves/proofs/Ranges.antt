@@ -1,24 +1,24 @@
 -- The loop over ranges of keys: its beginning, a buffer that one key fills, a walk, and its end. Assumes nothing.
-use mathlib.Core.Path.{◌≡◌, refl, sym, ap, subst, ◌∙◌}
-use mathlib.Core.Bool.{true, false}
+use mathlib.Core.Path.{◌≡◌, refl, sym, ap, ◌∙◌}
 use mathlib.Core.List.{List, ◌∷◌}
 use Prim.Native.Nat.{ℕ, zero, suc, ◌+◌, ◌*◌, ◌/◌, ◌%◌, ◌≤◌, ◌<◌}
 use native.Mathlib.Nat.{div-add-mod', mod-lt, div-lt_iff_lt-mul, mul-add-div_right, div-eq_of_lt, mul-add-mod_self_right, mod-eq_of_lt, mul-le-mul_right}
 use native.Mathlib.Omega.{arith}
 use native.Mathlib.Decide.{ℕ_discrete, dec_lt}
-use lib.Dec.{T}
 use lib.ListN.{length, get_or}
 use Rattle.refuse.specs.Accepted.{Faces}
+use Rattle.std.specs.Prelude.{None, Ok, Err}
+use Rattle.refuse.specs.declared.Refusal.{Refusal}
+use Rattle.refuse.specs.declared.Refusal.TheVariants.{CrowdedEdge}
 use Rattle.halves.specs.declared.State.{State}
 use Rattle.halves.specs.Split.{hit, tally}
-use Rattle.halves.specs.Scan.{users_of, users_at, edges_to, beginsTo, endsTo, Calm, Upto, Told, Small, StartGives}
+use Rattle.halves.specs.Scan.{users_of, users_at, edges_to, beginsTo, endsTo, Calm, Upto, Small, StartGives}
 use Rattle.halves.specs.Walk.{WalkAsks, WalkGives}
 use Rattle.halves.specs.Gather.{halves, GatherAsks, GatherGives, RoundsAsks, RoundsGives}
 use Rattle.halves.proofs.Tallies.{hit_same, hit_other, tally_zero, tally_suc}
 use Rattle.halves.proofs.Weights.{users_same, users_other}
 use Rattle.halves.proofs.Scanning.{users_at_is}
 use Rattle.halves.proofs.Halves.{halves_sym}
-use Rattle.halves.proofs.Walking.{small_more, crowd_told}
 
 -- where all have one key, its two values are all there is
 tally_two : (a : List ℕ) (s n k : ℕ) → ((i : ℕ) → i < n → get_or a (s + i) 0 / 2 ≡ k) → tally a s n (2 * k) + tally a s n (2 * k + 1) ≡ n
@@ -109,7 +109,7 @@ module _ {f : List ℕ} {P k : ℕ} (q : Faces P f) (b : k < P * P) (calm : Calm
       go (no l) = omega arith
 
 -- nothing is known at first
-upto_none : (c : ℕ → ℕ) (P : ℕ) → Upto c P 0 0 0 0 0 P
+upto_none : (c : ℕ → ℕ) (P : ℕ) → Upto c P 0 (record { unique = 0; at = 0; begins = 0; ends = 0; bad = None })
 unfolding edges_to beginsTo endsTo
 upto_none c P =
     record {
@@ -121,48 +121,40 @@ upto_none c P =
       ended = refl;
       none_begun = λ w h. refl;
       none_ended = λ w h. refl;
-      fair = λ w h q. absurd (omega arith);
-      bad_at_most = omega arith;
-      unfair = λ h. absurd (omega arith);
+      judged = record { fair = λ w h. absurd (omega arith) };
     }
 
 -- the start
-pub started : (P : ℕ) → StartGives P (record { unique = 0; crowd = false; at = 0; begins = 0; ends = 0; bad = P })
-started P =
-    record {
-      going = refl;
-      small = record { unique = omega arith; begins = omega arith; ends = omega arith };
-      told = λ c. record { going = λ z. upto_none c P; met = λ z. absurd (subst T (sym z) tt) };
-    }
+pub started : StartGives (record { unique = 0; at = 0; begins = 0; ends = 0; bad = None })
+started = record { small = record { unique = omega arith; begins = omega arith; ends = omega arith }; upto = upto_none }
 
--- the keys before `from` are passed, and none was crowded
+-- the keys before `from` are passed
 pub record Going (f : List ℕ) (P top : ℕ) (a₀ : List ℕ) (size : ℕ) (a : List ℕ) (from : ℕ) (t : State) : Type 0 where
   pub size_is : size ≡ length a₀
   pub long : length a ≡ length a₀
   pub within : from ≤ top
-  pub going : t.crowd ≡ false
   pub small : Small from t
-  pub upto : Upto (halves f P (length f)) P from t.unique t.at t.begins t.ends t.bad
+  pub upto : Upto (halves f P (length f)) P from t
 
 -- a buffer that is long enough
 pub five : (a b c d e : ℕ) (r : List ℕ) → 4 < length (a ∷ b ∷ c ∷ d ∷ e ∷ r)
 five a b c d e r = omega arith
 
 -- all keys are taken in
-pub all_asks : {f : List ℕ} {P : ℕ} {t : State} {a : List ℕ} → Faces P f → StartGives P t → 4 < length a → RoundsAsks f P 0 (P * P) t a
-all_asks q s r = record { faces = q; order = omega arith; within = omega arith; going = s.going; small = s.small; told = s.told _; room = r }
+pub all_asks : {f : List ℕ} {P : ℕ} {t : State} {a : List ℕ} → Faces P f → StartGives t → 4 < length a → RoundsAsks f P 0 (P * P) t a
+all_asks q s r = record { faces = q; order = omega arith; within = omega arith; small = s.small; upto = s.upto _ _; room = r }
 
 -- before the first
 pub begin : {f : List ℕ} {P from top : ℕ} {t : State} {a : List ℕ} → RoundsAsks f P from top t a → Going f P top a (length a) a from t
-begin p = record { size_is = refl; long = refl; within = p.order; going = p.going; small = p.small; upto = p.told.going p.going }
+begin p = record { size_is = refl; long = refl; within = p.order; small = p.small; upto = p.upto }
 
 module _ {f : List ℕ} {P low top : ℕ} {t₀ : State} {a₀ : List ℕ} {size : ℕ} {a : List ℕ} {from : ℕ} {t : State} (p : RoundsAsks f P low top t₀ a₀) (w : Going f P top a₀ size a from t) where
   -- after the last
-  pub done : top ≤ from → RoundsGives f P top t
+  pub done : top ≤ from → RoundsGives f P top (Ok t)
   done h =
       let l = w.within in
       let e : from ≡ top = omega arith in
-      record { small = rw e at w.small; told = record { going = λ z. rw e at w.upto; met = λ z. absurd (subst T (sym z ∙ w.going) tt) } }
+      record { small = rw e at w.small; told = rw e at w.upto }
 
   module _ (h : from < top) where
     -- the half entries of the next keys are gathered
@@ -175,7 +167,7 @@ module _ {f : List ℕ} {P low top : ℕ} {t₀ : State} {a₀ : List ℕ} {size
 
     module _ {a₁ : List ℕ} {n to : ℕ} (g : GatherGives f P from top a a₁ n to) where
       -- one key fills the buffer: its edge is crowded
-      pub full : n ≡ size → RoundsGives f P top (record { unique = t.unique; crowd = true; at = 0; begins = 0; ends = 0; bad = P })
+      pub full : n ≡ size → RoundsGives f P top (Err (CrowdedEdge t.unique))
       full e =
           let l = w.long in
           let s = w.size_is in
@@ -187,10 +179,11 @@ module _ {f : List ℕ} {P low top : ℕ} {t₀ : State} {a₀ : List ℕ} {size
           let many : 4 < halves f P (length f) (2 * from) + halves f P (length f) (2 * from + 1) = omega (arith, m.each (2 * from) (omega arith) (omega arith), m.each (2 * from + 1) (omega arith) (omega arith)) in
           let lower = is_lower p.faces key_in w.upto.calm many in
           record {
-            small = record { unique = omega (arith, w.small.unique); begins = omega arith; ends = omega arith };
+            small = tt;
             told = record {
-              going = λ z. absurd (subst T z tt);
-              met = λ z. record { key = from; within = key_in; calm = w.upto.calm; lower = lower; many = lower_many p.faces key_in w.upto.calm many lower; counted = w.upto.counted };
+              unique = t.unique;
+              is = refl;
+              crowded = record { key = from; within = key_in; calm = w.upto.calm; lower = lower; many = lower_many p.faces key_in w.upto.calm many lower; counted = w.upto.counted };
             };
           }
 
@@ -209,23 +202,17 @@ module _ {f : List ℕ} {P low top : ℕ} {t₀ : State} {a₀ : List ℕ} {size
             let m = less in
             record { fit = omega arith; points = points P from key_in; top = omega arith; order = omega arith; inside = g.holding.inside; small = w.small }
 
-        module _ {a₂ : List ℕ} {r : State} (k : WalkGives a₁ 0 n from to P t a₂ r) where
-          -- the keys before `to` are passed
-          told : Told (halves f P (length f)) P to r
-          told = k.told (halves f P (length f)) (g.counts less) (record { going = λ z. w.upto; met = λ z. absurd (subst T (sym z ∙ w.going) tt) })
+        -- a crowded edge ends the loop
+        pub crowd : {a₂ : List ℕ} {e : Refusal} → WalkGives a₁ 0 n from to P t a₂ (Err e) → RoundsGives f P top (Err e)
+        crowd k = record { small = tt; told = k.told (halves f P (length f)) (g.counts less) w.upto }
 
-          -- a crowded edge ends the loop
-          pub crowd : r.crowd ≡ true → RoundsGives f P top r
-          crowd e = record { small = small_more g.holding.within k.small; told = crowd_told e told }
-
-          -- else it goes on
-          pub again : r.crowd ≡ false → Going f P top a₀ size a₂ to r
-          again e =
-              record {
-                size_is = w.size_is;
-                long = k.only.long ∙ g.holding.long ∙ w.long;
-                within = g.holding.within;
-                going = e;
-                small = k.small;
-                upto = told.going e;
-              }
+        -- else it goes on
+        pub again : {a₂ : List ℕ} {r : State} → WalkGives a₁ 0 n from to P t a₂ (Ok r) → Going f P top a₀ size a₂ to r
+        again k =
+            record {
+              size_is = w.size_is;
+              long = k.only.long ∙ g.holding.long ∙ w.long;
+              within = g.holding.within;
+              small = k.small;
+              upto = k.told (halves f P (length f)) (g.counts less) w.upto;
+            }

@@ -7,7 +7,9 @@ use native.Mathlib.Omega.{arith}
 use native.Mathlib.Decide.{ℕ_discrete}
 use borrow.Author.Tests.{eq-eqb, ne_eqb, lt-ltb, le-ltb}
 use lib.Dec.{leb, ltb}
-use Rattle.halves.specs.Scan.{one, users_of, out_of, into_of, users_at, edge_at, edges_to, beginsTo, endsTo, Calm, Upto, Crowded}
+use Rattle.std.specs.Prelude.{Option, Some, None}
+use Rattle.halves.specs.declared.State.{State}
+use Rattle.halves.specs.Scan.{one, users_of, out_of, into_of, users_at, edge_at, edges_to, beginsTo, endsTo, Calm, Judged, Upto, Crowded}
 use Rattle.halves.proofs.Weights.{users_same, users_other, out_none, into_none, one_false, crowds_not, crowds_lower, crowds_many}
 
 module _ (c : ℕ → ℕ) (P k : ℕ) where
@@ -83,9 +85,20 @@ module _ (c : ℕ → ℕ) (P k : ℕ) where
       go j l q (yes e) = rw e (h (rw e at q))
       go j l q (no e) = t.few j (omega arith) q
 
-module _ {c : ℕ → ℕ} {P k unique at begins ends bad : ℕ} (t : Upto c P k unique at begins ends bad) where
+-- what is known of the vertices stays where what they begin and end does
+judged_same : (c : ℕ → ℕ) (P k l at : ℕ) → ((w : ℕ) → w < at → beginsTo c P l w ≡ beginsTo c P k w) → ((w : ℕ) → w < at → endsTo c P l w ≡ endsTo c P k w) → (bad : Option ℕ) → Judged c P k at bad → Judged c P l at bad
+judged_same c P k l at b d None j = record { fair = λ w h. rw (b w h, d w h) (j.fair w h) }
+judged_same c P k l at b d (Some v) j =
+    let p = j.passed in
+    record {
+      passed = p;
+      before = record { fair = λ w h. let q = b w (omega arith) in let r = d w (omega arith) in rw (q, r) (j.before.fair w h) };
+      unfair = λ g. let q = b v p in let r = d v p in j.unfair (rw (q, r) at g);
+    }
+
+module _ {c : ℕ → ℕ} {P k : ℕ} {s : State} (t : Upto c P k s) where
   -- a key with no half entry
-  pub pass_none : c (2 * k) ≡ 0 → c (2 * k + 1) ≡ 0 → Upto c P (suc k) unique at begins ends bad
+  pub pass_none : c (2 * k) ≡ 0 → c (2 * k + 1) ≡ 0 → Upto c P (suc k) s
   pass_none e f =
       let b = begins_none c P k e f in
       let d = ends_none c P k e f in
@@ -95,19 +108,17 @@ module _ {c : ℕ → ℕ} {P k unique at begins ends bad : ℕ} (t : Upto c P k
         counted = omega (arith, edges_suc c P k, edge_none c P k (omega arith), t.counted);
         at_most = t.at_most;
         near = omega arith;
-        begun = t.begun ∙ sym (b at);
-        ended = t.ended ∙ sym (d at);
+        begun = t.begun ∙ sym (b s.at);
+        ended = t.ended ∙ sym (d s.at);
         none_begun = λ w h. b w ∙ t.none_begun w h;
         none_ended = λ w h. d w ∙ t.none_ended w h;
-        fair = λ w h q. rw (b w, d w) (t.fair w h q);
-        bad_at_most = t.bad_at_most;
-        unfair = λ h. ((t.unfair h).0, λ g. (t.unfair h).1 (rw (b bad, d bad) at g));
+        judged = judged_same c P k (suc k) s.at (λ w h. b w) (λ w h. d w) s.bad t.judged;
       }
 
   -- a key with n half entries, of which b are even
-  module _ {n b : ℕ} (even : b ≡ c (2 * k)) (odd : n ≡ b + c (2 * k + 1)) (some : 0 < n) (here : at ≡ k / P) where
+  module _ {n b : ℕ} (even : b ≡ c (2 * k)) (odd : n ≡ b + c (2 * k + 1)) (some : 0 < n) (here : s.at ≡ k / P) where
     -- it is not crowded
-    pub pass : (leb (k / P) (k % P) && ltb 2 (users_of (k / P) (k % P) n b)) ≡ false → Upto c P (suc k) (unique + one (leb (k / P) (k % P))) at (begins + out_of (users_of (k / P) (k % P) n b) b) (ends + into_of (k / P) (k % P) (users_of (k / P) (k % P) n b) (n - b)) bad
+    pub pass : (leb (k / P) (k % P) && ltb 2 (users_of (k / P) (k % P) n b)) ≡ false → Upto c P (suc k) (record { unique = s.unique + one (leb (k / P) (k % P)); at = s.at; begins = s.begins + out_of (users_of (k / P) (k % P) n b) b; ends = s.ends + into_of (k / P) (k % P) (users_of (k / P) (k % P) n b) (n - b); bad = s.bad })
     pass e =
         let u = users_at_is c P k n b even odd in
         let m = t.near in
@@ -117,19 +128,15 @@ module _ {c : ℕ → ℕ} {P k unique at begins ends bad : ℕ} (t : Upto c P k
           counted = omega (arith, edges_suc c P k, edge_some c P k (omega arith), t.counted);
           at_most = t.at_most;
           near = omega arith;
-          begun = rw (begins_same c P k at (sym here), u, ← even, ← t.begun);
-          ended = rw (ends_same c P k at (sym here), u, z, ← t.ended);
+          begun = rw (begins_same c P k s.at (sym here), u, ← even, ← t.begun);
+          ended = rw (ends_same c P k s.at (sym here), u, z, ← t.ended);
           none_begun = λ w h. begins_other c P k w (λ x. omega arith) ∙ t.none_begun w h;
           none_ended = λ w h. ends_other c P k w (λ x. omega arith) ∙ t.none_ended w h;
-          fair = λ w h q. rw (begins_other c P k w (λ x. omega arith), ends_other c P k w (λ x. omega arith)) (t.fair w h q);
-          bad_at_most = t.bad_at_most;
-          unfair = λ h.
-              let q = (t.unfair h).0 in
-              (q, λ g. (t.unfair h).1 (rw (begins_other c P k bad (λ x. omega arith), ends_other c P k bad (λ x. omega arith)) at g));
+          judged = judged_same c P k (suc k) s.at (λ w h. begins_other c P k w (λ x. omega arith)) (λ w h. ends_other c P k w (λ x. omega arith)) s.bad t.judged;
         }
 
     -- it is
-    pub meet : k < P * P → (leb (k / P) (k % P) && ltb 2 (users_of (k / P) (k % P) n b)) ≡ true → Crowded c P unique
+    pub meet : k < P * P → (leb (k / P) (k % P) && ltb 2 (users_of (k / P) (k % P) n b)) ≡ true → Crowded c P s.unique
     meet w e =
         record {
           key = k;
@@ -141,7 +148,7 @@ module _ {c : ℕ → ℕ} {P k unique at begins ends bad : ℕ} (t : Upto c P k
         }
 
 -- d keys with none
-pub pass_many : {c : ℕ → ℕ} {P k unique at begins ends bad : ℕ} (d : ℕ) → Upto c P k unique at begins ends bad → ((j : ℕ) → k ≤ j → j < k + d → (c (2 * j) ≡ 0) × (c (2 * j + 1) ≡ 0)) → Upto c P (k + d) unique at begins ends bad
+pub pass_many : {c : ℕ → ℕ} {P k : ℕ} {s : State} (d : ℕ) → Upto c P k s → ((j : ℕ) → k ≤ j → j < k + d → (c (2 * j) ≡ 0) × (c (2 * j + 1) ≡ 0)) → Upto c P (k + d) s
 pass_many {c} {P} {k} zero t h = rw (add-zero) t
 pass_many {c} {P} {k} (suc d) t h =
     let z = h (k + d) (omega arith) (omega arith) in

@@ -1,39 +1,41 @@
 -- The walk over one buffer of half entries: where it stops, where all keys are one, and where it goes through two halves. Assumes nothing.
-use mathlib.Core.Path.{◌≡◌, sym, ap, subst, ◌∙◌}
-use mathlib.Core.Bool.{true, false}
+use mathlib.Core.Path.{◌≡◌, sym, ap, ◌∙◌}
 use mathlib.Core.List.{List}
 use Prim.Native.Nat.{ℕ, ◌+◌, ◌-◌, ◌*◌, ◌/◌, ◌≤◌, ◌<◌, ◌^◌}
 use native.Mathlib.Nat.{add_assoc}
 use native.Mathlib.Omega.{arith}
 use native.Mathlib.Decide.{dec_lt}
-use lib.Dec.{T}
 use lib.ListN.{get_or}
 use Rattle.rows.specs.Region.{Apart.after}
 use Rattle.rows.proofs.Regions.{only_none, only_both, only_more, kept_at}
+use Rattle.std.specs.Prelude.{Result, Ok, Err}
+use Rattle.refuse.specs.declared.Refusal.{Refusal}
 use Rattle.halves.specs.declared.State.{State}
 use Rattle.halves.specs.Split.{tally, SplitGives, SpanGives, EvensGives}
-use Rattle.halves.specs.Scan.{Upto, Told, Small, VisitAsks, VisitGives}
+use Rattle.halves.specs.Scan.{Upto, Told, Small, SmallIn, VisitAsks, VisitGives}
 use Rattle.halves.specs.Walk.{Counts, Inside, WalkAsks, WalkGives}
 use Rattle.halves.proofs.Tallies.{tally_none, tally_some, tally_add, tally_kept, tally_zero}
 use Rattle.halves.proofs.Scanning.{pass_many}
 
 -- keys with no half entry, from from up to to
-blank : {c : ℕ → ℕ} {P unique at begins ends bad : ℕ} (from to : ℕ) → from ≤ to → ((j : ℕ) → from ≤ j → j < to → (c (2 * j) ≡ 0) × (c (2 * j + 1) ≡ 0)) → Upto c P from unique at begins ends bad → Upto c P to unique at begins ends bad
+pub blank : {c : ℕ → ℕ} {P : ℕ} {s : State} (from to : ℕ) → from ≤ to → ((j : ℕ) → from ≤ j → j < to → (c (2 * j) ≡ 0) × (c (2 * j + 1) ≡ 0)) → Upto c P from s → Upto c P to s
 blank from to l h t =
     let e : from + (to - from) ≡ to = omega arith in
     rw e at (pass_many (to - from) t (λ j p q. h j p (omega arith)))
 
 -- whether or not a crowded edge was met
-pub blank_told : {c : ℕ → ℕ} {P : ℕ} {t : State} (from to : ℕ) → from ≤ to → ((j : ℕ) → from ≤ j → j < to → (c (2 * j) ≡ 0) × (c (2 * j + 1) ≡ 0)) → Told c P from t → Told c P to t
-blank_told from to l h w = record { going = λ z. blank from to l h (w.going z); met = w.met }
-
--- a crowded edge is met once for all
-pub crowd_told : {c : ℕ → ℕ} {P from to : ℕ} {t : State} → t.crowd ≡ true → Told c P from t → Told c P to t
-crowd_told e w = record { going = λ z. absurd (subst T (sym e ∙ z) tt); met = w.met }
+pub blank_told : (c : ℕ → ℕ) (P : ℕ) (r : Result State Refusal) (from to : ℕ) → from ≤ to → ((j : ℕ) → from ≤ j → j < to → (c (2 * j) ≡ 0) × (c (2 * j + 1) ≡ 0)) → Told c P from r → Told c P to r
+blank_told c P (Ok s) from to l h w = blank from to l h w
+blank_told c P (Err e) from to l h w = w
 
 -- a bound may be larger
 pub small_more : {t : State} {k l : ℕ} → k ≤ l → Small k t → Small l t
 small_more h s = record { unique = omega (arith, s.unique); begins = omega (arith, s.begins); ends = omega (arith, s.ends) }
+
+-- so where the scan goes on
+pub small_in_more : (r : Result State Refusal) {k l : ℕ} → k ≤ l → SmallIn k r → SmallIn l r
+small_in_more (Ok t) h s = small_more h s
+small_in_more (Err e) h s = tt
 
 -- what is inside stays so where no value is gained
 pub inside_same : (a b : List ℕ) (s n from to : ℕ) → ((x : ℕ) → tally b s n x ≡ tally a s n x) → Inside a s n from to → Inside b s n from to
@@ -71,22 +73,13 @@ module _ {a : List ℕ} {s n mid : ℕ} {a₁ : List ℕ} {m : ℕ} (g : SplitGi
       omega (arith, tally_add a₁ s m (n - m) x, ap (λ (v : ℕ). tally a₁ s v x) e, g.same x)
 
 module _ {a : List ℕ} {s n from to P : ℕ} {t : State} (p : WalkAsks a s n from to P t) where
-  -- a crowded edge was met
-  pub stop : t.crowd ≡ true → WalkGives a s n from to P t a t
-  stop e =
-      record {
-        only = only_none _ _ _;
-        small = small_more p.order p.small;
-        told = λ c q w. crowd_told e w;
-      }
-
   -- there is no half entry
-  pub empty : n ≡ 0 → WalkGives a s n from to P t a t
+  pub empty : n ≡ 0 → WalkGives a s n from to P t a (Ok t)
   empty e =
       record {
         only = only_none _ _ _;
         small = small_more p.order p.small;
-        told = λ c q w. blank_told from to p.order (λ j l r. (none c q (2 * j) (omega arith) (omega arith), none c q (2 * j + 1) (omega arith) (omega arith))) w;
+        told = λ c q w. blank from to p.order (λ j l r. (none c q (2 * j) (omega arith) (omega arith), none c q (2 * j + 1) (omega arith) (omega arith))) w;
       }
     where
       none : (c : ℕ → ℕ) → Counts c a s n from to → (x : ℕ) → from ≤ x / 2 → x / 2 < to → c x ≡ 0
@@ -111,24 +104,24 @@ module _ {a : List ℕ} {s n from to P : ℕ} {t : State} (p : WalkAsks a s n fr
       each i h = let x = q.each_low i h in let y = q.each_high i h in omega arith
 
       -- it is taken in
-      pub visit_asks : to < 2 ^ 64 → t.crowd ≡ false → VisitAsks P low n b t
-      visit_asks h g =
+      pub visit_asks : to < 2 ^ 64 → VisitAsks P low n b t
+      visit_asks h =
           let x = high_in in
           let y = p.top in
-          record { points = p.points; below = omega arith; fits = omega arith; fewer = v.fewer; going = g; small = small_more low_in p.small }
+          record { points = p.points; below = omega arith; fits = omega arith; fewer = v.fewer; small = small_more low_in p.small }
 
       -- and the other keys have no half entry
-      pub leaf : {r : State} → VisitGives P low n b t r → WalkGives a s n from to P t a r
+      pub leaf : {r : Result State Refusal} → VisitGives P low n b t r → WalkGives a s n from to P t a r
       leaf {r} g =
           let x = high_in in
           let y = low_in in
           record {
             only = only_none _ _ _;
-            small = small_more (omega arith) g.small;
+            small = small_in_more r (omega arith) g.small;
             told = λ c m w.
-                blank_told (low + 1) to (omega arith) (λ j l k. (none c m j (2 * j) (omega arith) (omega arith) (omega arith) (omega arith), none c m j (2 * j + 1) (omega arith) (omega arith) (omega arith) (omega arith)))
+                blank_told c P r (low + 1) to (omega arith) (λ j l k. (none c m j (2 * j) (omega arith) (omega arith) (omega arith) (omega arith), none c m j (2 * j + 1) (omega arith) (omega arith) (omega arith) (omega arith)))
                 (g.told c (v.even low each ∙ m.each (2 * low) (omega arith) (omega arith)) (v.odd low each ∙ ap (λ (z : ℕ). b + z) (m.each (2 * low + 1) (omega arith) (omega arith))) (omega arith)
-                (blank_told from low y (λ j l k. (none c m j (2 * j) (omega arith) (omega arith) (omega arith) (omega arith), none c m j (2 * j + 1) (omega arith) (omega arith) (omega arith) (omega arith))) w));
+                (blank from low y (λ j l k. (none c m j (2 * j) (omega arith) (omega arith) (omega arith) (omega arith), none c m j (2 * j + 1) (omega arith) (omega arith) (omega arith) (omega arith))) w));
           }
         where
           none : (c : ℕ → ℕ) → Counts c a s n from to → (j x : ℕ) → x / 2 ≡ j → (j ≡ low → ⊥) → from ≤ j → j < to → c x ≡ 0
@@ -174,7 +167,17 @@ module _ {a : List ℕ} {s n from to P : ℕ} {t : State} (p : WalkAsks a s n fr
             small = p.small;
           }
 
-      module _ {a₂ : List ℕ} {t₁ : State} (w₁ : WalkGives a₁ s m from mid P t a₂ t₁) where
+      -- a crowded edge is met there
+      pub stopped : {a₂ : List ℕ} {e : Refusal} → WalkGives a₁ s m from mid P t a₂ (Err e) → WalkGives a s n from to P t a₂ (Err e)
+      stopped w₁ =
+          let fw = g.fewer in
+          record {
+            only = only_both g.only (only_more (omega arith) (omega arith) w₁.only);
+            small = tt;
+            told = λ c k w. let y = high_in in w₁.told c (record { each = λ z d e. split_first g z e ∙ k.each z d (omega arith) }) w;
+          }
+
+      module _ {a₂ : List ℕ} {t₁ : State} (w₁ : WalkGives a₁ s m from mid P t a₂ (Ok t₁)) where
         -- the upper part stands still
         at₂ : (i : ℕ) → i < n - m → get_or a₂ (s + m + i) 0 ≡ get_or a₁ (s + (m + i)) 0
         at₂ i k = kept_at w₁.only {b = s + m} {m = n - m} (after (omega arith)) i k ∙ ap (λ (v : ℕ). get_or a₁ v 0) (add_assoc s m i)
@@ -197,7 +200,7 @@ module _ {a : List ℕ} {s n from to P : ℕ} {t : State} (p : WalkAsks a s n fr
             }
 
         -- both parts are
-        pub both : {a₃ : List ℕ} {r : State} → WalkGives a₂ (s + m) (n - m) mid to P t₁ a₃ r → WalkGives a s n from to P t a₃ r
+        pub both : {a₃ : List ℕ} {r : Result State Refusal} → WalkGives a₂ (s + m) (n - m) mid to P t₁ a₃ r → WalkGives a s n from to P t a₃ r
         both w₂ =
             let x = high_in in
             let y = low_in in

@@ -1,9 +1,10 @@
 -- The half entries of a mesh's steps, and what the functions that gather those of a range of keys ask and give.
-use Rattle.std.specs.Prelude.{◌≡◌, cond, false, List, ℕ, zero, suc, ◌+◌, ◌-◌, ◌*◌, ◌/◌, ◌%◌, ◌≤◌, ◌<◌, ◌^◌, eqb, length, get_or}
+use Rattle.std.specs.Prelude.{◌≡◌, cond, Result, List, ℕ, zero, suc, ◌+◌, ◌-◌, ◌*◌, ◌/◌, ◌%◌, ◌≤◌, ◌<◌, ◌^◌, eqb, length, get_or}
 use Rattle.refuse.specs.Accepted.{Faces}
+use Rattle.refuse.specs.declared.Refusal.{Refusal}
 use Rattle.halves.specs.declared.State.{State}
 use Rattle.halves.specs.Split.{hit, tally}
-use Rattle.halves.specs.Scan.{Told, Small}
+use Rattle.halves.specs.Scan.{Upto, Told, Small, SmallIn}
 use Rattle.halves.specs.Walk.{Counts, Inside}
 
 -- the corner after corner i of the same face
@@ -77,17 +78,16 @@ pub record GatherGives (f : List ℕ) (P from top : ℕ) (a a' : List ℕ) (n to
   pub counts : n < length a → Counts (halves f P (length f)) a' 0 n from to
   pub most : AtMost (halves f P (length f)) a' n from to
 
--- keys from `from` up to `top`, those before them passed and none crowded, and such a buffer
+-- keys from `from` up to `top`, those before them passed, and such a buffer
 pub record RoundsAsks (f : List ℕ) (P from top : ℕ) (t : State) (a : List ℕ) : Type 0 where
   pub faces : Faces P f
   pub order : from ≤ top
   pub within : top ≤ P * P
-  pub going : t.crowd ≡ false
   pub small : Small from t
-  pub told : Told (halves f P (length f)) P from t
+  pub upto : Upto (halves f P (length f)) P from t
   pub room : 4 < length a
 
 -- the keys before `top` are passed
-pub record RoundsGives (f : List ℕ) (P top : ℕ) (r : State) : Type 0 where
-  pub small : Small top r
+pub record RoundsGives (f : List ℕ) (P top : ℕ) (r : Result State Refusal) : Type 0 where
+  pub small : SmallIn top r
   pub told : Told (halves f P (length f)) P top r

@@ -1,5 +1,7 @@
 -- The scan of keys in rising order. c x is how many half entries x there are; a key k is the pair (k / P, k % P) of a vertex and another end.
-use Rattle.std.specs.Prelude.{◌≡◌, Bool, true, false, cond, ◌&&◌, ℕ, zero, suc, ◌+◌, ◌*◌, ◌/◌, ◌%◌, ◌≤◌, ◌<◌, ◌^◌, eqb, leb, ltb}
+use Rattle.std.specs.Prelude.{◌≡◌, Option, Some, None, Result, Ok, Err, Bool, cond, ◌&&◌, ℕ, zero, suc, ◌+◌, ◌*◌, ◌/◌, ◌%◌, ◌≤◌, ◌<◌, ◌^◌, eqb, leb, ltb}
+use Rattle.refuse.specs.declared.Refusal.{Refusal}
+use Rattle.refuse.specs.declared.Refusal.TheVariants.{CrowdedEdge}
 use Rattle.halves.specs.declared.State.{State}
 
 -- 1 for true
@@ -51,19 +53,32 @@ pub record Fair (b e : ℕ) : Type 0 where
 pub record Calm (c : ℕ → ℕ) (P k : ℕ) : Type 0 where
   pub few : (j : ℕ) → j < k → j / P ≤ j % P → users_at c P j ≤ 2
 
+-- the vertices below `at` are fair
+pub record AllFair (c : ℕ → ℕ) (P k at : ℕ) : Type 0 where
+  pub fair : (w : ℕ) → w < at → Fair (beginsTo c P k w) (endsTo c P k w)
+
+-- v is the first of them that is not
+pub record Unfair (c : ℕ → ℕ) (P k at v : ℕ) : Type 0 where
+  pub passed : v < at
+  pub before : AllFair c P k v
+  pub unfair : Fair (beginsTo c P k v) (endsTo c P k v) → ⊥
+
+-- the first that is not, or none
+abbrev pub Judged : (ℕ → ℕ) → ℕ → ℕ → ℕ → Option ℕ → Type 0
+Judged c P k at (Some v) = Unfair c P k at v
+Judged c P k at None = AllFair c P k at
+
 -- what the scan knows when it has passed the keys below k
-pub record Upto (c : ℕ → ℕ) (P k unique at begins ends bad : ℕ) : Type 0 where
+pub record Upto (c : ℕ → ℕ) (P k : ℕ) (t : State) : Type 0 where
   pub calm : Calm c P k
-  pub counted : unique ≡ edges_to c P k
-  pub at_most : at ≤ P
-  pub near : at * P ≤ k
-  pub begun : begins ≡ beginsTo c P k at
-  pub ended : ends ≡ endsTo c P k at
-  pub none_begun : (w : ℕ) → at < w → beginsTo c P k w ≡ 0
-  pub none_ended : (w : ℕ) → at < w → endsTo c P k w ≡ 0
-  pub fair : (w : ℕ) → w < at → w < bad → Fair (beginsTo c P k w) (endsTo c P k w)
-  pub bad_at_most : bad ≤ P
-  pub unfair : bad < P → (bad < at) × (Fair (beginsTo c P k bad) (endsTo c P k bad) → ⊥)
+  pub counted : t.unique ≡ edges_to c P k
+  pub at_most : t.at ≤ P
+  pub near : t.at * P ≤ k
+  pub begun : t.begins ≡ beginsTo c P k t.at
+  pub ended : t.ends ≡ endsTo c P k t.at
+  pub none_begun : (w : ℕ) → t.at < w → beginsTo c P k w ≡ 0
+  pub none_ended : (w : ℕ) → t.at < w → endsTo c P k w ≡ 0
+  pub judged : Judged c P k t.at t.bad
 
 -- the key of the first crowded edge, of which so many edges stand before it
 pub record Crowded (c : ℕ → ℕ) (P unique : ℕ) : Type 0 where
@@ -74,10 +89,16 @@ pub record Crowded (c : ℕ → ℕ) (P unique : ℕ) : Type 0 where
   pub many : 2 < users_at c P key
   pub counted : unique ≡ edges_to c P key
 
+-- the refusal is 7 with its position
+pub record Met (c : ℕ → ℕ) (P : ℕ) (e : Refusal) : Type 0 where
+  pub unique : ℕ
+  pub is : e ≡ CrowdedEdge unique
+  pub crowded : Crowded c P unique
+
 -- the scan goes on, or it has met a crowded edge
-pub record Told (c : ℕ → ℕ) (P k : ℕ) (t : State) : Type 0 where
-  pub going : t.crowd ≡ false → Upto c P k t.unique t.at t.begins t.ends t.bad
-  pub met : t.crowd ≡ true → Crowded c P t.unique
+abbrev pub Told : (ℕ → ℕ) → ℕ → ℕ → Result State Refusal → Type 0
+Told c P k (Ok t) = Upto c P k t
+Told c P k (Err e) = Met c P e
 
 -- its numbers are at most k, so that none wraps
 pub record Small (k : ℕ) (t : State) : Type 0 where
@@ -85,31 +106,38 @@ pub record Small (k : ℕ) (t : State) : Type 0 where
   pub begins : t.begins ≤ k
   pub ends : t.ends ≤ k
 
+-- so where the scan goes on
+abbrev pub SmallIn : ℕ → Result State Refusal → Type 0
+SmallIn k (Ok t) = Small k t
+SmallIn k (Err e) = Unit {0}
+
 -- no key is passed
-pub record StartGives (P : ℕ) (t : State) : Type 0 where
-  pub going : t.crowd ≡ false
+pub record StartGives (t : State) : Type 0 where
   pub small : Small 0 t
-  pub told : (c : ℕ → ℕ) → Told c P 0 t
+  pub upto : (c : ℕ → ℕ) (P : ℕ) → Upto c P 0 t
+
+-- the vertex t.at is not fair, or it is
+abbrev pub FaultGives : State → Option ℕ → Type 0
+FaultGives t (Some v) = (v ≡ t.at) × (Fair t.begins t.ends → ⊥)
+FaultGives t None = Fair t.begins t.ends
 
 -- the vertex v is the next: the one before it is judged
-pub record CloseGives (P v : ℕ) (t r : State) : Type 0 where
-  pub crowd : r.crowd ≡ t.crowd
+pub record CloseGives (v : ℕ) (t r : State) : Type 0 where
   pub unique : r.unique ≡ t.unique
   pub at : r.at ≡ v
   pub begins : r.begins ≤ t.begins
   pub ends : r.ends ≤ t.ends
-  pub upto : (c : ℕ → ℕ) (k : ℕ) → v * P ≤ k → v ≤ P → t.at ≤ v → Upto c P k t.unique t.at t.begins t.ends t.bad → Upto c P k r.unique r.at r.begins r.ends r.bad
+  pub upto : (c : ℕ → ℕ) (P k : ℕ) → v * P ≤ k → v ≤ P → t.at ≤ v → Upto c P k t → Upto c P k r
 
--- a key with n half entries, b of them even; no crowded edge so far
+-- a key with n half entries, b of them even
 pub record VisitAsks (P k n b : ℕ) (t : State) : Type 0 where
   pub points : 0 < P
   pub below : k < P * P
   pub fits : k + 1 < 2 ^ 64
   pub fewer : b ≤ n
-  pub going : t.crowd ≡ false
   pub small : Small k t
 
 -- the key is passed
-pub record VisitGives (P k n b : ℕ) (t r : State) : Type 0 where
-  pub small : Small (k + 1) r
-  pub told : (c : ℕ → ℕ) → b ≡ c (2 * k) → n ≡ b + c (2 * k + 1) → 0 < n → Told c P k t → Told c P (k + 1) r
+pub record VisitGives (P k n b : ℕ) (t : State) (r : Result State Refusal) : Type 0 where
+  pub small : SmallIn (k + 1) r
+  pub told : (c : ℕ → ℕ) → b ≡ c (2 * k) → n ≡ b + c (2 * k + 1) → 0 < n → Upto c P k t → Told c P (k + 1) r

@@ -1,9 +1,10 @@
 -- What the walk over one buffer of half entries asks and gives.
-use Rattle.std.specs.Prelude.{◌≡◌, List, ℕ, ◌+◌, ◌*◌, ◌/◌, ◌≤◌, ◌<◌, length, get_or}
+use Rattle.std.specs.Prelude.{◌≡◌, Result, List, ℕ, ◌+◌, ◌*◌, ◌/◌, ◌≤◌, ◌<◌, length, get_or}
 use Rattle.rows.specs.Region.{Only}
+use Rattle.refuse.specs.declared.Refusal.{Refusal}
 use Rattle.halves.specs.declared.State.{State}
 use Rattle.halves.specs.Split.{tally}
-use Rattle.halves.specs.Scan.{Told, Small}
+use Rattle.halves.specs.Scan.{Upto, Told, Small, SmallIn}
 
 -- every half entry whose key is from from up to to stands in the region as often as c says
 pub record Counts (c : ℕ → ℕ) (a : List ℕ) (s n from to : ℕ) : Type 0 where
@@ -24,7 +25,7 @@ pub record WalkAsks (a : List ℕ) (s n from to P : ℕ) (t : State) : Type 0 wh
   pub small : Small from t
 
 -- the keys of the range are passed
-pub record WalkGives (a : List ℕ) (s n from to P : ℕ) (t : State) (a' : List ℕ) (r : State) : Type 0 where
+pub record WalkGives (a : List ℕ) (s n from to P : ℕ) (t : State) (a' : List ℕ) (r : Result State Refusal) : Type 0 where
   pub only : Only s n a a'
-  pub small : Small to r
-  pub told : (c : ℕ → ℕ) → Counts c a s n from to → Told c P from t → Told c P to r
+  pub small : SmallIn to r
+  pub told : (c : ℕ → ℕ) → Counts c a s n from to → Upto c P from t → Told c P to r

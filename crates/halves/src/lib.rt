@@ -6,15 +6,15 @@
 // as many ranges after each other as it takes.
 #![tactic(auto)]
 
-ghost use Rattle.std.specs.Prelude.{◌≡◌, ◌+◌, ◌*◌, ◌/◌, ◌%◌, ◌^◌, ◌≤◌, ◌<◌, min, max, true, false, ◌&&◌, leb, ltb, length};
+ghost use Rattle.std.specs.Prelude.{◌≡◌, ◌+◌, ◌*◌, ◌/◌, ◌%◌, ◌^◌, ◌≤◌, ◌<◌, ◌&&◌, leb, ltb, length};
 ghost use Rattle.halves.specs.Split.{SplitGives, SpanGives, EvensGives};
-ghost use Rattle.halves.specs.Scan.{one, users_of, out_of, into_of, StartGives, CloseGives, VisitAsks, VisitGives};
+ghost use Rattle.halves.specs.Scan.{one, users_of, out_of, into_of, StartGives, FaultGives, CloseGives, VisitAsks, VisitGives};
 ghost use Rattle.halves.specs.Walk.{WalkAsks, WalkGives};
 ghost use Rattle.halves.specs.Gather.{next_of, halves, ShrinkAsks, ShrinkGives, PutAsks, PutGives, BothAsks, BothGives, GatherAsks, GatherGives, RoundsAsks, RoundsGives};
 ghost use Rattle.refuse.specs.Accepted.{Faces};
 ghost use Rattle.halves.specs.Right.{Right, JudgeGives};
 
-use refuse::Verdict;
+use refuse::Refusal;
 
 // Of the n entries from `s` on puts those whose key is below `mid` first, and returns how many they are.
 fn split(buffer: &mut [u64], s: usize, n: usize, mid: u64) -> usize
@@ -33,28 +33,8 @@ fn split(buffer: &mut [u64], s: usize, n: usize, mid: u64) -> usize
     m
 }
 
-// The lesser of two numbers.
-pub fn lesser(x: u64, y: u64) -> u64
-    ensures { result ≡ min x y }
-{
-    if x < y {
-        return x;
-    }
-    y
-}
-
-// The greater of two numbers.
-fn greater(x: u64, y: u64) -> u64
-    ensures { result ≡ max x y }
-{
-    if x < y {
-        return y;
-    }
-    x
-}
-
 // The least and the greatest key of some entries.
-#[derive(Drop)]
+#[derive(Clone, Copy, Debug, PartialEq, Eq)]
 struct Reach {
     low: u64,
     high: u64,
@@ -69,13 +49,10 @@ fn span(buffer: &[u64], s: usize, n: usize) -> Reach
     let mut high = low;
     for i in 1..n {
         let k = buffer[s + i] / 2;
-        low = lesser(low, k);
-        high = greater(high, k);
+        low = low.min(k);
+        high = high.max(k);
     }
-    Reach {
-        low: low,
-        high: high,
-    }
+    Reach { low, high }
 }
 
 // How many of the n entries from `s` on are even: those that begin at their vertex.
@@ -92,54 +69,41 @@ fn evens(buffer: &[u64], s: usize, n: usize) -> usize
     b
 }
 
-// What is known of the keys that are passed: how many edges they have, whether one has more than two users, the last vertex, how many boundary
-// edges begin and end there, and the first vertex at fault, or P.
-#[derive(Drop)]
+// What is known of the keys that are passed, none of whose edges has more than two users: how many edges they have, the last vertex, how many
+// boundary edges begin and end there, and the first vertex before it that is at fault.
+#[derive(Clone, Copy, Debug, PartialEq, Eq)]
 pub struct State {
     pub unique: u64,
-    pub crowd: bool,
     pub at: u64,
     pub begins: u64,
     pub ends: u64,
-    pub bad: u64,
+    pub bad: Option<u64>,
+}
+
+// The vertex t.at, if it is at fault: it does not begin as many boundary edges as it ends, or more than one.
+fn fault(t: State) -> Option<u64>
+    ensures { FaultGives t result }
+{
+    if t.begins != t.ends || 1 < t.begins {
+        return Some(t.at);
+    }
+    None
 }
 
 // Judges the vertex t.at, whose keys are all passed, and goes on to v.
-fn close(points: u64, v: u64, t: State) -> State
-    ensures { CloseGives points v t result }
+fn close(v: u64, t: State) -> State
+    ensures { CloseGives v t result }
 {
     if v == t.at {
         return t;
     }
-    if t.bad == points {
-        if t.begins != t.ends {
-            return State {
-                unique: t.unique,
-                crowd: t.crowd,
-                at: v,
-                begins: 0,
-                ends: 0,
-                bad: t.at,
-            };
-        }
-        if 1 < t.begins {
-            return State {
-                unique: t.unique,
-                crowd: t.crowd,
-                at: v,
-                begins: 0,
-                ends: 0,
-                bad: t.at,
-            };
-        }
-    }
+    let bad = t.bad.or(fault(t));
     State {
         unique: t.unique,
-        crowd: t.crowd,
         at: v,
         begins: 0,
         ends: 0,
-        bad: t.bad,
+        bad,
     }
 }
 
@@ -147,10 +111,7 @@ fn close(points: u64, v: u64, t: State) -> State
 fn users_of(v: u64, u: u64, n: u64, b: u64) -> u64
     ensures { result ≡ users_of v u n b }
 {
-    if v == u {
-        return b;
-    }
-    n
+    if v == u { b } else { n }
 }
 
 // How many boundary edges begin at a vertex by a key with b even half entries.
@@ -190,42 +151,31 @@ fn lower(v: u64, u: u64) -> u64
 fn crowds(v: u64, u: u64, users: u64) -> bool
     ensures { result ≡ (leb v u && ltb 2 users) }
 {
-    if v <= u {
-        return 2 < users;
-    }
-    false
+    v <= u && 2 < users
 }
 
-// Takes in the key k, of which there are n half entries, b of them even.
-pub fn visit(points: u64, k: u64, n: u64, b: u64, t: State) -> State
+// Takes in the key k, of which there are n half entries, b of them even. An edge with more than two users is refused with its position.
+pub fn visit(points: u64, k: u64, n: u64, b: u64, t: State) -> Result<State, Refusal>
     requires { VisitAsks points k n b t }
     ensures { VisitGives points k n b t result }
 {
     let v = k / points;
     let u = k % points;
-    let o = close(points, v, t);
+    let o = close(v, t);
     let users = users_of(v, u, n, b);
     if crowds(v, u, users) {
-        return State {
-            unique: o.unique,
-            crowd: true,
-            at: v,
-            begins: 0,
-            ends: 0,
-            bad: o.bad,
-        };
+        return Err(Refusal::CrowdedEdge(o.unique as usize));
     }
     let l = lower(v, u);
     let x = out_of(users, b);
     let y = into_of(v, u, users, n - b);
-    State {
+    Ok(State {
         unique: o.unique + l,
-        crowd: false,
         at: o.at,
         begins: o.begins + x,
         ends: o.ends + y,
         bad: o.bad,
-    }
+    })
 }
 
 // Takes in all keys from `from` up to `to`, whose half entries are the n from `s` on: the range is halved until it has one key.
@@ -237,15 +187,12 @@ pub fn walk(
     to: u64,
     points: u64,
     t: State,
-) -> State
+) -> Result<State, Refusal>
     requires { WalkAsks buffer.old s n from to points t }
     ensures { WalkGives buffer.old s n from to points t buffer.new result }
 {
-    if t.crowd {
-        return t;
-    }
     if n == 0 {
-        return t;
+        return Ok(t);
     }
     let sp = span(buffer, s, n);
     let low = sp.low;
@@ -256,19 +203,13 @@ pub fn walk(
     }
     let mid = low + (high - low) / 2 + 1;
     let m = split(buffer, s, n, mid);
-    let t1 = walk(buffer, s, m, from, mid, points, t);
+    let t1 = walk(buffer, s, m, from, mid, points, t)?;
     walk(buffer, s + m, n - m, mid, to, points, t1)
 }
 
 // How many entries have a key below x.
 fn under(buffer: &[u64], x: u64) -> usize {
-    let mut c: usize = 0;
-    for i in 0..buffer.len() {
-        if buffer[i] / 2 < x {
-            c += 1;
-        }
-    }
-    c
+    buffer.iter().filter(|y| **y / 2 < x).count()
 }
 
 // A key between `from` and `to` that parts the entries into two heaps of some size, where there is one.
@@ -303,7 +244,7 @@ fn cut(buffer: &[u64], from: u64, to: u64) -> u64
 }
 
 // The n half entries at the buffer's front are all those of a range of keys, which ends before `to`.
-#[derive(Drop)]
+#[derive(Clone, Copy, Debug, PartialEq, Eq)]
 pub struct Got {
     pub to: u64,
     pub n: usize,
@@ -319,13 +260,13 @@ fn shrink(buffer: &mut [u64], from: u64, to: u64) -> Got
     let mut n = size;
     while n == size {
         if h == from + 1 {
-            return Got { to: h, n: n };
+            return Got { to: h, n };
         }
         let m = cut(buffer, from, h);
         n = split(buffer, 0, size, m);
         h = m;
     }
-    Got { to: h, n: n }
+    Got { to: h, n }
 }
 
 // Puts the half entry 2 * k + d into the buffer, if k is in the range.
@@ -333,15 +274,12 @@ fn put(buffer: &mut [u64], n: usize, from: u64, to: u64, k: u64, d: u64) -> Got
     requires { PutAsks buffer.old n from to k d }
     ensures { PutGives buffer.old n from to k d buffer.new result.n result.to }
 {
-    if k < from {
-        return Got { to: to, n: n };
-    }
-    if to <= k {
-        return Got { to: to, n: n };
+    if k < from || to <= k {
+        return Got { to, n };
     }
     buffer[n] = 2 * k + d;
     if n + 1 < buffer.len() {
-        return Got { to: to, n: n + 1 };
+        return Got { to, n: n + 1 };
     }
     shrink(buffer, from, to)
 }
@@ -387,23 +325,22 @@ fn gather(points: u64, faces: &[u32], from: u64, top: u64, buffer: &mut [u64]) -
         to = g.to;
         n = g.n;
         if n == size {
-            return Got { to: to, n: n };
+            return Got { to, n };
         }
     }
-    Got { to: to, n: n }
+    Got { to, n }
 }
 
 // What is known before the first key.
-pub fn start(points: u64) -> State
-    ensures { StartGives points result }
+pub fn start() -> State
+    ensures { StartGives result }
 {
     State {
         unique: 0,
-        crowd: false,
         at: 0,
         begins: 0,
         ends: 0,
-        bad: points,
+        bad: None,
     }
 }
 
@@ -415,7 +352,7 @@ pub fn rounds(
     top: u64,
     t: State,
     buffer: &mut [u64],
-) -> State
+) -> Result<State, Refusal>
     requires { RoundsAsks faces.now points from top t buffer.old }
     ensures { RoundsGives faces.now points top result }
 {
@@ -427,45 +364,32 @@ pub fn rounds(
         let n = g.n;
         let to = g.to;
         if n == size {
-            return State {
-                unique: s.unique,
-                crowd: true,
-                at: 0,
-                begins: 0,
-                ends: 0,
-                bad: points,
-            };
+            return Err(Refusal::CrowdedEdge(s.unique as usize));
         }
-        s = walk(buffer, 0, n, low, to, points, s);
-        if s.crowd {
-            return s;
-        }
+        s = walk(buffer, 0, n, low, to, points, s)?;
         low = to;
     }
-    s
+    Ok(s)
 }
 
 // The verdict when all keys are passed.
-pub fn judge(points: u64, t: State) -> Verdict
+pub fn judge(points: u64, t: State) -> Result<(), Refusal>
     ensures { JudgeGives points t result }
 {
-    if t.crowd {
-        return Verdict::Refused(7, t.unique as usize);
+    let o = close(points, t);
+    match o.bad {
+        Some(v) => Err(Refusal::BadBoundary(v as usize)),
+        None => Ok(()),
     }
-    let o = close(points, points, t);
-    if o.bad < points {
-        return Verdict::Refused(8, o.bad as usize);
-    }
-    Verdict::Fine
 }
 
 // The verdict of the edge call on 7 and 8, with a buffer of 32 KB.
-pub fn decide(points: u64, faces: &[u32]) -> Verdict
+pub fn decide(points: u64, faces: &[u32]) -> Result<(), Refusal>
     requires { Faces points faces.now }
     ensures { Right (halves faces.now points (length faces.now)) points result }
 {
     let mut buffer = [0u64; 4096];
-    let s = start(points);
-    let t = rounds(points, faces, 0, points * points, s, &mut buffer);
+    let s = start();
+    let t = rounds(points, faces, 0, points * points, s, &mut buffer)?;
     judge(points, t)
 }

@@ -1,7 +1,7 @@
 -- `halves::gather` meets its contract. The invariant: the buffer holds the half entries of the first i steps with keys from `from` up to `to`. Assumes nothing.
 use mathlib.Core.Path.{◌≡◌}
 use mathlib.Core.List.{List}
-use Prim.Native.Nat.{ℕ, ◌-◌, ◌≤◌, ◌<◌}
+use Prim.Native.Nat.{ℕ, ◌≤◌, ◌<◌}
 use lib.ListN.{length}
 use Rattle.halves.specs.Walk.{Counts}
 use Rattle.halves.specs.Gather.{halves, Holding}

@@ -1,14 +1,12 @@
 -- `halves::put` meets its contract. Assumes nothing.
 use mathlib.Core.Path.{◌∙◌}
+use mathlib.Core.Logic.{inl, inr}
 use lib.ListN.{length-set}
 use Rattle.halves.proofs.Gathering.{put_low, put_high, put_more, shrink_asks, put_shrunk}
 use Rattle.halves.proofs.put.Goals as goal
 
 pub returns-then-k-from : goal.returns-then-k-from
-returns-then-k-from c = put_low c.requires c.if-k-from.true
-
-pub returns-then-to-k : goal.returns-then-to-k
-returns-then-to-k c = put_high c.requires c.if-to-k.true
+returns-then-k-from c = elim c.then-k-from.either [ inl h ↦ put_low c.requires h | inr h ↦ put_high c.requires h.1 ]
 
 pub returns-then-n-buffer : goal.returns-then-n-buffer
 returns-then-n-buffer c = put_more c.requires c.if-k-from.false c.if-to-k.false c.if-n-buffer.true

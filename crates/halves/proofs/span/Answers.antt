@@ -1,7 +1,7 @@
 -- `halves::span` meets its contract. Assumes nothing.
 use mathlib.Core.Path.{◌≡◌}
 use mathlib.Core.List.{List}
-use Prim.Native.Nat.{ℕ, ◌+◌, ◌-◌, ◌/◌, ◌≤◌, ◌<◌, min, max}
+use Prim.Native.Nat.{ℕ, ◌+◌, ◌/◌, ◌≤◌, ◌<◌, min, max}
 use native.Mathlib.Omega.{arith}
 use native.Mathlib.Decide.{ℕ_discrete}
 use lib.ListN.{length, get_or}
@@ -58,7 +58,7 @@ pub bounds-buffer-s-in-loop-i : goal.bounds-buffer-s-in-loop-i
 bounds-buffer-s-in-loop-i c = omega (arith, c.requires.0, c.loop-i-test.true)
 
 pub loop-i-preserved : goal.loop-i-preserved
-loop-i-preserved c = again c.requires c.loop-i.invariant c.loop-i-test.true c.lesser-low.ensures c.greater-high.ensures
+loop-i-preserved c = again c.requires c.loop-i.invariant c.loop-i-test.true c.min-low.ensures c.max-high.ensures
 
 pub returns : goal.returns
 returns c = done c.requires c.loop-i.invariant c.loop-i-test.false

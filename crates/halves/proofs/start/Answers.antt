@@ -3,4 +3,4 @@ use Rattle.halves.proofs.Ranges.{started}
 use Rattle.halves.proofs.start.Goals as goal
 
 pub returns : goal.returns
-returns c = started _
+returns c = started

@@ -6,5 +6,5 @@ use Rattle.halves.proofs.users_of.Goals as goal
 pub returns-then-v-u : goal.returns-then-v-u
 returns-then-v-u c = sym (users_same c.args.v c.args.u c.args.n c.args.b c.if-v-u.true)
 
-pub returns : goal.returns
-returns c = sym (users_other c.args.v c.args.u c.args.n c.args.b c.if-v-u.false)
+pub returns-else-v-u : goal.returns-else-v-u
+returns-else-v-u c = sym (users_other c.args.v c.args.u c.args.n c.args.b c.if-v-u.false)

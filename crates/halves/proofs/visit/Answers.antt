@@ -1,24 +1,25 @@
 -- `halves::visit` meets its contract. Assumes nothing.
-use mathlib.Core.Path.{◌≡◌, sym, ap, subst, ◌∙◌}
+use mathlib.Core.Path.{◌≡◌, refl, sym, ap, ◌∙◌}
 use mathlib.Core.Bool.{Bool, true, false, ◌&&◌}
 use Prim.Native.Nat.{ℕ, ◌+◌, ◌-◌, ◌/◌, ◌%◌, ◌≤◌, ◌<◌}
 use native.Mathlib.Nat.{div-mul-le_self, le-div_iff_mul-le, div-lt_iff_lt-mul}
 use native.Mathlib.Omega.{arith}
 use native.Mathlib.Numerals.{add-one}
-use lib.Dec.{T, leb, ltb}
+use lib.Dec.{leb, ltb}
+use Rattle.std.specs.Prelude.{Ok, Err}
+use Rattle.refuse.specs.declared.Refusal.TheVariants.{CrowdedEdge}
 use Rattle.halves.specs.declared.State.{State}
-use Rattle.halves.specs.Scan.{one, users_of, out_of, into_of, Upto, Told, CloseGives, VisitAsks, VisitGives}
+use Rattle.halves.specs.Scan.{one, users_of, out_of, into_of, Upto, CloseGives, VisitAsks, VisitGives}
 use Rattle.halves.proofs.Weights.{one_most, out_most, into_most}
 use Rattle.halves.proofs.Scanning.{pass, meet}
 use Rattle.halves.proofs.visit.Goals as goal
 
-module _ {P k n b : ℕ} {t o : State} (p : VisitAsks P k n b t) (q : CloseGives P (k / P) t o) where
+module _ {P k n b : ℕ} {t o : State} (p : VisitAsks P k n b t) (q : CloseGives (k / P) t o) where
   -- what is known when the vertex is the next
-  prior : (c : ℕ → ℕ) → Told c P k t → Upto c P k o.unique o.at o.begins o.ends o.bad
-  prior c w =
-      let u = w.going p.going in
+  prior : (c : ℕ → ℕ) → Upto c P k t → Upto c P k o
+  prior c u =
       let l : k / P < P = (div-lt_iff_lt-mul p.points).1 p.below in
-      q.upto c k (div-mul-le_self k P) (omega arith) ((le-div_iff_mul-le p.points).1 u.near) u
+      q.upto c P k (div-mul-le_self k P) (omega arith) ((le-div_iff_mul-le p.points).1 u.near) u
 
   module _ {users : ℕ} {r : Bool} (eu : users ≡ users_of (k / P) (k % P) n b) (er : r ≡ (leb (k / P) (k % P) && ltb 2 users)) where
     -- the test of a crowded edge
@@ -26,13 +27,11 @@ module _ {P k n b : ℕ} {t o : State} (p : VisitAsks P k n b t) (q : CloseGives
     test z e = rw (← eu) (sym er ∙ e)
 
     -- it is met
-    met : r ≡ true → VisitGives P k n b t (record { unique = o.unique; crowd = true; at = k / P; begins = 0; ends = 0; bad = o.bad })
+    met : r ≡ true → VisitGives P k n b t (Err (CrowdedEdge o.unique))
     met e =
-        let s = p.small in
-        let u = q.unique in
         record {
-          small = record { unique = omega (arith, s.unique); begins = omega arith; ends = omega arith };
-          told = λ c even odd some w. record { going = λ x. absurd (subst T x tt); met = λ x. meet (prior c w) even odd some q.at p.below (test true e) };
+          small = tt;
+          told = λ c even odd some w. record { unique = o.unique; is = refl; crowded = meet (prior c w) even odd some q.at p.below (test true e) };
         }
 
     module _ {l x y : ℕ} (el : l ≡ one (leb (k / P) (k % P))) (ex : x ≡ out_of users b) (ey : y ≡ into_of (k / P) (k % P) users (n - b)) where
@@ -49,15 +48,11 @@ module _ {P k n b : ℕ} {t o : State} (p : VisitAsks P k n b t) (q : CloseGives
       ends_fits = let s = p.small.ends in let u = q.ends in omega (arith, into_most (k / P) (k % P) n b p.fewer, ap (λ (z : ℕ). into_of (k / P) (k % P) z (n - b)) eu)
 
       -- the key is passed
-      on : r ≡ false → VisitGives P k n b t (record { unique = o.unique + l; crowd = false; at = o.at; begins = o.begins + x; ends = o.ends + y; bad = o.bad })
+      on : r ≡ false → VisitGives P k n b t (Ok (record { unique = o.unique + l; at = o.at; begins = o.begins + x; ends = o.ends + y; bad = o.bad }))
       on e =
           record {
             small = record { unique = unique_fits; begins = begins_fits; ends = ends_fits };
-            told = λ c even odd some w.
-                record {
-                  going = λ z. rw (add-one k, el, ex, ey, eu) (pass (prior c w) even odd some q.at (test false e));
-                  met = λ z. absurd (subst T (sym z) tt);
-                };
+            told = λ c even odd some w. rw (add-one k, el, ex, ey, eu) (pass (prior c w) even odd some q.at (test false e));
           }
 
 pub returns-then-crowds : goal.returns-then-crowds

@@ -44,7 +44,7 @@ pub fn apply_list(
     let mended = apply_lines::apply_lines(points, faces, text, out_points, out_faces, work);
     let a = 3 * mended.points;
     let b = 3 * mended.faces;
-    wiping::wipe_points(out_points, a, 3 * (p + 3 * n) - a);
+    wiping::wipe(out_points, a, 3 * (p + 3 * n) - a);
     wiping::wipe(out_faces, b, 3 * n - b);
     wiping::wipe(work, 0, 16 * p + 64 * n + 64);
     Applied::Done(a, b)

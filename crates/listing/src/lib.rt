@@ -43,7 +43,7 @@ pub fn list_lengths(points: &[f64], faces: &[u32], edges: &[u32], m: usize, leng
     ensures { ListLengthsGives points.now faces.now lengths.old lengths.new }
 {
     put_lengths(points, edges, m, lengths);
-    wiping::wipe_points(lengths, m, faces.len() - m);
+    wiping::wipe(lengths, m, faces.len() - m);
 }
 
 // Lists for each face the positions of its edges (1,2), (2,0), (0,1) among the unique edges: the runs of its steps 1, 2 and 0.

@@ -77,7 +77,7 @@ pub fn repair(
     let f = mended.faces;
     let b = 3 * f;
     let counts = mended.report;
-    wiping::wipe_points(out_points, a, 3 * (p + 3 * n) - a);
+    wiping::wipe(out_points, a, 3 * (p + 3 * n) - a);
     wiping::wipe(out_faces, b, 3 * n - b);
     write_report(report, counts);
     wiping::wipe(origins, f, n - f);

@@ -122,7 +122,7 @@ pub fn repair_panel(
     let b = at.triples;
     let c = at.counts;
     let d = at.origins;
-    wiping::wipe_points(out_points, a, 3 * (p + 3 * f) - a);
+    wiping::wipe(out_points, a, 3 * (p + 3 * f) - a);
     wiping::wipe(out_faces, b, 3 * f - b);
     wiping::wipe(report, c, rules::COUNTS * m - c);
     wiping::wipe(origins, d, f - d);

@@ -90,7 +90,7 @@ fn wiped_points(rt: &impl Print, points: &mut [f64]) -> io::Result<()>
     requires { length points.old ≡ 7 }
 {
     show_points(rt, points)?;
-    wiping::wipe_points(points, 1, 5);
+    wiping::wipe(points, 1, 5);
     show_points(rt, points)
 }
 

@@ -1,15 +1,18 @@
 -- What one entry more, or a region more, says of the bits of a region, and what one block more leaves of it. Assumes nothing.
-use mathlib.Core.Path.{◌≡◌, refl, ap, ◌∙◌, subst}
+use mathlib.Core.Path.{◌≡◌, refl, sym, ap, ◌∙◌, subst}
+use mathlib.Core.Bool.{Bool, true, false, not, true≢false}
 use mathlib.Core.List.{List}
 use Prim.Native.Nat.{ℕ, ◌+◌, ◌-◌, ◌*◌, ◌/◌, ◌≤◌, ◌<◌}
 use native.Mathlib.Omega.{arith}
 use native.Mathlib.Decide.{dec_lt}
 use borrow.Author.Count.{below_more}
 use lib.ListN.{length, get_or}
+use lib.Dec.{T, eqb, eqb→eq}
+use Rattle.std.proofs.lemmas.List.{get_or_read}
 use lib.Bits.{bit_or, or_zero_l, or_add_and, and_le_l, and_le_r}
 use Rattle.rows.specs.Region.{OnlyOf, HoldsOf, Apart.before}
 use Rattle.rows.proofs.Regions.{only_none, only_both, only_more, holds_none, holds_kept}
-use Rattle.wiping.specs.Blocks.{BlockGives, Tells, AnyGives}
+use Rattle.wiping.specs.Blocks.{BlockGives, Tells, AnyGives, SomeGives}
 
 -- ---- the bits of a region
 
@@ -23,9 +26,9 @@ or_right x y e = omega (arith, or_add_and x y, and_le_l x y, and_le_r x y)
 or_none : {x y : ℕ} → x ≡ 0 → y ≡ 0 → bit_or x y ≡ 0
 or_none {x} {y} e f = ap (λ (a : ℕ). bit_or a y) e ∙ or_zero_l y ∙ f
 
--- a number's bits are itself
-pub itself : (x : ℕ) → Tells 0 x x
-itself x = record { clean = λ e. e; none = λ e. e }
+-- what a read gave tells of the entry
+pub read_tells : {A : Type 0} (w : List A) (d : A) {z x : A} {j r : ℕ} → j < length w → x ≡ get_or w j x → Tells z x r → Tells z (get_or w j d) r
+read_tells {A} w d {z} {x} {j} {r} h e t = subst (λ y. Tells z y r) (get_or_read w j x h e d) t
 
 -- no entry has no bits
 pub any_none : {A : Type 0} {d z : A} (w : List A) (from : ℕ) → AnyGives d z w from 0 0
@@ -98,6 +101,21 @@ pub any_rest : {A : Type 0} {d z : A} {w : List A} {from n x y : ℕ} → AnyGiv
 any_rest {A} {d} {z} {w} {from} {n} {x} {y} v u =
     let e : 4 * (n / 4) + (n - 4 * (n / 4)) ≡ n = omega arith in
     subst (λ k. AnyGives d z w from k (bit_or x y)) e (any_add v u)
+
+-- whether there is a bit in what both have
+pub any_bit : {A : Type 0} {d z : A} {w : List A} {from n r s : ℕ} {b : Bool} → AnyGives d z w from n r → s ≡ r → b ≡ not (eqb s 0) → SomeGives d z w from n b
+any_bit {A} {d} {z} {w} {from} {n} {r} {s} {b} v e f =
+    record {
+      clean = λ p. v.clean (sym e ∙ eqb→eq s 0 (subst T (sym (not_false (eqb s 0) (sym f ∙ p))) tt));
+      dirty = λ p q. go (e ∙ v.none q) (sym f ∙ p);
+    }
+  where
+    not_false : (c : Bool) → not c ≡ false → c ≡ true
+    not_false true p = refl
+    not_false false p = absurd (true≢false p)
+
+    go : s ≡ 0 → not (eqb s 0) ≡ true → ⊥
+    go p q = true≢false (sym q ∙ ap (λ k. not (eqb k 0)) p)
 
 -- ---- block after block, of numbers or of floats
 

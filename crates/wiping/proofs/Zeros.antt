@@ -14,7 +14,7 @@ use Rattle.rows.specs.Region.{Only, Filled, Out.above}
 use Rattle.rules.specs.Lists.{all}
 use Rattle.rule_laws.proofs.Rising.{all_at, all_from}
 use Rattle.rule_laws.proofs.Members.{all_elim, all_intro}
-use Rattle.wiping.specs.Blocks.{BlockGives, AnyGives}
+use Rattle.wiping.specs.Blocks.{BlockGives, SomeGives}
 use Rattle.wiping.proofs.Blocks.{Wiped, leaves}
 
 module _ (w : List ℕ) (n : ℕ) (h : n ≤ length w) where
@@ -37,16 +37,16 @@ module _ (w : List ℕ) (n : ℕ) (h : n ≤ length w) where
   pub all_zero : {i : ℕ} → Wiped 0 0 w 0 n w i → n ≤ i → true ≡ all (eqb 0) (take n w)
   all_zero v l = sym (each_zero (λ j k. ap (λ a. get_or w a 0) (sym (zero-add j)) ∙ v.zeros.each j (omega arith)))
 
-  -- one block more without a bit
-  pub still : {i m r : ℕ} → Wiped 0 0 w 0 n w i → BlockGives (n - i) m → i < n → AnyGives 0 0 w i m r → r ≡ 0 → Wiped 0 0 w 0 n w (i + m)
+  -- one block more of zeros
+  pub still : {i m : ℕ} {b : Bool} → Wiped 0 0 w 0 n w i → BlockGives (n - i) m → i < n → SomeGives 0 0 w i m b → b ≡ false → Wiped 0 0 w 0 n w (i + m)
   still {i} {m} v b l a e = leaves v b l (subst (λ k. Filled k m 0 w) (sym (zero-add i)) (a.clean e))
 
-  -- a block with a bit is in none
-  pub not_zero : {i m r : ℕ} → AnyGives 0 0 w i m r → i + m ≤ n → (r ≡ 0 → ⊥) → false ≡ all (eqb 0) (take n w)
-  not_zero {i} {m} {r} a l f = go (all (eqb 0) (take n w)) refl
+  -- any other block is in none
+  pub not_zero : {i m : ℕ} {b : Bool} → SomeGives 0 0 w i m b → i + m ≤ n → b ≡ true → false ≡ all (eqb 0) (take n w)
+  not_zero {i} {m} a l f = go (all (eqb 0) (take n w)) refl
     where
-      go : (b : Bool) → all (eqb 0) (take n w) ≡ b → false ≡ b
-      go true e = absurd (f (a.none (record { each = λ k q. zero_each e (i + k) (omega arith) })))
+      go : (c : Bool) → all (eqb 0) (take n w) ≡ c → false ≡ c
+      go true e = absurd (a.dirty f (record { each = λ k q. zero_each e (i + k) (omega arith) }))
       go false e = refl
 
   -- whatever is written to a room of zeros, once it is cleared it is as it was

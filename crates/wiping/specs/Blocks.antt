@@ -1,5 +1,5 @@
 -- Blocks of a region, and what bits say of them: those of numbers, where z is 0, or of floats, where it is +0.
-use Rattle.std.specs.Prelude.{◌≡◌, List, ℕ, ◌≤◌, ◌<◌}
+use Rattle.std.specs.Prelude.{◌≡◌, Bool, true, false, List, ℕ, ◌≤◌, ◌<◌}
 use Rattle.rows.specs.Region.{HoldsOf}
 
 -- the next block of `rest` entries is no longer than they are, and is not empty unless they are none
@@ -16,3 +16,8 @@ pub record Tells {A : Type 0} (z x : A) (r : ℕ) : Type 0 where
 pub record AnyGives {A : Type 0} (d z : A) (w : List A) (from n r : ℕ) : Type 0 where
   pub clean : r ≡ 0 → HoldsOf d from n (λ i. z) w
   pub none : HoldsOf d from n (λ i. z) w → r ≡ 0
+
+-- b is false where each entry of the region is z, and nowhere else
+pub record SomeGives {A : Type 0} (d z : A) (w : List A) (from n : ℕ) (b : Bool) : Type 0 where
+  pub clean : b ≡ false → HoldsOf d from n (λ i. z) w
+  pub dirty : b ≡ true → HoldsOf d from n (λ i. z) w → ⊥

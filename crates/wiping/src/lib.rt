@@ -2,11 +2,12 @@
 // stays unwritten, and a page that was never written stays with the system.
 #![tactic(auto)]
 
-ghost use Rattle.std.specs.Prelude.{◌≡◌, ℕ, ◌+◌, ◌*◌, ◌≤◌, eqb, length, take};
-ghost use Rattle.std.specs.Float.{nan};
-ghost use Rattle.rows.specs.Region.{OnlyOf, HoldsOf, Only, Filled, zero64};
+ghost use Rattle.std.specs.Prelude.{◌≡◌, ℕ, ◌+◌, ◌*◌, ◌≤◌, eqb, not, bit_or, length, take};
+ghost use Rattle.rows.specs.Region.{OnlyOf, HoldsOf};
 ghost use Rattle.rules.specs.Lists.{all};
-ghost use Rattle.wiping.specs.Blocks.{BlockGives, Tells, AnyGives};
+ghost use Rattle.wiping.specs.Blocks.{BlockGives, Tells, AnyGives, SomeGives};
+
+use rows::Entry;
 
 // The entries of a block.
 const BLOCK: usize = 8192;
@@ -21,49 +22,122 @@ fn block(rest: usize) -> usize
     BLOCK
 }
 
+// An entry whose bits tell whether it is zero.
+pub trait Marked: Entry {
+    // The bits of an entry, or of several: a word as wide as one.
+    type Bits: Copy;
+
+    // The number that the bits are.
+    ghost set: { Self.Bits → ℕ };
+
+    // No bit.
+    fn none() -> Self::Bits
+        ensures { set result ≡ 0 };
+
+    // The bits of an entry: of zero alone there are none.
+    fn bits(self) -> Self::Bits
+        ensures { Tells Self.zero self (set result) };
+
+    // The bits of both.
+    fn both(x: Self::Bits, y: Self::Bits) -> Self::Bits
+        ensures { set result ≡ bit_or (set x) (set y) };
+
+    // Whether there is a bit.
+    fn some(x: Self::Bits) -> bool
+        ensures { result ≡ not (eqb (set x) 0) };
+}
+
+impl Marked for u32 {
+    type Bits = u32;
+
+    ghost set = { λ x. x };
+
+    fn none() -> u32 {
+        0
+    }
+
+    fn bits(self) -> u32 {
+        self
+    }
+
+    fn both(x: u32, y: u32) -> u32 {
+        x | y
+    }
+
+    fn some(x: u32) -> bool {
+        x != 0
+    }
+}
+
+impl Marked for f64 {
+    type Bits = u64;
+
+    ghost set = { λ x. x };
+
+    fn none() -> u64 {
+        0
+    }
+
+    // What is no number has 1.
+    fn bits(self) -> u64 {
+        if self != self {
+            return 1;
+        }
+        f64::to_bits(self)
+    }
+
+    fn both(x: u64, y: u64) -> u64 {
+        x | y
+    }
+
+    fn some(x: u64) -> bool {
+        x != 0
+    }
+}
+
 // The bits that are set in any of the n entries from `from` on, one after the other.
-fn any_in_line(work: &[u32], from: usize, n: usize) -> u32
+fn any_in_line<T: Marked>(work: &[T], from: usize, n: usize) -> T::Bits
     requires { from + n ≤ length work.now }
-    ensures { AnyGives 0 0 work.now from n result }
+    ensures { AnyGives T.blank T.zero work.now from n (T.set result) }
 {
-    let mut x: u32 = 0;
+    let mut x = T::none();
     for i in 0..n {
-        x = x | work[from + i];
+        x = T::both(x, work[from + i].bits());
     }
     x
 }
 
 // The same of 4n entries, in four places at once: what is read next is on its way while the rest is looked at.
-fn any_in_four(work: &[u32], from: usize, n: usize) -> u32
+fn any_in_four<T: Marked>(work: &[T], from: usize, n: usize) -> T::Bits
     requires { from + 4 * n ≤ length work.now }
-    ensures { AnyGives 0 0 work.now from (4 * n) result }
+    ensures { AnyGives T.blank T.zero work.now from (4 * n) (T.set result) }
 {
     let second = from + n;
     let third = second + n;
     let fourth = third + n;
-    let mut x: u32 = 0;
-    let mut y: u32 = 0;
-    let mut z: u32 = 0;
-    let mut u: u32 = 0;
+    let mut x = T::none();
+    let mut y = T::none();
+    let mut z = T::none();
+    let mut u = T::none();
     for i in 0..n {
-        x = x | work[from + i];
-        y = y | work[second + i];
-        z = z | work[third + i];
-        u = u | work[fourth + i];
+        x = T::both(x, work[from + i].bits());
+        y = T::both(y, work[second + i].bits());
+        z = T::both(z, work[third + i].bits());
+        u = T::both(u, work[fourth + i].bits());
     }
-    x | y | z | u
+    T::both(T::both(T::both(x, y), z), u)
 }
 
-// The bits that are set in any of the n entries from `from` on.
-fn any(work: &[u32], from: usize, n: usize) -> u32
+// Whether any of the n entries from `from` on is not zero.
+fn any<T: Marked>(work: &[T], from: usize, n: usize) -> bool
     requires { from + n ≤ length work.now }
-    ensures { AnyGives 0 0 work.now from n result }
+    ensures { SomeGives T.blank T.zero work.now from n result }
 {
     let quarter = n / 4;
     let taken = 4 * quarter;
     let x = any_in_four(work, from, quarter);
     let y = any_in_line(work, from + taken, n - taken);
-    x | y
+    T::some(T::both(x, y))
 }
 
 // Whether the first n entries are all 0.
@@ -74,7 +148,7 @@ pub fn is_zero(work: &[u32], n: usize) -> bool
     let mut i = 0;
     while i < n {
         let m = block(n - i);
-        if any(work, i, m) != 0 {
+        if any(work, i, m) {
             return false;
         }
         i += m;
@@ -82,90 +156,18 @@ pub fn is_zero(work: &[u32], n: usize) -> bool
     true
 }
 
-// Makes each of the n entries from `from` on 0.
-pub fn wipe(work: &mut [u32], from: usize, n: usize)
+// Makes each of the n entries from `from` on 0, or +0.
+pub fn wipe<T: Marked>(work: &mut [T], from: usize, n: usize)
     requires { from + n ≤ length work.old }
-    ensures only { Only from n work.old work.new }
-    ensures filled { Filled from n 0 work.new }
+    ensures only { OnlyOf T.blank from n work.old work.new }
+    ensures filled { HoldsOf T.blank from n (λ (i : ℕ). T.zero) work.new }
 {
     let mut i = 0;
     while i < n {
         let at = from + i;
         let m = block(n - i);
-        if any(work, at, m) != 0 {
+        if any(work, at, m) {
             rows::clear(work, at, m);
-        }
-        i += m;
-    }
-}
-
-// The bits of a number, and 1 for what is none: 0 for +0 alone.
-fn bits(x: f64) -> u64
-    ensures { Tells zero64 x result }
-{
-    if x != x {
-        return 1;
-    }
-    f64::to_bits(x)
-}
-
-// The bits that are set in any of the n entries from `from` on, one after the other.
-fn bits_in_line(points: &[f64], from: usize, n: usize) -> u64
-    requires { from + n ≤ length points.now }
-    ensures { AnyGives nan zero64 points.now from n result }
-{
-    let mut x: u64 = 0;
-    for i in 0..n {
-        x = x | bits(points[from + i]);
-    }
-    x
-}
-
-// The same of 4n entries, in four places at once.
-fn bits_in_four(points: &[f64], from: usize, n: usize) -> u64
-    requires { from + 4 * n ≤ length points.now }
-    ensures { AnyGives nan zero64 points.now from (4 * n) result }
-{
-    let second = from + n;
-    let third = second + n;
-    let fourth = third + n;
-    let mut x: u64 = 0;
-    let mut y: u64 = 0;
-    let mut z: u64 = 0;
-    let mut u: u64 = 0;
-    for i in 0..n {
-        x = x | bits(points[from + i]);
-        y = y | bits(points[second + i]);
-        z = z | bits(points[third + i]);
-        u = u | bits(points[fourth + i]);
-    }
-    x | y | z | u
-}
-
-// The bits that are set in any of the n entries from `from` on.
-fn any_bits(points: &[f64], from: usize, n: usize) -> u64
-    requires { from + n ≤ length points.now }
-    ensures { AnyGives nan zero64 points.now from n result }
-{
-    let quarter = n / 4;
-    let taken = 4 * quarter;
-    let x = bits_in_four(points, from, quarter);
-    let y = bits_in_line(points, from + taken, n - taken);
-    x | y
-}
-
-// Makes each of the n entries from `from` on +0.
-pub fn wipe_points(points: &mut [f64], from: usize, n: usize)
-    requires { from + n ≤ length points.old }
-    ensures only_of { OnlyOf nan from n points.old points.new }
-    ensures holds_of { HoldsOf nan from n (λ (i : ℕ). zero64) points.new }
-{
-    let mut i = 0;
-    while i < n {
-        let at = from + i;
-        let m = block(n - i);
-        if any_bits(points, at, m) != 0 {
-            rows::clear(points, at, m);
         }
         i += m;
     }

@@ -12,8 +12,8 @@ copy_row-requires c = copies_points c.requires
 pub overflow_mul-n : goal.overflow_mul-n
 overflow_mul-n c = omega (arith, c.requires.input.faces_fine)
 
-pub copy_row-2-requires : goal.copy_row-2-requires
-copy_row-2-requires c = copies_faces c.requires
+pub copy_row-requires-2 : goal.copy_row-requires-2
+copy_row-requires-2 c = copies_faces c.requires
 
 pub number-requires : goal.number-requires
 number-requires c = numbers_faces c.requires

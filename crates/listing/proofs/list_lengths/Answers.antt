@@ -6,4 +6,4 @@ pub put_lengths-requires : goal.put_lengths-requires
 put_lengths-requires c = lengths_asks c.requires
 
 pub returns : goal.returns
-returns c = room_done c.requires c.put_lengths.ensures c.wipe_points.ensures.only_of c.wipe_points.ensures.holds_of
+returns c = room_done c.requires c.put_lengths.ensures c.wipe.ensures.only c.wipe.ensures.filled

@@ -35,8 +35,8 @@ pub overflow_sub-p : goal.overflow_sub-p
 overflow_sub-p c = let a = c.args in
     omega (arith, sizes a.points.now a.faces.now a.s a.options a.out_points.now a.out_faces.now a.report.now a.origins.now a.work.now _ c.repair_refusal.ensures c.in-Fine.is c.mend-mended.ensures)
 
-pub wipe_points-requires : goal.wipe_points-requires
-wipe_points-requires c = let a = c.args in
+pub wipe-requires : goal.wipe-requires
+wipe-requires c = let a = c.args in
     omega (arith, sizes a.points.now a.faces.now a.s a.options a.out_points.now a.out_faces.now a.report.now a.origins.now a.work.now _ c.repair_refusal.ensures c.in-Fine.is c.mend-mended.ensures)
 
 pub overflow_mul-n-2 : goal.overflow_mul-n-2
@@ -47,8 +47,8 @@ pub overflow_sub-n : goal.overflow_sub-n
 overflow_sub-n c = let a = c.args in
     omega (arith, sizes a.points.now a.faces.now a.s a.options a.out_points.now a.out_faces.now a.report.now a.origins.now a.work.now _ c.repair_refusal.ensures c.in-Fine.is c.mend-mended.ensures)
 
-pub wipe-requires : goal.wipe-requires
-wipe-requires c = let a = c.args in
+pub wipe-requires-2 : goal.wipe-requires-2
+wipe-requires-2 c = let a = c.args in
     omega (arith, sizes a.points.now a.faces.now a.s a.options a.out_points.now a.out_faces.now a.report.now a.origins.now a.work.now _ c.repair_refusal.ensures c.in-Fine.is c.mend-mended.ensures)
 
 pub write_report-requires : goal.write_report-requires
@@ -59,8 +59,8 @@ pub overflow_sub-n-2 : goal.overflow_sub-n-2
 overflow_sub-n-2 c = let a = c.args in
     omega (arith, sizes a.points.now a.faces.now a.s a.options a.out_points.now a.out_faces.now a.report.now a.origins.now a.work.now _ c.repair_refusal.ensures c.in-Fine.is c.mend-mended.ensures)
 
-pub wipe-requires-2 : goal.wipe-requires-2
-wipe-requires-2 c = let a = c.args in
+pub wipe-requires-3 : goal.wipe-requires-3
+wipe-requires-3 c = let a = c.args in
     omega (arith, sizes a.points.now a.faces.now a.s a.options a.out_points.now a.out_faces.now a.report.now a.origins.now a.work.now _ c.repair_refusal.ensures c.in-Fine.is c.mend-mended.ensures)
 
 pub overflow_mul-p-2 : goal.overflow_mul-p-2
@@ -79,12 +79,12 @@ pub overflow_add-p-3 : goal.overflow_add-p-3
 overflow_add-p-3 c = let a = c.args in
     omega (arith, sizes a.points.now a.faces.now a.s a.options a.out_points.now a.out_faces.now a.report.now a.origins.now a.work.now _ c.repair_refusal.ensures c.in-Fine.is c.mend-mended.ensures)
 
-pub wipe-requires-3 : goal.wipe-requires-3
-wipe-requires-3 c = let a = c.args in
+pub wipe-requires-4 : goal.wipe-requires-4
+wipe-requires-4 c = let a = c.args in
     omega (arith, sizes a.points.now a.faces.now a.s a.options a.out_points.now a.out_faces.now a.report.now a.origins.now a.work.now _ c.repair_refusal.ensures c.in-Fine.is c.mend-mended.ensures)
 
 pub returns : goal.returns
 returns c = let a = c.args in
     is_done a.points.now a.faces.now a.s a.options a.out_points.now a.out_faces.now a.report.now a.origins.now a.work.now _ c.repair_refusal.ensures c.in-Fine.is c.mend-mended.ensures
-    c.wipe_points.ensures.only_of c.wipe_points.ensures.holds_of c.wipe.ensures.only c.wipe.ensures.filled c.write_report.ensures
-    c.wipe-2.ensures.only c.wipe-2.ensures.filled c.wipe-3.ensures.only c.wipe-3.ensures.filled
+    c.wipe.ensures.only c.wipe.ensures.filled c.wipe-2.ensures.only c.wipe-2.ensures.filled c.write_report.ensures
+    c.wipe-3.ensures.only c.wipe-3.ensures.filled c.wipe-4.ensures.only c.wipe-4.ensures.filled

@@ -30,8 +30,8 @@ pub overflow_sub-p : goal.overflow_sub-p
 overflow_sub-p c = let a = c.args in
     (sizes a.points.now a.faces.now a.point_counts.now a.face_counts.now a.s a.options a.out_points.now a.out_faces.now a.report.now a.origins.now a.meshes.now a.work.now _ c.panel_refusal.ensures c.in-Fine.is c.mend_all-at.ensures c.well_formed.1.1.1.1.1.1.0.0 _ c.largest-largest.ensures).points_end
 
-pub wipe_points-requires : goal.wipe_points-requires
-wipe_points-requires c = let a = c.args in
+pub wipe-requires : goal.wipe-requires
+wipe-requires c = let a = c.args in
     (sizes a.points.now a.faces.now a.point_counts.now a.face_counts.now a.s a.options a.out_points.now a.out_faces.now a.report.now a.origins.now a.meshes.now a.work.now _ c.panel_refusal.ensures c.in-Fine.is c.mend_all-at.ensures c.well_formed.1.1.1.1.1.1.0.0 _ c.largest-largest.ensures).points_room
 
 pub overflow_mul-f-2 : goal.overflow_mul-f-2
@@ -42,8 +42,8 @@ pub overflow_sub-f : goal.overflow_sub-f
 overflow_sub-f c = let a = c.args in
     (sizes a.points.now a.faces.now a.point_counts.now a.face_counts.now a.s a.options a.out_points.now a.out_faces.now a.report.now a.origins.now a.meshes.now a.work.now _ c.panel_refusal.ensures c.in-Fine.is c.mend_all-at.ensures c.well_formed.1.1.1.1.1.1.0.0 _ c.largest-largest.ensures).faces_end
 
-pub wipe-requires : goal.wipe-requires
-wipe-requires c = let a = c.args in
+pub wipe-requires-2 : goal.wipe-requires-2
+wipe-requires-2 c = let a = c.args in
     (sizes a.points.now a.faces.now a.point_counts.now a.face_counts.now a.s a.options a.out_points.now a.out_faces.now a.report.now a.origins.now a.meshes.now a.work.now _ c.panel_refusal.ensures c.in-Fine.is c.mend_all-at.ensures c.well_formed.1.1.1.1.1.1.0.0 _ c.largest-largest.ensures).faces_room
 
 pub overflow_mul-m : goal.overflow_mul-m
@@ -54,20 +54,20 @@ pub overflow_sub-m : goal.overflow_sub-m
 overflow_sub-m c = let a = c.args in
     (sizes a.points.now a.faces.now a.point_counts.now a.face_counts.now a.s a.options a.out_points.now a.out_faces.now a.report.now a.origins.now a.meshes.now a.work.now _ c.panel_refusal.ensures c.in-Fine.is c.mend_all-at.ensures c.well_formed.1.1.1.1.1.1.0.0 _ c.largest-largest.ensures).counts_end
 
-pub wipe-requires-2 : goal.wipe-requires-2
-wipe-requires-2 c = let a = c.args in
+pub wipe-requires-3 : goal.wipe-requires-3
+wipe-requires-3 c = let a = c.args in
     (sizes a.points.now a.faces.now a.point_counts.now a.face_counts.now a.s a.options a.out_points.now a.out_faces.now a.report.now a.origins.now a.meshes.now a.work.now _ c.panel_refusal.ensures c.in-Fine.is c.mend_all-at.ensures c.well_formed.1.1.1.1.1.1.0.0 _ c.largest-largest.ensures).counts_room
 
 pub overflow_sub-f-2 : goal.overflow_sub-f-2
 overflow_sub-f-2 c = let a = c.args in
     (sizes a.points.now a.faces.now a.point_counts.now a.face_counts.now a.s a.options a.out_points.now a.out_faces.now a.report.now a.origins.now a.meshes.now a.work.now _ c.panel_refusal.ensures c.in-Fine.is c.mend_all-at.ensures c.well_formed.1.1.1.1.1.1.0.0 _ c.largest-largest.ensures).origins_end
 
-pub wipe-requires-3 : goal.wipe-requires-3
-wipe-requires-3 c = let a = c.args in
-    (sizes a.points.now a.faces.now a.point_counts.now a.face_counts.now a.s a.options a.out_points.now a.out_faces.now a.report.now a.origins.now a.meshes.now a.work.now _ c.panel_refusal.ensures c.in-Fine.is c.mend_all-at.ensures c.well_formed.1.1.1.1.1.1.0.0 _ c.largest-largest.ensures).origins_room
-
 pub wipe-requires-4 : goal.wipe-requires-4
 wipe-requires-4 c = let a = c.args in
+    (sizes a.points.now a.faces.now a.point_counts.now a.face_counts.now a.s a.options a.out_points.now a.out_faces.now a.report.now a.origins.now a.meshes.now a.work.now _ c.panel_refusal.ensures c.in-Fine.is c.mend_all-at.ensures c.well_formed.1.1.1.1.1.1.0.0 _ c.largest-largest.ensures).origins_room
+
+pub wipe-requires-5 : goal.wipe-requires-5
+wipe-requires-5 c = let a = c.args in
     (sizes a.points.now a.faces.now a.point_counts.now a.face_counts.now a.s a.options a.out_points.now a.out_faces.now a.report.now a.origins.now a.meshes.now a.work.now _ c.panel_refusal.ensures c.in-Fine.is c.mend_all-at.ensures c.well_formed.1.1.1.1.1.1.0.0 _ c.largest-largest.ensures).work_room
 
 pub overflow_mul-result : goal.overflow_mul-result
@@ -77,8 +77,8 @@ overflow_mul-result c = let a = c.args in
 pub returns : goal.returns
 returns c = let a = c.args in
     is_done a.points.now a.faces.now a.point_counts.now a.face_counts.now a.s a.options a.out_points.now a.out_faces.now a.report.now a.origins.now a.meshes.now a.work.now _ c.panel_refusal.ensures c.in-Fine.is c.mend_all-at.ensures c.well_formed.1.1.1.1.1.1.0.0 _ c.largest-largest.ensures
-    c.wipe_points.ensures.only_of c.wipe_points.ensures.holds_of
     c.wipe.ensures.only c.wipe.ensures.filled
     c.wipe-2.ensures.only c.wipe-2.ensures.filled
     c.wipe-3.ensures.only c.wipe-3.ensures.filled
     c.wipe-4.ensures.only c.wipe-4.ensures.filled
+    c.wipe-5.ensures.only c.wipe-5.ensures.filled

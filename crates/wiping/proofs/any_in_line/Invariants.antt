@@ -5,4 +5,4 @@ use Rattle.wiping.specs.Blocks.{AnyGives}
 use Rattle.wiping.proofs.any_in_line.Given as goal
 
 abbrev pub invariant-loop-i : goal.invariant-loop-i
-invariant-loop-i l = (l.i ≤ l.n) × AnyGives 0 0 l.work l.from l.i l.x
+invariant-loop-i g l = (l.i ≤ l.n) × AnyGives g.T.Entry.blank g.T.Entry.zero l.work l.from l.i (g.T.Marked.set l.x)

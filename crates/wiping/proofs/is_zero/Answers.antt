@@ -14,8 +14,8 @@ block-m-requires c = tt
 pub any-requires : goal.any-requires
 any-requires c = omega (arith, c.requires, c.block-m.ensures.within)
 
-pub returns-then-any-ne0 : goal.returns-then-any-ne0
-returns-then-any-ne0 c = not_zero _ _ c.requires c.any.ensures (omega (arith, c.block-m.ensures.within)) c.if-any-ne0.true
+pub returns-then-any : goal.returns-then-any
+returns-then-any c = not_zero _ _ c.requires c.any.ensures (omega (arith, c.block-m.ensures.within)) c.if-any.true
 
 pub overflow_add-i : goal.overflow_add-i
 overflow_add-i c = omega (arith, c.block-m.ensures.within)
@@ -24,7 +24,7 @@ pub loop-i-smaller : goal.loop-i-smaller
 loop-i-smaller c = nearer c.loop-i.invariant c.block-m.ensures c.loop-i-test.true
 
 pub loop-i-preserved : goal.loop-i-preserved
-loop-i-preserved c = still _ _ c.requires c.loop-i.invariant c.block-m.ensures c.loop-i-test.true c.any.ensures c.if-any-ne0.false
+loop-i-preserved c = still _ _ c.requires c.loop-i.invariant c.block-m.ensures c.loop-i-test.true c.any.ensures c.if-any.false
 
 pub returns : goal.returns
 returns c = all_zero _ _ c.requires c.loop-i.invariant c.loop-i-test.false

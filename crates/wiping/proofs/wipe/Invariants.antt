@@ -5,7 +5,7 @@ use Rattle.wiping.proofs.Blocks.{Wiped}
 use Rattle.wiping.proofs.wipe.Given as goal
 
 abbrev pub invariant-loop-i : goal.invariant-loop-i
-invariant-loop-i l = Wiped 0 0 l.initial.work l.from l.n l.work l.i
+invariant-loop-i g l = Wiped g.T.Entry.blank g.T.Entry.zero l.initial.work l.from l.n l.work l.i
 
 abbrev pub decreases-loop-i : goal.decreases-loop-i
-decreases-loop-i l = l.n - l.i
+decreases-loop-i g l = l.n - l.i

@@ -11,6 +11,7 @@ use borrow.Author.Tests.{ne_eqb, eq-eqb}
 use lib.Dec.{eqb}
 use lib.ListN.{length, get_or, drop}
 use lib.Seq.{drop-length}
+use Rattle.std.specs.Prelude as std
 use Rattle.rows.specs.Region.{part}
 use Rattle.rules.specs.Line.{bytes}
 use Rattle.rules.specs.Text.{onto, parted, equal}
@@ -192,7 +193,7 @@ module _ {text : List ℕ} {at end : ℕ} (h : at < length text) (p : Piece text
   ended l = ap pieces_read (p.more l) ∙ pieces_more (part text at (end - at)) (parted 10 (drop (end + 1) text)) (parted_some 10 (drop (end + 1) text))
 
   -- what it tells is what is read
-  pub line_read : (end ≡ length text → ⊥) → (r : Line) → Tells (line_told text at end) text end r → Reads text at r
+  pub line_read : (end ≡ length text → ⊥) → (r : std.Option Line) → Tells (line_told text at end) text end r → Reads text at r
   line_read n r t = go r t
     where
       short : end < length text
@@ -202,11 +203,11 @@ module _ {text : List ℕ} {at end : ℕ} (h : at < length text) (p : Piece text
       says l e q i =
           rw q (record { begins = p.begins; ends = short; lines = ended short ∙ ap (λ (o : Option list.Line). o ∷ lines_read (drop (end + 1) text)) i })
 
-      go : (s : Line) → Tells (line_told text at end) text end s → Reads text at s
-      go (line.Dropped f w e) i = says _ e i.ends i.is
-      go (line.Exchange f e) i = says _ e i.ends i.is
-      go (line.Split old new from e) i =
+      go : (s : std.Option Line) → Tells (line_told text at end) text end s → Reads text at s
+      go (std.Some (line.Dropped f w e)) i = says _ e i.ends i.is
+      go (std.Some (line.Exchange f e)) i = says _ e i.ends i.is
+      go (std.Some (line.Split old new from e)) i =
           let q = i.ends in
           rw q (record { says = says _ end refl i.is; faces = i.faces; rise = i.rise })
-      go (line.Isolated v e) i = says _ e i.ends i.is
-      go line.Bad i = record { others = lines_read (drop (end + 1) text); lines = ended short ∙ ap (λ (o : Option list.Line). o ∷ lines_read (drop (end + 1) text)) i }
+      go (std.Some (line.Isolated v e)) i = says _ e i.ends i.is
+      go std.None i = record { others = lines_read (drop (end + 1) text); lines = ended short ∙ ap (λ (o : Option list.Line). o ∷ lines_read (drop (end + 1) text)) i }

@@ -1,7 +1,6 @@
--- `Sameness` has a field compared with a text, `Fields` the first of some fields and the parts of a text. `Reasons` has the reason that pass and word
+-- `Fields` has the first of some fields and the parts of a text. `Reasons` has the reason that pass and word
 -- tell, `Rises` numbers that rise, `Telling` what the fields of a line tell and the next face of a split, `Letters` the line by its letter and the lines
 -- of a text.
-pub mod Sameness
 pub mod Fields
 pub mod Reasons
 pub mod Rises

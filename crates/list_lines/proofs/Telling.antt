@@ -6,10 +6,12 @@ use mathlib.Core.List.{List, [], ◌∷◌}
 use Prim.Native.Nat.{ℕ, zero, suc, ◌+◌, ◌-◌, ◌≤◌, ◌<◌}
 use native.Mathlib.Omega.{arith}
 use lib.ListN.{length, drop}
+use Rattle.std.specs.Prelude as std
 use Rattle.rows.specs.Region.{part}
 use Rattle.rules.specs.Text.{parted, whole}
 use Rattle.rules.specs.Mending.{Reason, Line, dropped_face, exchange, isolated_point, split_point}
 use Rattle.rules.specs.Applying.{wholes, d_read, drop_read, one_read, s_read, and_then, rising}
+use Rattle.list_lines.specs.declared.Reason as read
 use Rattle.list_lines.specs.Lines.{tabbed, fields_in, NumberIs, NumberNone, one_of, reason, why, reason_told, dropped_told, split_told, rise_from, numbers_of, faces_from_row, Faces, FaceAsks, FaceGives, FieldsAsk, LineIs, SplitIs}
 use Rattle.list_lines.proofs.Fields.{fields_none, front, fields_on, on_fits}
 use Rattle.list_lines.proofs.Rises.{rise_some, rise_no}
@@ -42,6 +44,15 @@ wholes_some f fs n e =
 
 -- ---- a dropped face
 
+-- the reason that was read, in the rules' words
+pub none_told : {o : Option Reason} → why std.None ≡ o → none ≡ o
+unfolding why
+none_told e = e
+
+pub some_told : (w : read.Reason) {o : Option Reason} → why (std.Some w) ≡ o → some (reason w) ≡ o
+unfolding why
+some_told w e = e
+
 -- pass and reason stand behind the face
 drop_none : (o : Option ℕ) → drop_read o none ≡ none
 unfolding drop_read
@@ -73,18 +84,14 @@ module _ (text : List ℕ) (from end : ℕ) {n k : ℕ} (p : NumberIs (part text
   dropped_short e = dropped_on ∙ ap (λ (fs : List (List ℕ)). drop_read (some n) (reason_told fs)) (fields_none text (from + k) end e)
 
   -- no reason
-  pub dropped_bad : (w : ℕ) → why w ≡ reason_told (fields_in text (from + k) end) → w ≡ 0 → d_read (fields_in text from end) ≡ none
-  unfolding drop_read why
-  dropped_bad w e z = dropped_on ∙ ap (drop_read (some n)) (sym e) ∙ rw z refl
+  pub dropped_bad : none ≡ reason_told (fields_in text (from + k) end) → d_read (fields_in text from end) ≡ none
+  unfolding drop_read
+  dropped_bad e = dropped_on ∙ ap (drop_read (some n)) (sym e)
 
   -- a reason
-  pub dropped_is : (w : ℕ) → why w ≡ reason_told (fields_in text (from + k) end) → (w ≡ 0 → ⊥) → LineIs (d_read (fields_in text from end)) (dropped_face n (reason w)) end end
-  unfolding drop_read why
-  dropped_is w e z = record { ends = refl; is = dropped_on ∙ ap (drop_read (some n)) (sym e) ∙ go w z }
-    where
-      go : (v : ℕ) → (v ≡ 0 → ⊥) → drop_read (some n) (why v) ≡ some (dropped_face n (reason v))
-      go zero y = absurd (y refl)
-      go (suc v) y = refl
+  pub dropped_is : {w : Reason} → some w ≡ reason_told (fields_in text (from + k) end) → LineIs (d_read (fields_in text from end)) (dropped_face n w) end end
+  unfolding drop_read
+  dropped_is e = record { ends = refl; is = dropped_on ∙ ap (drop_read (some n)) (sym e) }
 
 -- ---- a line of one number
 

@@ -1,6 +1,7 @@
 -- The words of this crate's contracts: the fields of a line after its letter, what they tell, the line that was read, and the faces of a split.
 -- Definitions only.
 use Rattle.std.specs.Prelude.{◌≡◌, Bool, true, false, ◌&&◌, cond, List, [], ◌∷◌, ℕ, zero, suc, ◌+◌, ◌-◌, ◌≤◌, ◌<◌, eqb, leb, length, drop}
+use Rattle.std.specs.Prelude as std
 use Rattle.std.proofs.Math.Option.{Option, none, some}
 use Rattle.rows.specs.Region.{part}
 use Rattle.rules.specs.Line.{bytes}
@@ -11,7 +12,8 @@ use Rattle.rules.specs.Applying as rule
 use Rattle.list_lines.specs.declared.Line.{Line}
 use Rattle.list_lines.specs.declared.Line.TheVariants as line
 use Rattle.list_lines.specs.declared.Number.{Number}
-use Rattle.list_lines.specs.declared.Number.TheVariants as number
+use Rattle.list_lines.specs.declared.Reason as read
+use Rattle.list_lines.specs.declared.Reason.TheVariants as word
 
 -- ---- fields
 
@@ -39,9 +41,9 @@ pub record NumberNone (xs : List ℕ) : Type 0 where
   pub fields : tabbed xs ≡ field ∷ others
 
 -- what is read of the first field
-abbrev pub FirstNumber : List ℕ → Number → Type 0
-FirstNumber xs (number.Read n k) = NumberIs xs n k
-FirstNumber xs number.Bad = NumberNone xs
+abbrev pub FirstNumber : List ℕ → std.Option Number → Type 0
+FirstNumber xs (std.Some r) = NumberIs xs r.value r.end
+FirstNumber xs std.None = NumberNone xs
 
 -- the number of exactly one field
 unfoldable pub one_of : List (List ℕ) → Option ℕ
@@ -51,19 +53,18 @@ one_of (f ∷ g ∷ rest) = none
 
 -- ---- reasons
 
--- the reason of a number
-unfoldable pub reason : ℕ → Reason
-reason zero = for_repeated
-reason (suc zero) = for_repeated
-reason (suc (suc zero)) = for_thin
-reason (suc (suc (suc zero))) = for_duplicate
-reason (suc (suc (suc (suc zero)))) = for_edge
-reason (suc (suc (suc (suc (suc k))))) = for_direction
+-- a reason as the rules have it
+unfoldable pub reason : read.Reason → Reason
+reason word.Repeated = for_repeated
+reason word.Thin = for_thin
+reason word.Duplicate = for_duplicate
+reason word.Edge = for_edge
+reason word.Direction = for_direction
 
--- none by 0
-unfoldable pub why : ℕ → Option Reason
-why zero = none
-why (suc k) = some (reason (suc k))
+-- or none
+unfoldable pub why : std.Option read.Reason → Option Reason
+why std.None = none
+why (std.Some w) = some (reason w)
 
 -- the reason whose pass is k and whose word this is
 unfoldable pub reason_at : ℕ → List ℕ → Option Reason
@@ -157,12 +158,12 @@ pub record SplitIs (told : Option list.Line) (text : List ℕ) (old new from end
   pub rise : rule.rising (faces_from_row text from end) ≡ true
   pub is : told ≡ some (list.split_point old new (faces_from_row text from end))
 
-abbrev pub Tells : Option list.Line → List ℕ → ℕ → Line → Type 0
-Tells told text end (line.Dropped f w e) = LineIs told (list.dropped_face f (reason w)) end e
-Tells told text end (line.Exchange f e) = LineIs told (list.exchange f) end e
-Tells told text end (line.Split old new from e) = SplitIs told text old new from end e
-Tells told text end (line.Isolated v e) = LineIs told (list.isolated_point v) end e
-Tells told text end line.Bad = told ≡ none
+abbrev pub Tells : Option list.Line → List ℕ → ℕ → std.Option Line → Type 0
+Tells told text end (std.Some (line.Dropped f w e)) = LineIs told (list.dropped_face f (reason w)) end e
+Tells told text end (std.Some (line.Exchange f e)) = LineIs told (list.exchange f) end e
+Tells told text end (std.Some (line.Split old new from e)) = SplitIs told text old new from end e
+Tells told text end (std.Some (line.Isolated v e)) = LineIs told (list.isolated_point v) end e
+Tells told text end std.None = told ≡ none
 
 -- ---- the line that begins at `at`
 
@@ -184,9 +185,9 @@ pub record SaysSplit (text : List ℕ) (at old new from end : ℕ) : Type 0 wher
   pub rise : rule.rising (faces_from_row text from end) ≡ true
 
 -- the line that was read
-abbrev pub Reads : List ℕ → ℕ → Line → Type 0
-Reads text at (line.Dropped f w end) = Says text at (list.dropped_face f (reason w)) end
-Reads text at (line.Exchange f end) = Says text at (list.exchange f) end
-Reads text at (line.Split old new from end) = SaysSplit text at old new from end
-Reads text at (line.Isolated v end) = Says text at (list.isolated_point v) end
-Reads text at line.Bad = SaysNothing text at
+abbrev pub Reads : List ℕ → ℕ → std.Option Line → Type 0
+Reads text at (std.Some (line.Dropped f w end)) = Says text at (list.dropped_face f (reason w)) end
+Reads text at (std.Some (line.Exchange f end)) = Says text at (list.exchange f) end
+Reads text at (std.Some (line.Split old new from end)) = SaysSplit text at old new from end
+Reads text at (std.Some (line.Isolated v end)) = Says text at (list.isolated_point v) end
+Reads text at std.None = SaysNothing text at

@@ -7,126 +7,111 @@ ghost use Rattle.rules.specs.Text as rule;
 ghost use Rattle.text_fields.specs.Fields.{whole_of};
 ghost use Rattle.list_lines.specs.Lines as by;
 
-use text_fields::Whole;
+// Why a face was dropped.
+#[derive(Clone, Copy, Debug, PartialEq, Eq)]
+pub enum Reason {
+    Repeated,
+    Thin,
+    Duplicate,
+    Edge,
+    Direction,
+}
 
-// A line. The last number of each is where the line ends: its newline stands there. Reasons are 1 repeated, 2 thin, 3 duplicate,
-// 4 edge, 5 direction. A split has old point, new point, and where the fields of its faces begin: at a tab, or where the line ends.
-#[derive(Drop)]
+// A line. Its newline stands at `end`. The fields of a split's faces begin at `fields`: at a tab, or where the line ends.
+#[derive(Clone, Copy, Debug, PartialEq, Eq)]
 pub enum Line {
-    Dropped(u32, u32, usize),
-    Exchange(u32, usize),
-    Split(u32, u32, usize, usize),
-    Isolated(u32, usize),
-    Bad,
+    Dropped {
+        face: u32,
+        reason: Reason,
+        end: usize,
+    },
+    Exchange {
+        face: u32,
+        end: usize,
+    },
+    Split {
+        old: u32,
+        new: u32,
+        fields: usize,
+        end: usize,
+    },
+    Isolated {
+        point: u32,
+        end: usize,
+    },
 }
 
 // A face of a split, and where the fields of the faces after it begin.
-#[derive(Drop)]
+#[derive(Clone, Copy, Debug, PartialEq, Eq)]
 pub struct Face {
     pub number: u32,
     pub next: usize,
 }
 
-// The first of some fields read as a number, and where the others begin.
-#[derive(Drop)]
-enum Number {
-    Read(u32, usize),
-    Bad,
+// The number in the first of some fields, and where the others begin.
+#[derive(Clone, Copy, Debug, PartialEq, Eq)]
+struct Number {
+    value: u32,
+    end: usize,
 }
 
 // Whether a field is this text.
 fn same(field: &[u8], text: &[u8]) -> bool
     ensures { result ≡ rule.equal field.now text.now }
 {
-    if field.len() != text.len() {
-        return false;
-    }
-    for i in 0..text.len() {
-        if field[i] != text[i] {
-            return false;
-        }
-    }
-    true
+    field == text
 }
 
 // The number in the first field.
-fn read_number(fields: &[u8]) -> Number
+fn read_number(fields: &[u8]) -> Option<Number>
     requires { 0 < length fields.now }
     ensures { by.FirstNumber fields.now result }
 {
     let end = text_fields::find(fields, 1, 9);
-    match text_fields::read_whole(&fields[1..end]) {
-        Whole::Bad => Number::Bad,
-        Whole::Number(n) => Number::Read(n, end),
-    }
+    let value = text_fields::read_whole(&fields[1..end])?;
+    Some(Number { value, end })
 }
 
 // The number of a line that has no other.
-fn read_one(fields: &[u8]) -> Whole
+fn read_one(fields: &[u8]) -> Option<u32>
     requires { 0 < length fields.now }
     ensures { whole_of result ≡ by.one_of (by.tabbed fields.now) }
 {
-    match read_number(fields) {
-        Number::Bad => Whole::Bad,
-        Number::Read(n, end) => {
-            if end == fields.len() {
-                return Whole::Number(n);
-            }
-            Whole::Bad
-        }
+    let number = read_number(fields)?;
+    if number.end == fields.len() {
+        return Some(number.value);
     }
+    None
 }
 
-// The reason with this pass and this word; 0 where there is none.
-fn reason_of(pass: u32, word: &[u8]) -> u32
+// The reason with this pass and this word.
+fn reason_of(pass: u32, word: &[u8]) -> Option<Reason>
     ensures { by.why result ≡ by.reason_at pass word.now }
 {
-    if pass == 1 {
-        if same(word, b"repeated") {
-            return 1;
-        }
-        if same(word, b"thin") {
-            return 2;
-        }
-        return 0;
+    match pass {
+        1 if same(word, b"repeated") => Some(Reason::Repeated),
+        1 if same(word, b"thin") => Some(Reason::Thin),
+        2 if same(word, b"duplicate") => Some(Reason::Duplicate),
+        3 if same(word, b"edge") => Some(Reason::Edge),
+        4 if same(word, b"direction") => Some(Reason::Direction),
+        _ => None,
     }
-    if pass == 2 {
-        if same(word, b"duplicate") {
-            return 3;
-        }
-        return 0;
-    }
-    if pass == 3 {
-        if same(word, b"edge") {
-            return 4;
-        }
-        return 0;
-    }
-    if pass == 4 {
-        if same(word, b"direction") {
-            return 5;
-        }
-        return 0;
-    }
-    0
 }
 
-// The reason that pass and word tell, if there are just these fields; 0 where there is none.
-fn read_reason(fields: &[u8]) -> u32
+// The reason that pass and word tell, if there are just these fields.
+fn read_reason(fields: &[u8]) -> Option<Reason>
     requires { 0 < length fields.now }
     ensures { by.why result ≡ by.reason_told (by.tabbed fields.now) }
 {
-    let Number::Read(pass, at) = read_number(fields) else {
-        return 0;
-    };
-    if at == fields.len() {
-        return 0;
+    let pass = read_number(fields)?;
+    if pass.end == fields.len() {
+        return None;
     }
-    let end = text_fields::find(fields, at + 1, 9);
+    let end = text_fields::find(fields, pass.end + 1, 9);
     if end != fields.len() {
-        return 0;
+        return None;
     }
-    reason_of(pass, &fields[at + 1..])
+    reason_of(pass.value, &fields[pass.end + 1..])
 }
 
 // Whether all fields are numbers that rise.
@@ -136,115 +121,105 @@ fn all_rise(fields: &[u8]) -> bool
     let mut at = 0;
     let mut least = 0u64;
     while at < fields.len() {
-        let Number::Read(n, end) = read_number(&fields[at..]) else {
+        let Some(number) = read_number(&fields[at..]) else {
             return false;
         };
-        if (n as u64) < least {
+        if u64::from(number.value) < least {
             return false;
         }
-        least = n as u64 + 1;
-        at += end;
+        least = u64::from(number.value) + 1;
+        at += number.end;
     }
     true
 }
 
 // A `d` line, whose fields after the letter begin at `from`.
-fn read_dropped(text: &[u8], from: usize, end: usize) -> Line
+fn read_dropped(text: &[u8], from: usize, end: usize) -> Option<Line>
     requires { by.FieldsAsk text.now from end }
     ensures { by.Tells (by.dropped_told (by.fields_in text.now from end)) text.now end result }
 {
-    let Number::Read(face, k) = read_number(&text[from..end]) else {
-        return Line::Bad;
-    };
-    let at = from + k;
+    let face = read_number(&text[from..end])?;
+    let at = from + face.end;
     if at == end {
-        return Line::Bad;
+        return None;
     }
-    let why = read_reason(&text[at..end]);
-    if why == 0 {
-        return Line::Bad;
-    }
-    Line::Dropped(face, why, end)
+    let reason = read_reason(&text[at..end])?;
+    Some(Line::Dropped {
+        face: face.value,
+        reason,
+        end,
+    })
 }
 
 // An `o` line.
-fn read_exchange(text: &[u8], from: usize, end: usize) -> Line
+fn read_exchange(text: &[u8], from: usize, end: usize) -> Option<Line>
     requires { by.FieldsAsk text.now from end }
     ensures { by.Tells (by.exchange_told (by.fields_in text.now from end)) text.now end result }
 {
-    match read_one(&text[from..end]) {
-        Whole::Bad => Line::Bad,
-        Whole::Number(face) => Line::Exchange(face, end),
-    }
+    let face = read_one(&text[from..end])?;
+    Some(Line::Exchange { face, end })
 }
 
 // A `u` line.
-fn read_isolated(text: &[u8], from: usize, end: usize) -> Line
+fn read_isolated(text: &[u8], from: usize, end: usize) -> Option<Line>
     requires { by.FieldsAsk text.now from end }
     ensures { by.Tells (by.isolated_told (by.fields_in text.now from end)) text.now end result }
 {
-    match read_one(&text[from..end]) {
-        Whole::Bad => Line::Bad,
-        Whole::Number(point) => Line::Isolated(point, end),
-    }
+    let point = read_one(&text[from..end])?;
+    Some(Line::Isolated { point, end })
 }
 
 // An `s` line.
-fn read_split(text: &[u8], from: usize, end: usize) -> Line
+fn read_split(text: &[u8], from: usize, end: usize) -> Option<Line>
     requires { by.FieldsAsk text.now from end }
     ensures { by.Tells (by.split_told (by.fields_in text.now from end)) text.now end result }
 {
-    let Number::Read(old, k) = read_number(&text[from..end]) else {
-        return Line::Bad;
-    };
-    let second = from + k;
+    let old = read_number(&text[from..end])?;
+    let second = from + old.end;
     if second == end {
-        return Line::Bad;
+        return None;
     }
-    let Number::Read(new, m) = read_number(&text[second..end]) else {
-        return Line::Bad;
-    };
-    let third = second + m;
-    if all_rise(&text[third..end]) {
-        return Line::Split(old, new, third, end);
+    let new = read_number(&text[second..end])?;
+    let fields = second + new.end;
+    if all_rise(&text[fields..end]) {
+        return Some(Line::Split {
+            old: old.value,
+            new: new.value,
+            fields,
+            end,
+        });
     }
-    Line::Bad
+    None
 }
 
 // The line by its letter, if the newline stands at `end`.
-fn read_letter(text: &[u8], at: usize, end: usize) -> Line
+fn read_letter(text: &[u8], at: usize, end: usize) -> Option<Line>
     requires { by.LetterAsks text.now at end }
     ensures { by.Tells (by.line_told text.now at end) text.now end result }
 {
     if end - at < 2 {
-        return Line::Bad;
+        return None;
     }
     if text[at + 1] != 9 {
-        return Line::Bad;
+        return None;
     }
-    if text[at] == b'd' {
-        return read_dropped(text, at + 1, end);
+    match text[at] {
+        b'd' => read_dropped(text, at + 1, end),
+        b'o' => read_exchange(text, at + 1, end),
+        b's' => read_split(text, at + 1, end),
+        b'u' => read_isolated(text, at + 1, end),
+        _ => None,
     }
-    if text[at] == b'o' {
-        return read_exchange(text, at + 1, end);
-    }
-    if text[at] == b's' {
-        return read_split(text, at + 1, end);
-    }
-    if text[at] == b'u' {
-        return read_isolated(text, at + 1, end);
-    }
-    Line::Bad
 }
 
-// The line that begins at `at`. One that no newline ends is bad.
-pub fn read_line(text: &[u8], at: usize) -> Line
+// The line that begins at `at`, if it is not bad. One that no newline ends is bad.
+pub fn read_line(text: &[u8], at: usize) -> Option<Line>
     requires { at < length text.now }
     ensures { by.Reads text.now at result }
 {
     let end = text_fields::find(text, at, 10);
     if end == text.len() {
-        return Line::Bad;
+        return None;
     }
     read_letter(text, at, end)
 }
@@ -255,13 +230,13 @@ pub fn read_face(text: &[u8], at: usize, end: usize) -> Face
     ensures { by.FaceGives text.now at end result.number result.next }
 {
     match read_number(&text[at..end]) {
-        Number::Bad => Face {
+        None => Face {
             number: 0,
             next: end,
         },
-        Number::Read(n, k) => Face {
-            number: n,
-            next: at + k,
+        Some(number) => Face {
+            number: number.value,
+            next: at + number.end,
         },
     }
 }

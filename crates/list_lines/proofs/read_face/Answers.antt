@@ -5,10 +5,10 @@ use Rattle.list_lines.proofs.Fields.{on_fits}
 use Rattle.list_lines.proofs.read_face.Goals as goal
 
 pub overflow_add-result : goal.overflow_add-result
-overflow_add-result c = omega (arith, on_fits _ _ _ (rw c.in-Read.is at c.read_number.ensures) c.requires.faces.begins c.requires.faces.ends)
+overflow_add-result c = omega (arith, on_fits _ _ _ (c.in-Some.ensures) c.requires.faces.begins c.requires.faces.ends)
 
-pub returns-in-Bad : goal.returns-in-Bad
-returns-in-Bad c = face_none c.requires _ _ (rw c.in-Bad.is at c.read_number.ensures)
+pub returns-in-None : goal.returns-in-None
+returns-in-None c = face_none c.requires _ _ (c.in-None.ensures)
 
-pub returns-in-Read : goal.returns-in-Read
-returns-in-Read c = face_is c.requires (rw c.in-Read.is at c.read_number.ensures)
+pub returns-in-Some : goal.returns-in-Some
+returns-in-Some c = face_is c.requires (c.in-Some.ensures)

@@ -2,8 +2,8 @@
 use Rattle.list_lines.proofs.Fields.{number_is, number_none}
 use Rattle.list_lines.proofs.read_number.Goals as goal
 
-pub returns-in-Bad : goal.returns-in-Bad
-returns-in-Bad c = number_none c.find-end.ensures c.requires (rw c.in-Bad.is at c.read_whole.ensures)
+pub returns-in_err-value : goal.returns-in_err-value
+returns-in_err-value c = rw c.from_residual.ensures (number_none c.find-end.ensures c.requires c.in_err-value.ensures)
 
-pub returns-in-Number : goal.returns-in-Number
-returns-in-Number c = number_is c.find-end.ensures c.requires (rw c.in-Number.is at c.read_whole.ensures)
+pub returns : goal.returns
+returns c = number_is c.find-end.ensures c.requires c.in_ok-value.ensures

@@ -2,11 +2,11 @@
 use Rattle.list_lines.proofs.Fields.{one_none, one_is, one_more}
 use Rattle.list_lines.proofs.read_one.Goals as goal
 
-pub returns-then-end-fields : goal.returns-then-end-fields
-returns-then-end-fields c = one_is (rw c.in-Read.is at c.read_number.ensures) c.if-end-fields.true
+pub returns-then-number-fields : goal.returns-then-number-fields
+returns-then-number-fields c = one_is c.in_ok-number.ensures c.if-number-fields.true
 
-pub returns-in-Bad : goal.returns-in-Bad
-returns-in-Bad c = one_none (rw c.in-Bad.is at c.read_number.ensures)
+pub returns-in_err-number : goal.returns-in_err-number
+returns-in_err-number c = rw c.from_residual.ensures (one_none (c.in_err-number.ensures))
 
-pub returns-else-end-fields : goal.returns-else-end-fields
-returns-else-end-fields c = one_more (rw c.in-Read.is at c.read_number.ensures) c.if-end-fields.false
+pub returns : goal.returns
+returns c = one_more c.in_ok-number.ensures c.if-number-fields.false

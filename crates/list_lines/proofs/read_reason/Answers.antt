@@ -3,20 +3,20 @@ use native.Mathlib.Omega.{arith}
 use Rattle.list_lines.proofs.Reasons.{told_none, told_short, told_more, told_word}
 use Rattle.list_lines.proofs.read_reason.Goals as goal
 
-pub returns-in_default : goal.returns-in_default
-returns-in_default c = told_none (rw c.in_default.is at c.read_number.ensures)
+pub returns-in_err-pass : goal.returns-in_err-pass
+returns-in_err-pass c = rw c.from_residual.ensures (told_none (c.in_err-pass.ensures))
 
-pub returns-then-at-fields : goal.returns-then-at-fields
-returns-then-at-fields c = told_short (rw c.in-Read.is at c.read_number.ensures) c.if-at-fields.true
+pub returns-then-pass-fields : goal.returns-then-pass-fields
+returns-then-pass-fields c = told_short c.in_ok-pass.ensures c.if-pass-fields.true
 
-pub overflow_add-at : goal.overflow_add-at
-overflow_add-at c = omega (arith, rw c.in-Read.is at c.read_number.ensures)
+pub overflow_add-pass : goal.overflow_add-pass
+overflow_add-pass c = omega (arith, c.in_ok-pass.ensures)
 
 pub find-end-requires : goal.find-end-requires
-find-end-requires c = omega (arith, rw c.in-Read.is at c.read_number.ensures, c.if-at-fields.false)
+find-end-requires c = omega (arith, c.in_ok-pass.ensures, c.if-pass-fields.false)
 
 pub returns-then-end-fields : goal.returns-then-end-fields
-returns-then-end-fields c = told_more (rw c.in-Read.is at c.read_number.ensures) c.if-at-fields.false c.find-end.ensures c.if-end-fields.true
+returns-then-end-fields c = told_more c.in_ok-pass.ensures c.if-pass-fields.false c.find-end.ensures c.if-end-fields.true
 
 pub returns : goal.returns
-returns c = told_word (rw c.in-Read.is at c.read_number.ensures) c.if-at-fields.false c.find-end.ensures c.if-end-fields.false _ c.reason_of.ensures
+returns c = told_word c.in_ok-pass.ensures c.if-pass-fields.false c.find-end.ensures c.if-end-fields.false _ c.reason_of.ensures

@@ -1,19 +1,19 @@
--- `list_lines::same` meets its contract: the bytes before i are alike. Assumes nothing.
-use Prim.Native.Nat.{◌-◌}
-use Rattle.list_lines.proofs.Sameness.{alike_begin, alike_long, alike_not, alike_again, alike_done}
+-- `list_lines::same` meets its contract: texts are equal byte by byte. Assumes nothing.
+use mathlib.Core.Path.{◌≡◌, refl, ap, ◌∙◌}
+use mathlib.Core.Bool.{Bool, ◌&&◌}
+use mathlib.Core.List.{List, [], ◌∷◌}
+use Prim.Native.Nat.{ℕ}
+use lib.Dec.{eqb}
+use lib.Pointwise.{pointwise}
+use Rattle.rules.specs.Text.{equal}
 use Rattle.list_lines.proofs.same.Goals as goal
 
-pub returns-then-field-text : goal.returns-then-field-text
-returns-then-field-text c = alike_long _ _ c.if-field-text.true
-
-pub loop-i-init : goal.loop-i-init
-loop-i-init c = alike_begin
-
-pub returns-then-field-i : goal.returns-then-field-i
-returns-then-field-i c = alike_not c.loop-i.invariant c.if-field-i.true
-
-pub loop-i-preserved : goal.loop-i-preserved
-loop-i-preserved c = alike_again c.loop-i.invariant c.loop-i-test.true c.if-field-i.false
+alike : (xs ys : List ℕ) → pointwise eqb xs ys ≡ equal xs ys
+unfolding equal
+alike [] [] = refl
+alike [] (y ∷ ys) = refl
+alike (x ∷ xs) [] = refl
+alike (x ∷ xs) (y ∷ ys) = ap (λ (t : Bool). eqb x y && t) (alike xs ys)
 
 pub returns : goal.returns
-returns c = alike_done c.loop-i.invariant c.if-field-text.false c.loop-i-test.false
+returns c = c.eq.ensures ∙ alike c.args.field.now c.args.text.now

@@ -1,7 +1,7 @@
 -- The first of the fields after a tab, and the fields after it. Assumes nothing.
 use mathlib.Core.Path.{◌≡◌, refl, sym, ap, ◌∙◌}
 use mathlib.Core.Logic.{⊎_elim}
-use mathlib.Core.Option.{Option, none, some}
+use mathlib.Core.Option.{none, some}
 use mathlib.Core.List.{List, [], ◌∷◌}
 use Prim.Native.Nat.{ℕ, zero, suc, ◌+◌, ◌-◌, ◌≤◌, ◌<◌}
 use native.Mathlib.Nat.{eq-or-lt_of_le}
@@ -13,7 +13,7 @@ use Rattle.rows.specs.Region.{part}
 use Rattle.rows.proofs.Regions.{length_part}
 use Rattle.rules.specs.Text.{parted, whole}
 use Rattle.text_fields.specs.Fields.{Piece}
-use Rattle.mending_laws.proofs.Parting.{Some, parted_some}
+use Rattle.mending_laws.proofs.Parting.{parted_some}
 use Rattle.list_lines.specs.Lines.{tabbed, fields_in, NumberIs, NumberNone, one_of}
 
 -- ---- parts of a text

@@ -1,13 +1,12 @@
 -- A line by its letter, and the lines of a text one after the other. Assumes nothing.
-use mathlib.Core.Path.{◌≡◌, refl, sym, ap, ◌∙◌, subst}
+use mathlib.Core.Path.{◌≡◌, refl, sym, ap, ◌∙◌}
 use mathlib.Core.Bool.{Bool, true, false, cond}
-use mathlib.Core.Logic.{⊎_elim}
 use mathlib.Core.Option.{Option, none, some}
 use mathlib.Core.List.{List, [], ◌∷◌}
-use Prim.Native.Nat.{ℕ, zero, suc, ◌+◌, ◌-◌, ◌≤◌, ◌<◌}
+use Prim.Native.Nat.{ℕ, ◌+◌, ◌-◌, ◌≤◌, ◌<◌}
 use native.Mathlib.Decide.{ℕ_discrete}
 use native.Mathlib.Omega.{arith}
-use borrow.Author.Tests.{ne_eqb, eq-eqb}
+use borrow.Author.Tests.{ne_eqb}
 use lib.Dec.{eqb}
 use lib.ListN.{length, get_or, drop}
 use lib.Seq.{drop-length}
@@ -19,7 +18,7 @@ use Rattle.rules.specs.Mending as list
 use Rattle.rules.specs.Applying.{fields_read, pieces_read, lines_read, d_read, and_then, wholes, one_read, s_read}
 use Rattle.rule_laws.proofs.Texts.{equal_not}
 use Rattle.text_fields.specs.Fields.{Piece}
-use Rattle.mending_laws.proofs.Parting.{Some, parted_some, pieces_more}
+use Rattle.mending_laws.proofs.Parting.{parted_some, pieces_more}
 use Rattle.list_lines.specs.declared.Line.{Line}
 use Rattle.list_lines.specs.declared.Line.TheVariants as line
 use Rattle.list_lines.specs.Lines.{tabbed, fields_in, line_told, dropped_told, exchange_told, split_told, isolated_told, LetterAsks, Tells, Says, SaysNothing, Reads}

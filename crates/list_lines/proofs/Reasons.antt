@@ -1,22 +1,20 @@
 -- The reason that a pass and a word tell. Assumes nothing.
 use mathlib.Core.Path.{◌≡◌, refl, sym, ap, ◌∙◌}
-use mathlib.Core.Bool.{Bool, true, false, ◌&&◌, cond}
-use mathlib.Core.Option.{Option, none, some}
+use mathlib.Core.Bool.{true, false}
+use mathlib.Core.Option.{none, some}
 use mathlib.Core.List.{List, [], ◌∷◌}
-use Prim.Native.Nat.{ℕ, zero, suc, ◌+◌, ◌-◌, ◌≤◌, ◌<◌}
+use Prim.Native.Nat.{ℕ, ◌+◌, ◌-◌, ◌<◌}
 use native.Mathlib.Omega.{arith}
 use borrow.Author.Tests.{ne_eqb}
-use lib.Dec.{eqb}
-use lib.Pointwise.{pointwise}
 use lib.ListN.{length, drop}
 use Rattle.std.specs.Prelude as std
 use Rattle.rows.specs.Region.{part}
 use Rattle.rules.specs.Line.{bytes}
-use Rattle.rules.specs.Text.{parted, equal, whole}
+use Rattle.rules.specs.Text.{equal, whole}
 use Rattle.rules.specs.Mending.{Reason, pass_of, word_of}
 use Rattle.rules.specs.Applying.{reason_read, all_reasons}
 use Rattle.text_fields.specs.Fields.{Piece}
-use Rattle.mending_laws.proofs.Parting.{Some, parted_some}
+use Rattle.mending_laws.proofs.Parting.{parted_some}
 use Rattle.list_lines.specs.declared.Reason as read
 use Rattle.list_lines.specs.declared.Reason.TheVariants as word
 use Rattle.list_lines.specs.Lines.{tabbed, reason, why, reason_at, reason_told, NumberIs, NumberNone}

@@ -1,18 +1,18 @@
 -- What the fields of a line tell, by its letter. Assumes nothing.
-use mathlib.Core.Path.{◌≡◌, refl, sym, ap, ◌∙◌, subst}
-use mathlib.Core.Bool.{Bool, true, false, cond, true≢false}
+use mathlib.Core.Path.{◌≡◌, refl, sym, ap, ◌∙◌}
+use mathlib.Core.Bool.{true, false, true≢false}
 use mathlib.Core.Option.{Option, none, some}
 use mathlib.Core.List.{List, [], ◌∷◌}
-use Prim.Native.Nat.{ℕ, zero, suc, ◌+◌, ◌-◌, ◌≤◌, ◌<◌}
+use Prim.Native.Nat.{ℕ, ◌+◌, ◌-◌, ◌≤◌}
 use native.Mathlib.Omega.{arith}
-use lib.ListN.{length, drop}
+use lib.ListN.{length}
 use Rattle.std.specs.Prelude as std
 use Rattle.rows.specs.Region.{part}
-use Rattle.rules.specs.Text.{parted, whole}
-use Rattle.rules.specs.Mending.{Reason, Line, dropped_face, exchange, isolated_point, split_point}
+use Rattle.rules.specs.Text.{whole}
+use Rattle.rules.specs.Mending.{Reason, Line, dropped_face, split_point}
 use Rattle.rules.specs.Applying.{wholes, d_read, drop_read, one_read, s_read, and_then, rising}
 use Rattle.list_lines.specs.declared.Reason as read
-use Rattle.list_lines.specs.Lines.{tabbed, fields_in, NumberIs, NumberNone, one_of, reason, why, reason_told, dropped_told, split_told, rise_from, numbers_of, faces_from_row, Faces, FaceAsks, FaceGives, FieldsAsk, LineIs, SplitIs}
+use Rattle.list_lines.specs.Lines.{fields_in, NumberIs, NumberNone, one_of, reason, why, reason_told, split_told, rise_from, numbers_of, faces_from_row, FaceAsks, FaceGives, LineIs, SplitIs}
 use Rattle.list_lines.proofs.Fields.{fields_none, front, fields_on, on_fits}
 use Rattle.list_lines.proofs.Rises.{rise_some, rise_no}
 

@@ -4,7 +4,7 @@
 ghost use Rattle.std.specs.Prelude.{◌≡◌, ◌<◌, length};
 ghost use Rattle.rows.specs.Region.{part};
 ghost use Rattle.rules.specs.Text as rule;
-ghost use Rattle.text_fields.specs.Fields.{whole_of};
+ghost use Rattle.text_fields.specs.Fields.{held};
 ghost use Rattle.list_lines.specs.Lines as by;
 
 // Why a face was dropped.
@@ -75,7 +75,7 @@ fn read_number(fields: &[u8]) -> Option<Number>
 // The number of a line that has no other.
 fn read_one(fields: &[u8]) -> Option<u32>
     requires { 0 < length fields.now }
-    ensures { whole_of result ≡ by.one_of (by.tabbed fields.now) }
+    ensures { held result ≡ by.one_of (by.tabbed fields.now) }
 {
     let number = read_number(fields)?;
     if number.end == fields.len() {

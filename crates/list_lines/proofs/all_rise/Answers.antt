@@ -1,5 +1,4 @@
 -- `list_lines::all_rise` meets its contract: the fields before `at` rise. Assumes nothing.
-use Prim.Native.Nat.{◌-◌}
 use native.Mathlib.Omega.{arith}
 use Rattle.list_lines.proofs.Rises.{rise_begin, rest_long, rise_none, rise_not, rise_turn, rise_again, rise_done}
 use Rattle.list_lines.proofs.all_rise.Goals as goal

@@ -1,13 +1,13 @@
 -- The whole line: the loop over the labels, the message where all are zero, and the room after an accepted call. Assumes nothing.
-use mathlib.Core.Path.{◌≡◌, sym, ap, ◌∙◌}
+use mathlib.Core.Path.{◌≡◌, refl, sym, ◌∙◌}
 use mathlib.Core.List.{List, ◌++◌}
 use Prim.Native.Nat.{ℕ, ◌+◌, ◌-◌, ◌*◌, ◌≤◌, ◌<◌}
 use native.Mathlib.Omega.{arith}
-use lib.ListN.{length, get_or, replicate, length-append, length-replicate}
-use Rattle.refuse.specs.Verdicts.{check_of}
-use Rattle.refuse.specs.declared.Verdict.{Verdict}
-use Rattle.refuse.specs.declared.Verdict.TheVariants as verdict
-use Rattle.refuse.proofs.Groups.{found_none}
+use lib.ListN.{length, get_or, replicate, take, drop}
+use lib.Seq.{take-append_seam, drop-append_seam}
+use Rattle.std.proofs.lemmas.List.{append_assoc, drop-drop}
+use Rattle.refuse.specs.Verdicts.{number_of, place_of}
+use Rattle.refuse.specs.declared.Refusal.{Refusal}
 use Rattle.line_refusal.specs.Checks.{line_list, LineAccepted}
 use Rattle.line_refusal.proofs.Accept.{line_is, line_accepted}
 use Rattle.rules.specs.Lists.{filter}
@@ -15,7 +15,9 @@ use Rattle.rules.specs.Line.{bytes, joined, summed, line}
 use Rattle.rules.specs.Refusal.{ok, no, decided}
 use Rattle.rules.specs.Rooms.{filled, outcome}
 use Rattle.rules.specs.LineCall.{line_check, write_line}
-use Rattle.line.specs.declared.Lined.TheVariants as lined
+use Rattle.std.specs.Prelude.{Ok, Err}
+use Rattle.rows.specs.Region.{part}
+use Rattle.rows.proofs.Regions.{length_part}
 use Rattle.byte_rows.specs.Put.{Puts}
 use Rattle.line.specs.Put.{label_count, PartAsks, LineGives, more, shown, parts, outcome_of}
 use Rattle.byte_rows.proofs.Putting.{puts_none, puts_both, puts_front}
@@ -87,13 +89,12 @@ module _ {counts w w' : List ℕ} {end : ℕ} (p : LineAccepted counts (length w
 -- ---- the room
 
 -- zeros behind the line fill the stated room
-pub room_done : {w xs w' w'' : List ℕ} {end last : ℕ} → LineGives w xs w' end → Puts w' end (replicate (512 - end) 0) w'' last → w'' ≡ filled 0 512 xs w
+pub room_done : {w xs w' : List ℕ} {end : ℕ} → LineGives w xs w' end → take end w' ++ (replicate (512 - end) 0 ++ drop (512 - end) (drop end w')) ≡ filled 0 512 xs w
 unfolding filled
-room_done {w} {xs} {w'} {w''} {end} {last} p q =
+room_done {w} {xs} {w'} {end} p =
     let e : end ≡ length xs = omega (arith, p.puts.ends) in
-    let b = puts_both p.puts q in
-    let l : length (xs ++ replicate (512 - end) 0) ≡ 512 = simp (length-append, length-replicate) (omega (arith, p.short)) in
-    puts_front b ∙ rw (l, e)
+    let n : length xs + (512 - length xs) ≡ 512 = omega (arith, p.short) in
+    rw (e, puts_front p.puts, take-append_seam xs (drop (length xs) w), drop-append_seam xs (drop (length xs) w), drop-drop (512 - length xs) (length xs) w, n) (sym (append_assoc xs (replicate (512 - length xs) 0) (drop 512 w)))
 
 -- they have room there
 pub zeros_asks : {counts w xs w' : List ℕ} {end : ℕ} → LineAccepted counts (length w) → LineGives w xs w' end → end + (512 - end) ≤ length w'
@@ -103,22 +104,21 @@ zeros_asks p q =
 
 -- ---- the call: what the checks found decides
 
-module _ (counts w : List ℕ) (v : Verdict) (e : check_of v ≡ decided (line_list counts (length w))) where
-  -- nothing: as many counts as a report has, and room for the line
-  pub fine : v ≡ verdict.Fine → LineAccepted counts (length w)
-  fine t = line_accepted counts (length w) (found_none (decided (line_list counts (length w))) v e t)
-
+module _ (counts w : List ℕ) where
   -- a refusal is the rules', and the room is as it was
-  pub refused_done : (n p : ℕ) → v ≡ verdict.Refused n p → outcome_of (lined.Refused n p) w ≡ write_line counts w
+  pub refused_done : (r : Refusal) → no (number_of r) (place_of r) ≡ decided (line_list counts (length w)) → outcome_of (Err r) w ≡ write_line counts w
   unfolding write_line outcome
-  refused_done n p t =
-      let q : line_check counts w ≡ no n p = sym (line_is counts w) ∙ sym e ∙ ap check_of t in
+  refused_done r e =
+      let q : line_check counts w ≡ no (number_of r) (place_of r) = sym (line_is counts w) ∙ sym e in
       rw q
 
   -- else the line stands in the room, and zeros behind it
-  pub line_done : {w' w'' : List ℕ} {end last : ℕ} → v ≡ verdict.Fine → LineGives w (line counts) w' end → Puts w' end (replicate (512 - end) 0) w'' last → outcome_of (lined.Done end) w'' ≡ write_line counts w
+  pub line_done :
+      {w' zeros : List ℕ} {end : ℕ} → ok ≡ decided (line_list counts (length w)) → LineGives w (line counts) w' end → zeros ≡ replicate (length (part w' end (512 - end))) 0
+      → outcome_of (Ok end) (take end w' ++ (zeros ++ drop (512 - end) (drop end w'))) ≡ write_line counts w
   unfolding write_line outcome
-  line_done {w'} {w''} {end} t p r =
-      let q : line_check counts w ≡ ok = sym (line_is counts w) ∙ found_none (decided (line_list counts (length w))) v e t in
+  line_done {w'} {zeros} {end} e p z =
+      let q : line_check counts w ≡ ok = sym (line_is counts w) ∙ sym e in
       let l : end ≡ length (line counts) = omega (arith, p.puts.ends) in
-      rw (q, room_done p r, l)
+      let n = length_part w' end (512 - end) (zeros_asks (line_accepted counts (length w) (sym e)) p) in
+      rw (q, z, n, room_done p, l) refl

@@ -1,13 +1,13 @@
 -- The words of this crate's contracts: what a function puts into the line, and the answer of the call as the rules' outcome. Definitions only.
-use Rattle.std.specs.Prelude.{◌≡◌, cond, ℕ, ◌+◌, ◌≤◌, ◌<◌, eqb, ltb, length, get_or}
+use Rattle.std.specs.Prelude.{Result, Ok, Err, cond, ℕ, ◌+◌, ◌≤◌, ◌<◌, eqb, ltb, length, get_or}
 use mathlib.Core.List.{List, [], ◌∷◌, ◌++◌, map, zip}
 use Prim.Native.String.{String}
 use Rattle.byte_rows.specs.Put.{Puts}
 use Rattle.rules.specs.Lists.{filter}
 use Rattle.rules.specs.Line as rule
 use Rattle.rules.specs.Rooms.{Outcome, accepted, refused}
-use Rattle.line.specs.declared.Lined.{Lined}
-use Rattle.line.specs.declared.Lined.TheVariants.{Done, Refused}
+use Rattle.refuse.specs.Verdicts.{number_of, place_of}
+use Rattle.refuse.specs.declared.Refusal.{Refusal}
 
 -- how many labels there are
 abbrev pub label_count : ℕ
@@ -44,6 +44,6 @@ pub record LineGives (w xs w' : List ℕ) (end : ℕ) : Type 0 where
   pub short : end ≤ 512
 
 -- an answer of the call, and what its room then holds, as the rules' outcome
-abbrev pub outcome_of : Lined → List ℕ → Outcome (List ℕ)
-outcome_of (Done n) room = record { answer = accepted (n ∷ []); rooms = room }
-outcome_of (Refused number place) room = record { answer = refused number place; rooms = room }
+abbrev pub outcome_of : Result ℕ Refusal → List ℕ → Outcome (List ℕ)
+outcome_of (Ok n) room = record { answer = accepted (n ∷ []); rooms = room }
+outcome_of (Err r) room = record { answer = refused (number_of r) (place_of r); rooms = room }

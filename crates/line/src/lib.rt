@@ -8,27 +8,10 @@ ghost use Rattle.rules.specs.Line as rule;
 ghost use Rattle.rules.specs.LineCall.{write_line};
 ghost use Rattle.line.specs.Put as by;
 
-use refuse::Verdict;
+use refuse::Refusal;
 
 // How many labels there are.
 const LABELS: usize = 10;
-
-// What the call gives back: how many bytes stand in the room, or a refusal's number and place.
-#[derive(Drop)]
-pub enum Lined {
-    Done(usize),
-    Refused(u32, usize),
-}
-
-// Puts n zeros into the line, from `at` on.
-fn put_zeros(line: &mut [u8], at: usize, n: usize)
-    requires { at + n ≤ length line.old }
-    ensures { Puts line.old at (replicate n 0) line.new (at + n) }
-{
-    for i in 0..n {
-        line[at + i] = 0;
-    }
-}
 
 // Puts label k, in report order. Returns where the line goes on.
 fn put_label(line: &mut [u8], at: usize, k: usize) -> usize
@@ -90,7 +73,7 @@ fn put_next(line: &mut [u8], at: usize, n: u64, k: usize) -> usize
 fn sum(a: u32, b: u32) -> u64
     ensures { result ≡ a + b }
 {
-    a as u64 + b as u64
+    u64::from(a) + u64::from(b)
 }
 
 // The number printed with label k: at label 0 the sum of the first two counts, repeated and thin, and at another count k + 1.
@@ -102,7 +85,7 @@ fn value(counts: &[u32], k: usize) -> u64
     if k == 0 {
         return sum(counts[0], counts[1]);
     }
-    counts[k + 1] as u64
+    u64::from(counts[k + 1])
 }
 
 // Puts the parts of the counts, joined, the first two as their sum. Returns where the line ends.
@@ -129,16 +112,12 @@ fn put_line(counts: &[u32], line: &mut [u8]) -> usize
     end
 }
 
-// The report line: the line stands in front, the rest of the 512 bytes is zero, and entries beyond are unchanged.
-pub fn line(counts: &[u32], line: &mut [u8]) -> Lined
+// The report line: how many bytes stand in the room. The line stands in front, the rest of the 512 bytes is zero, and entries beyond are unchanged.
+pub fn line(counts: &[u32], line: &mut [u8]) -> Result<usize, Refusal>
     ensures { by.outcome_of result line.new ≡ write_line counts.now line.old }
 {
-    match line_refusal::line_refusal(counts, line.len()) {
-        Verdict::Refused(number, place) => Lined::Refused(number, place),
-        Verdict::Fine => {
-            let end = put_line(counts, line);
-            put_zeros(line, end, 512 - end);
-            Lined::Done(end)
-        }
-    }
+    line_refusal::line_refusal(counts, line.len())?;
+    let end = put_line(counts, line);
+    line[end..512].fill(0);
+    Ok(end)
 }

@@ -1,18 +1,11 @@
 // Writes the report line of real counts. The file stdout says what it must be.
 #![tactic(auto)]
 
-use line::Lined;
 use std::io;
 
 // How many bytes from `from` on are one, as all were before the call.
 fn ones(room: &[u8], from: usize) -> usize {
-    let mut n = 0;
-    for i in from..room.len() {
-        if room[i] == 1 {
-            n += 1;
-        }
-    }
-    n
+    room.iter().skip(from).filter(|&&x| x == 1).count()
 }
 
 // Writes a number.
@@ -24,7 +17,7 @@ fn show_number(rt: &impl Print, n: usize) -> io::Result<()> {
 // and how many ones are left.
 fn show(rt: &impl Print, counts: &[u32], room: &mut [u8]) -> io::Result<()> {
     match line::line(counts, room) {
-        Lined::Done(n) => {
+        Ok(n) => {
             if n <= room.len() {
                 show_number(rt, n)?;
                 print!(rt; ": ")?;
@@ -34,9 +27,10 @@ fn show(rt: &impl Print, counts: &[u32], room: &mut [u8]) -> io::Result<()> {
                 println!(rt)?;
             }
         }
-        Lined::Refused(number, place) => {
+        Err(refusal) => {
+            let number = refusal.number();
             print!(rt; "refused {number}, place ")?;
-            show_number(rt, place)?;
+            show_number(rt, refusal.place())?;
             print!(rt; "\nkept: ")?;
             show_number(rt, ones(room, 0))?;
             println!(rt)?;

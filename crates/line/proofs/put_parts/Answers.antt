@@ -1,5 +1,4 @@
 -- `line::put_parts` meets its contract: after k labels the line of their numbers stands in front. Assumes nothing.
-use Prim.Native.Nat.{◌-◌}
 use Rattle.line.proofs.Whole.{begin, turn, again, done}
 use Rattle.line.proofs.put_parts.Goals as goal
 

@@ -1,6 +1,4 @@
 -- `line::put_parts` meets its contract: after k labels the line of their numbers stands in front. Assumes nothing.
-use Prim.Native.Nat.{◌-◌}
-use Rattle.line.specs.Put.{label_count}
 use Rattle.line.proofs.Whole.{Kept}
 use Rattle.line.proofs.put_parts.Given as goal
 

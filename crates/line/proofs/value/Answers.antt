@@ -8,8 +8,5 @@ pub returns-then-k-eq0 : goal.returns-then-k-eq0
 returns-then-k-eq0 c = let known = c.shared_slice_known-then-k-eq0-2-1.given in
     record { value = summed_first _ _ _ (omega arith) (omega arith) (omega arith); upper_bound = omega (arith, known 0, known 1) }
 
-pub overflow_cast-result : goal.overflow_cast-result
-overflow_cast-result c = omega (arith, c.shared_slice_known-2-1.given (c.args.k + 1))
-
 pub returns : goal.returns
 returns c = record { value = summed_behind _ _ _ (omega arith) (omega arith) (omega arith); upper_bound = omega (arith, c.shared_slice_known-2-1.given (c.args.k + 1)) }

@@ -1,4 +1,5 @@
 -- The outcome of reading: a refusal that leaves every room as it was, or points and triples in their rooms. Assumes nothing.
+use Rattle.std.specs.Prelude.{Ok, Err}
 use mathlib.Core.Path.{◌≡◌, refl, sym, ap, ap₂, subst, ◌∙◌}
 use mathlib.Core.Bool.{Bool, true, false, not, cond}
 use mathlib.Core.List.{List, [], ◌∷◌}
@@ -11,26 +12,25 @@ use lib.ListN.{length, get_or, take}
 use lib.Seq.{length-take-le}
 use lib.Ieee.{Float, nan}
 use Rattle.rows.specs.Region.{Apart.before, OnlyOf, HoldsOf, Only, Filled}
-use Rattle.rows.specs.Retain.{kept_of, RetainAsks, RetainGives, NumberAsks, NumberGives}
+use Rattle.rows.specs.Retain.{RetainAsks, RetainGives, NumberAsks, NumberGives}
 use Rattle.rows.proofs.Regions.{only_both, only_more, kept_at, holds_kept}
 use Rattle.filling.proofs.Filling.{filled_in, filled_whole, cleared_is}
 use Rattle.leaving.specs.Pass.{Flagged}
 use Rattle.leaving.proofs.Leaving.{kept_count, left_count, points_left}
 use Rattle.rules.specs.Lists.{leave}
-use Rattle.rules.specs.Mesh.{Point, point, points_of, flat_points, zero64}
-use Rattle.rules.specs.Refusal.{decided}
+use Rattle.rules.specs.Mesh.{Point, point, flat_points, zero64}
+use Rattle.rules.specs.Refusal.{Check, ok, decided}
+use Rattle.rules.specs.Refusal as refusal
 use Rattle.rules.specs.Rooms.{filled, cleared, outcome, accepted}
 use Rattle.rules.specs.Bytes.{u32_at}
 use Rattle.rules.specs.Stl.{facets, corners_of, again, merged, number, triples, StlRooms, stl_check, read_stl}
 use Rattle.rule_laws.proofs.Flat.{length_flat_points}
-use Rattle.refuse.specs.Verdicts.{check_of}
-use Rattle.refuse.specs.declared.Verdict.{Verdict}
-use Rattle.refuse.specs.declared.Verdict.TheVariants.{Fine, Refused}
-use Rattle.stl_file.specs.Files.{Whole, StlAccepted, stl_list}
+use Rattle.refuse.specs.declared.Refusal.{Refusal}
+use Rattle.refuse.specs.Verdicts.{number_of, place_of}
+use Rattle.stl_file.specs.Files.{StlAccepted, stl_list}
 use Rattle.stl_file.proofs.Scanning.{corner_asks, length_corners}
 use Rattle.stl_file.proofs.Accept.{stl_is, stl_accepted}
 use Rattle.equal_rows.specs.Firsts.{First, EqualAsks, EqualGives}
-use Rattle.read_stl.specs.declared.Read.TheVariants as read_as
 use Rattle.read_stl.specs.Answers.{rooms_of, outcome_of}
 use Rattle.read_stl.specs.Rows.{CornersIn, FileAsks, KeysGives, CornersAsks, CornersGives, FlagsAsks, FlagsGives, TriplesAsks, TriplesGives}
 use Rattle.read_stl.proofs.Merging.{again_is, number_is}
@@ -50,8 +50,7 @@ pub record Sizes (k p file points work : ℕ) : Type 0 where
   pub points_long : 3 * (3 * k) ≤ points
   pub work_long : 64 * k + 64 ≤ work
 
-module _ (file : List ℕ) (ps : List Float) (xs w : List ℕ) (v : Verdict)
-    (e : check_of v ≡ decided (stl_list file (length ps) (length xs) (length w))) where
+module _ (file : List ℕ) (ps : List Float) (xs w : List ℕ) where
   -- the corners, and the entries that stand in each room
   abbrev cs : List Point
   cs = corners_of file
@@ -68,19 +67,21 @@ module _ (file : List ℕ) (ps : List Float) (xs w : List ℕ) (v : Verdict)
         work = cleared (64 * facets file + 64) w;
       }
 
-  -- the rules' check is the verdict
-  verdict_is : check_of v ≡ stl_check file (rooms_of ps xs w)
-  verdict_is = e ∙ stl_is file (rooms_of ps xs w)
+  -- the rules' check is what the checks found
+  found_is : {c : Check} → c ≡ decided (stl_list file (length ps) (length xs) (length w)) → c ≡ stl_check file (rooms_of ps xs w)
+  found_is e = e ∙ stl_is file (rooms_of ps xs w)
 
   -- a refusal changes no buffer
-  pub is_refused : (n p : ℕ) → v ≡ Refused n p → outcome_of (read_as.Refused n p) ps xs w ≡ read_stl file (rooms_of ps xs w)
+  pub is_refused :
+      (r : Refusal) → refusal.no (number_of r) (place_of r) ≡ decided (stl_list file (length ps) (length xs) (length w))
+      → outcome_of (Err r) ps xs w ≡ read_stl file (rooms_of ps xs w)
   unfolding read_stl outcome
-  is_refused n p t = ap (λ c. outcome c (rooms_of ps xs w) entries after) (sym (ap check_of t) ∙ verdict_is)
+  is_refused r e = ap (λ c. outcome c (rooms_of ps xs w) entries after) (found_is e)
 
-  module _ (t : v ≡ Fine) where
+  module _ (e : ok ≡ decided (stl_list file (length ps) (length xs) (length w))) where
     -- what an accepted file says
     is_accepted : StlAccepted file (length ps) (length xs) (length w)
-    is_accepted = stl_accepted file (length ps) (length xs) (length w) (sym e ∙ ap check_of t)
+    is_accepted = stl_accepted file (length ps) (length xs) (length w) (sym e)
 
     -- its count can be read
     pub count_in : 84 ≤ length file
@@ -249,7 +250,7 @@ module _ (file : List ℕ) (ps : List Float) (xs w : List ℕ) (v : Verdict)
                       {xs1 : List ℕ} {ps3 : List Float} {w5 : List ℕ} → TriplesGives w4 n xs xs1
                       → OnlyOf nan (3 * p) (3 * n - 3 * p) ps2 ps3 → HoldsOf nan (3 * p) (3 * n - 3 * p) (λ i. zero64) ps3
                       → Only 0 (64 * k + 64) w4 w5 → Filled 0 (64 * k + 64) 0 w5
-                      → outcome_of (read_as.Done (3 * p) n) ps3 xs1 w5 ≡ read_stl file (rooms_of ps xs w)
+                      → outcome_of (Ok (record { points = 3 * p; faces = n })) ps3 xs1 w5 ≡ read_stl file (rooms_of ps xs w)
                   unfolding read_stl outcome
                   is_done {xs1} {ps3} {w5} tr op hp ow hw =
                       let z = sizes_after in
@@ -264,4 +265,4 @@ module _ (file : List ℕ) (ps : List Float) (xs w : List ℕ) (v : Verdict)
                       ap₂ (λ (l : List ℕ) (rooms : StlRooms). record { answer = accepted l; rooms = rooms })
                       (ap₂ (λ (i j : ℕ). i ∷ j ∷ []) points_count many)
                       (λ i. record { points = a i; faces = b i; work = c i })
-                      ∙ ap (λ c. outcome c (rooms_of ps xs w) entries after) (sym (ap check_of t) ∙ verdict_is)
+                      ∙ ap (λ c. outcome c (rooms_of ps xs w) entries after) (found_is e)

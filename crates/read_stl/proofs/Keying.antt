@@ -1,12 +1,11 @@
 -- The bits of the corners passed stand in their columns. Assumes nothing.
-use mathlib.Core.Path.{◌≡◌, refl, sym, ap, subst, ◌∙◌}
+use mathlib.Core.Path.{◌≡◌, sym, ap, ◌∙◌}
 use mathlib.Core.Logic.{⊎_elim}
 use mathlib.Core.List.{List}
 use Prim.Native.Nat.{ℕ, ◌+◌, ◌*◌, ◌^◌, ◌≤◌, ◌<◌}
 use native.Mathlib.Nat.{zero-add, eq-or-lt_of_le, le_of_suc-le-suc, not-suc-le-zero}
 use native.Mathlib.Omega.{arith}
-use borrow.Author.Tests.{eq-eqb, ne_eqb}
-use lib.ListN.{length, get_or, set}
+use lib.ListN.{length, set}
 use lib.Ieee.{binary32}
 use Rattle.rows.specs.Region.{Apart.before, Apart.after, Only, Holds}
 use Rattle.rows.proofs.Regions.{only_none, only_both, only_more, only_set, holds_none, holds_next, holds_kept}

@@ -2,27 +2,24 @@
 use mathlib.Core.Path.{◌≡◌, refl, sym, ap, ap₂, subst, ◌∙◌}
 use mathlib.Core.Bool.{Bool, true, false, not, ◌&&◌}
 use mathlib.Core.List.{List}
-use Prim.Native.Nat.{ℕ, zero, suc, ◌+◌, ◌*◌, ◌^◌, ◌≤◌, ◌<◌}
+use Prim.Native.Nat.{ℕ, zero, suc, ◌+◌, ◌*◌, ◌^◌, ◌<◌}
 use native.Mathlib.Nat.{le_of_suc-le-suc, not-suc-le-zero}
 use native.Mathlib.Decide.{ℕ_discrete}
 use native.Mathlib.Omega.{arith}
 use borrow.Author.Tests.{eq-eqb, eqb-true}
 use lib.Dec.{T, eqb}
-use lib.ListN.{length, get_or}
-use lib.Ieee.{Float, nan, inf, fin, binary32, top, is_nan, of_bits, eq, le, lt}
-use lib.Ieee.Fits.{and_l, and_r}
-use lib.Ieee.Bits.{is_true}
-use Rattle.rules.specs.Lists.{all}
+use lib.ListN.{get_or}
+use lib.Ieee.{binary32, is_nan, eq}
 use Rattle.rules.specs.Mesh.{Point, point, zero64}
-use Rattle.rules.specs.Refusal.{ok, in_domain, no4}
+use Rattle.rules.specs.Refusal.{ok, no4}
 use Rattle.rules.specs.Bytes.{u32_at}
 use Rattle.rules.specs.Stl.{facets, coordinate, corner_at, place_of, corners_of, equal}
-use Rattle.rule_laws.proofs.Equal.{no_nan, near_all, one_zero, one_zero_minus, one_zero_other, eq_by_bits}
+use Rattle.rule_laws.proofs.Equal.{no_nan, near_all, one_zero, one_zero_other, eq_by_bits}
 use Rattle.rule_laws.proofs.Firsts.{fine_exactly}
 use Rattle.refuse.specs.Verdicts.{far}
 use Rattle.stl_file.proofs.Scanning.{length_corners, corner_is}
 use Rattle.equal_rows.specs.Firsts.{Level, First}
-use Rattle.read_stl.specs.Rows.{bits_at, Small, KeysGives}
+use Rattle.read_stl.specs.Rows.{bits_at, KeysGives}
 use Rattle.read_stl.proofs.Merging.{FirstEqual}
 
 -- bits that are a u32 with +0 for -0 are one

@@ -1,12 +1,11 @@
 -- The corners in the points room are the rules' corners, and the triples theirs. Assumes nothing.
-use mathlib.Core.Path.{◌≡◌, refl, sym, ap, ◌∙◌}
+use mathlib.Core.Path.{◌≡◌, sym, ◌∙◌}
 use mathlib.Core.List.{List, map}
-use Prim.Native.Nat.{ℕ, ◌+◌, ◌*◌, ◌/◌, ◌≤◌, ◌<◌}
+use Prim.Native.Nat.{ℕ, ◌+◌, ◌*◌, ◌≤◌, ◌<◌}
 use native.Mathlib.Omega.{arith}
 use lib.ListN.{length, get_or, take, length-map}
 use lib.Seq.{get_or-take, length-take-le, ext_get_or}
 use lib.Ieee.{Float, nan}
-use Rattle.rows.specs.Region.{Holds}
 use Rattle.rules.specs.Mesh.{Point, point, points_of, zero64}
 use Rattle.rules.specs.Stl.{facets, coordinate, corner_at, place_of, corners_of, number, triples}
 use Rattle.rule_laws.proofs.Flat.{length_points, point_in}

@@ -16,13 +16,13 @@ ghost use Rattle.rules.specs.Stl as rule;
 ghost use Rattle.read_stl.specs.Answers.{rooms_of, outcome_of};
 ghost use Rattle.read_stl.specs.Rows.{FileAsks, KeysGives, CornersAsks, CornersGives, FlagsAsks, FlagsGives, TriplesAsks, TriplesGives};
 
-use refuse::Verdict;
+use refuse::Refusal;
 
-// What reading gives back: how many entries stand in the points and in the faces room, or a refusal's number and place.
-#[derive(Drop)]
-pub enum Read {
-    Done(usize, usize),
-    Refused(u32, usize),
+// What an accepted file gives: how many entries stand in the points and in the faces room.
+#[derive(Clone, Copy, Debug, PartialEq, Eq)]
+pub struct Read {
+    pub points: usize,
+    pub faces: usize,
 }
 
 // The bits of an f32, with +0 for -0.
@@ -97,16 +97,16 @@ fn triples(n: usize, work: &[u32], faces: &mut [u32])
 
 // Reads a file: corners equal as numbers become one point, numbered by first appearance, with the bits that appear first. Then the rooms: each answer in
 // front, zero to the stated room, the work room all zero.
-pub fn read_stl(file: &[u8], points: &mut [f64], faces: &mut [u32], work: &mut [u32]) -> Read
+pub fn read_stl(
+    file: &[u8],
+    points: &mut [f64],
+    faces: &mut [u32],
+    work: &mut [u32],
+) -> Result<Read, Refusal>
     ensures { let before = rooms_of points.old faces.old work.old in
         outcome_of result points.new faces.new work.new ≡ rule.read_stl file.now before }
 {
-    match stl_file::stl_check(file, points.len(), faces.len(), work.len()) {
-        Verdict::Fine => {}
-        Verdict::Refused(number, place) => {
-            return Read::Refused(number, place);
-        }
-    }
+    stl_file::stl_check(file, points.len(), faces.len(), work.len())?;
     let count = byte_rows::u32_at(file, 80) as usize;
     let n = 3 * count;
     keys(file, n, work);
@@ -118,5 +118,8 @@ pub fn read_stl(file: &[u8], points: &mut [f64], faces: &mut [u32], work: &mut [
     let p = rows::retain(points, work, 5 * n, n);
     rows::clear(points, 3 * p, 3 * n - 3 * p);
     wiping::wipe(work, 0, 64 * count + 64);
-    Read::Done(3 * p, n)
+    Ok(Read {
+        points: 3 * p,
+        faces: n,
+    })
 }

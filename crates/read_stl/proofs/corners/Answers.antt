@@ -1,5 +1,4 @@
 -- `read_stl::corners` meets its contract: the corners before c are written. Assumes nothing.
-use Prim.Native.Nat.{◌-◌}
 use native.Mathlib.Omega.{arith}
 use lib.ListN.{length-set}
 use Rattle.read_stl.proofs.Standing.{begin, turn, read_at, read_first, again, done}
@@ -58,9 +57,6 @@ offset_bounds-points-c-in-loop-c-2 c = omega (arith, turn c.requires c.loop-c.in
 
 pub bounds-points-c-in-loop-c-2 : goal.bounds-points-c-in-loop-c-2
 bounds-points-c-in-loop-c-2 c = simp length-set (omega (arith, turn c.requires c.loop-c.invariant c.loop-c-test.true))
-
-pub overflow_add-c : goal.overflow_add-c
-overflow_add-c c = omega (arith, turn c.requires c.loop-c.invariant c.loop-c-test.true)
 
 pub loop-c-preserved : goal.loop-c-preserved
 loop-c-preserved c = again c.requires c.loop-c.invariant c.loop-c-test.true

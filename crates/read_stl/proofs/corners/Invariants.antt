@@ -1,5 +1,4 @@
 -- `read_stl::corners` meets its contract: the corners before c are written. Assumes nothing.
-use Prim.Native.Nat.{◌-◌}
 use Rattle.read_stl.proofs.Standing.{Standing}
 use Rattle.read_stl.proofs.corners.Given as goal
 

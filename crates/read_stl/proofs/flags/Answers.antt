@@ -1,5 +1,4 @@
 -- `read_stl::flags` meets its contract: the flags before c are written. Assumes nothing.
-use Prim.Native.Nat.{◌-◌}
 use native.Mathlib.Omega.{arith}
 use Rattle.read_stl.proofs.Flagging.{begin, turn, again, done}
 use Rattle.read_stl.proofs.flags.Goals as goal

@@ -1,5 +1,4 @@
 -- `read_stl::flags` meets its contract: the flags before c are written. Assumes nothing.
-use Prim.Native.Nat.{◌-◌}
 use Rattle.read_stl.proofs.Flagging.{Flagging}
 use Rattle.read_stl.proofs.flags.Given as goal
 

@@ -1,5 +1,4 @@
 -- `read_stl::keys` meets its contract: the bits of the corners before c are written. Assumes nothing.
-use Prim.Native.Nat.{◌-◌}
 use native.Mathlib.Omega.{arith}
 use lib.ListN.{length-set}
 use Rattle.read_stl.proofs.Keying.{begin, turn, read_at, read_first, again, done}

@@ -1,5 +1,4 @@
 -- `read_stl::keys` meets its contract: the bits of the corners before c are written. Assumes nothing.
-use Prim.Native.Nat.{◌-◌}
 use Rattle.read_stl.proofs.Keying.{Keyed}
 use Rattle.read_stl.proofs.keys.Given as goal
 

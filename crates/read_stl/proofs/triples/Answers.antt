@@ -1,5 +1,4 @@
 -- `read_stl::triples` meets its contract: the numbers before c are written. Assumes nothing.
-use Prim.Native.Nat.{◌-◌}
 use native.Mathlib.Omega.{arith}
 use Rattle.read_stl.proofs.Numbering.{begin, turn, again, done}
 use Rattle.read_stl.proofs.triples.Goals as goal

@@ -1,5 +1,4 @@
 -- `read_stl::triples` meets its contract: the numbers before c are written. Assumes nothing.
-use Prim.Native.Nat.{◌-◌}
 use Rattle.read_stl.proofs.Numbering.{Numbering}
 use Rattle.read_stl.proofs.triples.Given as goal
 

@@ -41,6 +41,13 @@ pub fn real_at(file: &[u8], i: usize) -> f64
 
 // ---- written
 
+// How many digits a number has in decimal.
+pub fn number_length(n: u32) -> usize
+    ensures { result ≡ length (decimal n) }
+{
+    if n < 10 { 1 } else { number_length(n / 10) + 1 }
+}
+
 // Puts the bytes of a text into the room, from `at` on. Returns where it goes on.
 pub fn put_text(out: &mut [u8], at: usize, text: &[u8]) -> usize
     requires { at + length text.now ≤ length out.old }

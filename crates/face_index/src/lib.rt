@@ -2,7 +2,7 @@
 // has 1024 rows, one for each bucket of points, of as many words as it has room for; a bit of a row stands for a block of faces.
 #![tactic(auto)]
 
-ghost use Rattle.std.specs.Prelude.{◌≡◌, [], ◌∷◌, min, ◌≤◌, ◌<◌, length};
+ghost use Rattle.std.specs.Prelude.{◌≡◌, [], ◌∷◌, ◌<◌};
 ghost use Rattle.rules.specs.Lists.{has};
 ghost use Rattle.face_index.specs.Index as index_of;
 

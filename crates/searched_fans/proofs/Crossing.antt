@@ -1,22 +1,15 @@
 -- The loops over all faces: those that are met at a point, the first that waits, and those that were gone through. Assumes nothing.
 use mathlib.Core.Path.{◌≡◌, refl, sym, ap, ◌∙◌, subst}
-use mathlib.Core.Logic.{◌≢◌, ⊎_elim, ◌⊎◌, inl, inr}
+use mathlib.Core.Logic.{◌≢◌}
 use mathlib.Core.Bool.{Bool, true, false, not, ◌&&◌, cond}
-use mathlib.Core.List.{List, [], ◌∷◌}
-use Prim.Native.Nat.{ℕ, suc, ◌+◌, ◌-◌, ◌*◌, ◌/◌, ◌%◌, ◌≤◌, ◌<◌}
+use mathlib.Core.List.{List}
+use Prim.Native.Nat.{ℕ, ◌+◌, ◌≤◌, ◌<◌}
 use native.Mathlib.Omega.{arith}
-use native.Mathlib.Numerals.{add-one}
 use native.Mathlib.Decide.{dec_lt, ℕ_discrete}
 use borrow.Author.Tests.{eq-eqb, ne_eqb}
-use lib.Dec.{T, eqb}
 use lib.ListN.{length, get_or, set, length-set}
 use lib.Seq.{get_or-set_same, get_or-set_other}
-use Rattle.rules.specs.Lists.{below, filter}
-use Rattle.rules.specs.Mesh.{Face, corners}
-use Rattle.rules.specs.Refusal.{most_faces}
-use Rattle.face_words.specs.Words.{view}
-use Rattle.face_words.specs.Views.{Worded}
-use Rattle.searched_fans.specs.Reaching.{state, meets, NextAsks, NextGives, CrossAsks, CrossGives, WaitingGives, MeetAsks}
+use Rattle.searched_fans.specs.Reaching.{meets, NextAsks, NextGives, CrossAsks, CrossGives, MeetAsks}
 use Rattle.searched_fans.proofs.Meeting.{meets_same, no_candidate}
 
 -- ---- faces that are met
@@ -112,28 +105,3 @@ module _ {xs w₀ : List ℕ} {v x : ℕ} (p : CrossAsks xs w₀) where
 pub nothing : (xs w : List ℕ) (v x : ℕ) → x ≡ v → CrossGives xs w v x w
 nothing xs w v x e =
     record { long = refl; at = λ j b. ap (λ (t : Bool). cond (not t && meets xs w v x j) (get_or w j 0 + 4) (get_or w j 0)) (sym (eq-eqb x v e)) }
-
--- ---- the first face that waits
-
--- none before g waits
-pub record None (w : List ℕ) (g : ℕ) : Type 0 where
-  pub most : g ≤ length w
-  pub none : (j : ℕ) → j < g → state w j ≢ 1
-
--- one face more
-pub none_more : {w : List ℕ} {g : ℕ} → None w g → g < length w → (get_or w g 0 / 4 % 4 ≡ 1 → ⊥) → None w (g + 1)
-unfolding state
-none_more {w} {g} i h n = record { most = omega arith; none = λ j l. go j l (ℕ_discrete j g) }
-  where
-    go : (j : ℕ) → j < g + 1 → Dec (j ≡ g) → state w j ≢ 1
-    go j l (yes e) = subst (λ k. state w k ≢ 1) (sym e) n
-    go j l (no m) = i.none j (omega arith)
-
--- it waits
-pub found : {w : List ℕ} {g : ℕ} → None w g → g < length w → get_or w g 0 / 4 % 4 ≡ 1 → WaitingGives w g
-unfolding state
-found i h e = record { most = i.most; waits = λ l. e; none = i.none }
-
--- none waits
-pub none_left : {w : List ℕ} {g : ℕ} → None w g → length w ≤ g → WaitingGives w g
-none_left i h = record { most = i.most; waits = λ l. absurd (omega arith); none = i.none }

@@ -1,19 +1,16 @@
 -- Going through one face: it is crossed at each of its points. Assumes nothing.
-use mathlib.Core.Path.{◌≡◌, refl, sym, ap, ◌∙◌, subst}
-use mathlib.Core.Logic.{◌≢◌}
+use mathlib.Core.Path.{◌≡◌, ap, ◌∙◌}
 use mathlib.Core.Bool.{Bool, true, false, not, ◌&&◌, cond}
 use mathlib.Core.List.{List}
-use Prim.Native.Nat.{ℕ, ◌+◌, ◌*◌, ◌/◌, ◌%◌, ◌≤◌, ◌<◌}
+use Prim.Native.Nat.{ℕ, ◌+◌, ◌/◌, ◌%◌, ◌<◌}
 use native.Mathlib.Omega.{arith}
 use native.Mathlib.Decide.{ℕ_discrete}
 use lib.Dec.{eqb}
 use lib.ListN.{length, get_or, set, length-set}
 use lib.Seq.{get_or-set_same, get_or-set_other}
-use Rattle.rules.specs.Mesh.{Face}
-use Rattle.rules.specs.Pass5.{share}
 use Rattle.face_words.specs.Words.{view}
 use Rattle.face_words.specs.Views.{Worded}
-use Rattle.searched_fans.specs.Reaching.{state, meets, joins, CrossAsks, CrossGives, ThroughAsks, ThroughGives}
+use Rattle.searched_fans.specs.Reaching.{state, meets, CrossAsks, CrossGives, ThroughAsks, ThroughGives}
 use Rattle.searched_fans.proofs.Meeting.{next, other, cross_word, joins_word, three_points, gone_through}
 
 -- words below k

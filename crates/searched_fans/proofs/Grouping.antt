@@ -1,22 +1,21 @@
 -- The group of a corner by the faces that stand: a face that shares v and another point with one of the group is of the group; and a set of faces that is
 -- closed in this way and has the corner's face has all of them. Assumes nothing.
 use mathlib.Core.Path.{◌≡◌, refl, sym, ap, ◌∙◌, subst}
-use mathlib.Core.Bool.{Bool, true, false, ◌&&◌, cond}
+use mathlib.Core.Bool.{Bool, true, false, cond}
 use mathlib.Core.List.{List, Memᴰ}
-use Prim.Native.Nat.{ℕ, ◌+◌, ◌*◌, ◌/◌, ◌≤◌, ◌<◌}
+use Prim.Native.Nat.{ℕ, ◌*◌, ◌/◌, ◌<◌}
 use native.Mathlib.Omega.{arith}
 use lib.Dec.{T, eqb, eqb→eq, eqb_refl}
 use lib.Ieee.Fits.{and_i}
-use lib.ListN.{length, get_or}
-use Rattle.rules.specs.Lists.{below, filter, has}
+use lib.ListN.{length}
+use Rattle.rules.specs.Lists.{has}
 use Rattle.rules.specs.Mesh.{Face, face, faces_of, corners, exchanged}
-use Rattle.rules.specs.Groups.{group}
 use Rattle.rules.specs.Pass5.{share}
 use Rattle.rule_laws.proofs.Tests.{and_elim}
 use Rattle.rule_laws.proofs.Members.{mem_has, has_mem}
 use Rattle.rule_laws.proofs.Counting.{count_onto}
 use Rattle.rule_laws.proofs.Flat.{face_at}
-use Rattle.rule_laws.proofs.Groups.{Chain, Chain.stay, Chain.link, group_within, group_chain, group_closed, chain_end}
+use Rattle.rule_laws.proofs.Groups.{Chain, Chain.stay, Chain.link, group_chain, group_closed}
 use Rattle.splitting.specs.Corners.{corner_at, joined_at}
 use Rattle.splitting.proofs.Entries.{one_point}
 use Rattle.fan_laws.specs.Opening.{is_in_group}

@@ -1,11 +1,12 @@
 -- What the search has found when no face waits: those that were gone through are the faces of the group. Assumes nothing.
-use mathlib.Core.Path.{◌≡◌, refl, sym, ap, ap₂, ◌∙◌, subst}
+use mathlib.Core.Path.{◌≡◌, refl, sym, ap, ◌∙◌, subst}
+use mathlib.Core.Logic.{◌≢◌}
 use mathlib.Core.Bool.{Bool, true, false, ◌&&◌, cond}
-use mathlib.Core.List.{List, map}
-use Prim.Native.Nat.{ℕ, ◌+◌, ◌-◌, ◌*◌, ◌/◌, ◌%◌, ◌≤◌, ◌<◌}
+use mathlib.Core.List.{List}
+use Prim.Native.Nat.{ℕ, ◌+◌, ◌-◌, ◌<◌}
 use native.Mathlib.Omega.{arith}
 use native.Mathlib.Decide.{ℕ_discrete}
-use borrow.Author.Tests.{eq-eqb, ne_eqb}
+use borrow.Author.Tests.{eq-eqb}
 use lib.Dec.{T, eqb, eqb→eq}
 use lib.Ieee.Fits.{and_i}
 use lib.ListN.{length, get_or}
@@ -21,17 +22,17 @@ use Rattle.fan_laws.proofs.Sums.{sum_agree, sum_map}
 use Rattle.face_words.specs.Words.{stands, view, viewed, place}
 use Rattle.face_words.proofs.Places.{viewed_face, filter_places}
 use Rattle.searched_fans.specs.Reaching.{state, flags_at, CrossAsks, SettleGives, ReachAsks, ReachGives}
-use Rattle.searched_fans.proofs.Meeting.{Alike, view_alike}
+use Rattle.searched_fans.proofs.Meeting.{view_alike}
 use Rattle.searched_fans.proofs.Grouping.{view_origin, all_of_group}
 use Rattle.searched_fans.proofs.Spreading.{Spread}
 
-module _ {xs w₀ : List ℕ} {f v : ℕ} (q : ReachAsks xs w₀ f v) {w : List ℕ} {i : ℕ} (s : Spread q w i) (end : length w ≤ i) where
+module _ {xs w₀ : List ℕ} {f v : ℕ} (q : ReachAsks xs w₀ f v) {w : List ℕ} (s : Spread q w) (none : (g : ℕ) → g < length w → state w g ≢ 1) where
   -- a face that was met was gone through
   through : (g : ℕ) → g < length w₀ → 0 < state w g → state w g ≡ 2
   through g h l = go (ℕ_discrete (state w g) 1)
     where
       go : Dec (state w g ≡ 1) → state w g ≡ 2
-      go (yes e) = absurd (s.none end g h e)
+      go (yes e) = absurd (none g (omega (arith, s.long)) e)
       go (no n) = omega (arith, s.low g h)
 
   -- face g is of the group
@@ -88,12 +89,12 @@ module _ {xs w₀ : List ℕ} {f v : ℕ} (q : ReachAsks xs w₀ f v) {w : List 
           rw (e, sym (found g h) ∙ e) (omega arith)
       word g h false e =
           let k = s.kept g h in
-          let zero-state : state w g ≡ 0 = none (ℕ_discrete (state w g) 0) in
+          let zero-state : state w g ≡ 0 = nothing (ℕ_discrete (state w g) 0) in
           rw (e, sym (found g h) ∙ e) (omega arith)
         where
-          none : Dec (state w g ≡ 0) → state w g ≡ 0
-          none (yes z) = z
-          none (no n) = absurd (subst T (sym (eq-eqb (state w g) 2 (through g h (omega arith))) ∙ e) tt)
+          nothing : Dec (state w g ≡ 0) → state w g ≡ 0
+          nothing (yes z) = z
+          nothing (no n) = absurd (subst T (sym (eq-eqb (state w g) 2 (through g h (omega arith))) ∙ e) tt)
 
       numbers : sum_of (λ i. field (face (viewed xs w₀) i).origin) (filter (is_in_group (viewed xs w₀) q.id) (below (length (viewed xs w₀)))) ≡ sum_of field (filter member (below (length w₀)))
       numbers =

@@ -5,10 +5,9 @@ use mathlib.Core.Bool.{Bool, true, false, ◌&&◌, cond}
 use mathlib.Core.List.{List}
 use Prim.Native.Nat.{ℕ, zero, suc, ◌+◌, ◌*◌, ◌/◌, ◌%◌, ◌≤◌, ◌<◌}
 use native.Mathlib.Omega.{arith}
-use native.Mathlib.Decide.{dec_lt, ℕ_discrete}
-use borrow.Author.Tests.{eq-eqb, lt-ltb, le-ltb}
-use lib.Dec.{T, eqb, ltb, eqb→eq, ltb→lt}
-use lib.Ieee.Fits.{and_i}
+use native.Mathlib.Decide.{ℕ_discrete}
+use borrow.Author.Tests.{eq-eqb}
+use lib.Dec.{T, eqb, ltb, eqb→eq}
 use lib.Ieee.Bits.{is_true}
 use lib.ListN.{length, get_or, set, length-set}
 use lib.Seq.{get_or-set_same, get_or-set_other}
@@ -22,7 +21,9 @@ use Rattle.fan_laws.specs.Opening.{is_in_group}
 use Rattle.fan_laws.proofs.Weights.{group_in}
 use Rattle.face_words.specs.Words.{stands, view, viewed, place}
 use Rattle.splitting.specs.Corners.{joined_at}
-use Rattle.searched_fans.specs.Reaching.{state, joins, ThroughAsks, ThroughGives, WaitingGives, CrossAsks, ReachAsks}
+use Rattle.std.specs.Option.{MatchOption}
+use Rattle.std.specs.Prelude.{Option, Some, None}
+use Rattle.searched_fans.specs.Reaching.{state, joins, ThroughAsks, ThroughGives, WaitingGives, ReachAsks}
 use Rattle.searched_fans.proofs.Meeting.{Alike, stands_alike, view_alike}
 use Rattle.searched_fans.proofs.Grouping.{join_group}
 
@@ -54,13 +55,23 @@ count_fewer p q (suc n) i h hi t e = go (ℕ_discrete i n) (λ l. count_fewer p 
     go (yes s) r m = rw (count_below p n, count_below q n, sym (ap p s) ∙ e, sym (ap q s) ∙ is_true (q i) t) (omega arith)
     go (no s) r m = last (p n) refl (q n) refl (r (omega arith))
 
+-- the next face: one that waits, or none does
+abbrev pub Next : List ℕ → Option ℕ → Type 0
+Next w r = MatchOption r ((g : ℕ) → g < length w → state w g ≢ 1) (λ i. (i < length w) × (state w i ≡ 1))
+
+-- as it was looked for
+pub next_given : (w : List ℕ) (r : Option ℕ) → WaitingGives w r → Next w r
+unfolding state
+next_given w None h = h
+next_given w (Some i) h = (h.0, h.1)
+
 -- how many faces were not gone through
 abbrev pub rest : List ℕ → ℕ
 rest w = count (λ g. ltb (state w g) 2) (below (length w))
 
 module _ {xs w₀ : List ℕ} {f v : ℕ} (q : ReachAsks xs w₀ f v) where
-  -- the search with the words w, where i is a face that waits, or there is none
-  pub record Spread (w : List ℕ) (i : ℕ) : Type 0 where
+  -- the search with the words w
+  pub record Spread (w : List ℕ) : Type 0 where
     pub long : length w ≡ length w₀
     pub kept : (g : ℕ) → g < length w₀ → get_or w g 0 ≡ get_or w₀ g 0 + 4 * state w g
     pub low : (g : ℕ) → g < length w₀ → state w g ≤ 2
@@ -69,8 +80,6 @@ module _ {xs w₀ : List ℕ} {f v : ℕ} (q : ReachAsks xs w₀ f v) where
         (g h : ℕ) → g < length w₀ → h < length w₀ → state w g ≡ 2 → T (stands w₀ h) → T (has v (corners (view xs w₀ h))) → T (share v (view xs w₀ g) (view xs w₀ h))
         → 0 < state w h
     pub started : 0 < state w f
-    pub waits : i < length w → state w i ≡ 1
-    pub none : length w ≤ i → (g : ℕ) → g < length w₀ → state w g ≢ 1
 
   -- the words when face f waits
   abbrev first : List ℕ
@@ -80,8 +89,13 @@ module _ {xs w₀ : List ℕ} {f v : ℕ} (q : ReachAsks xs w₀ f v) where
   own_group : T (is_in_group (viewed xs w₀) q.id (place w₀ f))
   own_group = subst (λ k. T (is_in_group (viewed xs w₀) q.id k)) q.own (group_in (viewed xs w₀) q.id q.id (group_self (joined_at (viewed xs w₀)) (3 * length (viewed xs w₀)) q.id q.inside))
 
+  -- the face waits
+  pub first_waits : state first f ≡ 1
+  unfolding state
+  first_waits = rw (get_or-set_same w₀ f (get_or w₀ f 0 + 4) 0 q.here) (omega (arith, q.fresh f q.here))
+
   -- at first
-  pub begin : Spread first f
+  pub begin : Spread first
   unfolding state
   begin =
       record {
@@ -91,8 +105,6 @@ module _ {xs w₀ : List ℕ} {f v : ℕ} (q : ReachAsks xs w₀ f v) where
         sound = λ g h l. go_sound g h l (ℕ_discrete g f);
         closed = λ g h hg hh e. absurd (go_two g hg e (ℕ_discrete g f));
         started = omega (arith, one);
-        waits = λ l. one;
-        none = λ l. absurd (omega (arith, length-set w₀ f (get_or w₀ f 0 + 4), q.here));
       }
     where
       fresh : (g : ℕ) → g < length w₀ → get_or w₀ g 0 / 4 % 4 ≡ 0
@@ -105,7 +117,7 @@ module _ {xs w₀ : List ℕ} {f v : ℕ} (q : ReachAsks xs w₀ f v) where
       there g n = get_or-set_other w₀ f g (get_or w₀ f 0 + 4) 0 n
 
       one : state first f ≡ 1
-      one = rw here (omega (arith, fresh f q.here))
+      one = first_waits
 
       go_kept : (g : ℕ) → g < length w₀ → Dec (g ≡ f) → get_or first g 0 ≡ get_or w₀ g 0 + 4 * state first g
       go_kept g h (yes e) = rw e (omega (arith, here, one))
@@ -125,7 +137,7 @@ module _ {xs w₀ : List ℕ} {f v : ℕ} (q : ReachAsks xs w₀ f v) where
 
   -- ---- one face more is gone through
 
-  module _ {w : List ℕ} {i : ℕ} (s : Spread w i) (hi : i < length w) where
+  module _ {w : List ℕ} {i : ℕ} (s : Spread w) (hi : i < length w) (waits : state w i ≡ 1) where
     -- it is one of the faces
     inside : i < length w₀
     inside = omega (arith, s.long)
@@ -142,14 +154,14 @@ module _ {xs w₀ : List ℕ} {f v : ℕ} (q : ReachAsks xs w₀ f v) where
           worded = record { long = omega (arith, q.worded.long); few = omega (arith, q.worded.few) };
           small = λ g h. omega (arith, s.kept g (omega arith), s.low g (omega arith), q.few g (omega arith));
           here = hi;
-          waits = s.waits hi;
+          waits = waits;
         }
 
     module _ {w' : List ℕ} (t : ThroughGives xs w i v w') where
       -- the states then
       own_state : state w' i ≡ 2
       unfolding state
-      own_state = let e : get_or w i 0 / 4 % 4 ≡ 1 = s.waits hi in rw t.own (omega arith)
+      own_state = let e : get_or w i 0 / 4 % 4 ≡ 1 = waits in rw t.own (omega arith)
 
       -- of another face that it joins
       joined_state : (g : ℕ) → g < length w₀ → g ≢ i → joins xs w v i g ≡ true → (state w' g ≡ 1) × (get_or w' g 0 ≡ get_or w g 0 + 4) × (state w g ≡ 0)
@@ -213,24 +225,24 @@ module _ {xs w₀ : List ℕ} {f v : ℕ} (q : ReachAsks xs w₀ f v) where
           go (no n) = still g h (omega arith)
 
       -- the search then
-      pub again : {r : ℕ} → WaitingGives w' r → Spread w' r
-      again {r} u =
+      pub again : Spread w'
+      again =
           let l : length w' ≡ length w₀ = t.long ∙ s.long in
           record {
             long = l;
             kept = λ g h.
                 cases (λ g. get_or w g 0 ≡ get_or w₀ g 0 + 4 * state w g → get_or w' g 0 ≡ get_or w₀ g 0 + 4 * state w' g) g h
-                (λ e. rw e (λ k. omega (arith, own_state, t.own, s.waits hi)))
+                (λ e. rw e (λ k. omega (arith, own_state, t.own, waits)))
                 (λ n e k. let b = joined_state g h n e in omega (arith, b.0, b.1, b.2))
                 (λ n e k. let b = other_state g h n e in omega (arith, b.0, b.1)) (s.kept g h);
             low = λ g h.
                 cases (λ g. state w g ≤ 2 → state w' g ≤ 2) g h (λ e k. rw e (omega (arith, own_state))) (λ n e k. omega (arith, (joined_state g h n e).0)) (λ n e k. omega (arith, (other_state g h n e).0)) (s.low g h);
             sound = λ g h p.
                 cases (λ g. g < length w₀ → 0 < state w' g → T (stands w₀ g) × T (is_in_group (viewed xs w₀) q.id (place w₀ g))) g h
-                (λ e h p. subst (λ k. T (stands w₀ k) × T (is_in_group (viewed xs w₀) q.id (place w₀ k))) (sym e) (s.sound i inside (omega (arith, s.waits hi))))
+                (λ e h p. subst (λ k. T (stands w₀ k) × T (is_in_group (viewed xs w₀) q.id (place w₀ k))) (sym e) (s.sound i inside (omega (arith, waits))))
                 (λ n e h p.
                 let b = joins_parts g h e in
-                let c = s.sound i inside (omega (arith, s.waits hi)) in
+                let c = s.sound i inside (omega (arith, waits)) in
                 (b.0, join_group xs w₀ q.id v q.inside q.point i g inside h c.0 b.0 c.1 b.1 b.2))
                 (λ n e h p. s.sound g h (omega (arith, (other_state g h n e).0))) h p;
             closed = λ g h hg hh e a b c.
@@ -239,8 +251,6 @@ module _ {xs w₀ : List ℕ} {f v : ℕ} (q : ReachAsks xs w₀ f v) where
                 (λ n r k e c. absurd (omega (arith, (joined_state g hg n r).0)))
                 (λ n r k e c. still h hh (s.closed g h hg hh (sym (other_state g hg n r).0 ∙ e) a b c)) hg e c;
             started = still f q.here s.started;
-            waits = u.waits;
-            none = λ z g h. u.none g (omega arith);
           }
 
       -- fewer are left
@@ -249,11 +259,11 @@ module _ {xs w₀ : List ℕ} {f v : ℕ} (q : ReachAsks xs w₀ f v) where
           let l : length w' ≡ length w = t.long in
           rw l (count_fewer (λ g. ltb (state w' g) 2) (λ g. ltb (state w g) 2) (length w) i
           (λ g h. stricter g (omega (arith, s.long)))
-          hi (rw (s.waits hi) tt) (rw own_state refl))
+          hi (rw (waits) tt) (rw own_state refl))
         where
           stricter : (g : ℕ) → g < length w₀ → T (ltb (state w' g) 2) → T (ltb (state w g) 2)
           stricter g h k =
               cases (λ g. T (ltb (state w' g) 2) → T (ltb (state w g) 2)) g h
-              (λ e. subst (λ y. T (ltb (state w' y) 2) → T (ltb (state w y) 2)) (sym e) (λ k. rw (s.waits hi) tt))
+              (λ e. subst (λ y. T (ltb (state w' y) 2) → T (ltb (state w y) 2)) (sym e) (λ k. rw (waits) tt))
               (λ n e k. rw (joined_state g h n e).2 tt)
               (λ n e k. subst (λ (y : ℕ). T (ltb y 2)) (other_state g h n e).0 k) k

@@ -1,5 +1,5 @@
 -- The search for the group of a corner, by words: which faces are met, and what the functions ask and give. Definitions only.
-use Rattle.std.specs.Prelude.{◌≡◌, ◌≢◌, Bool, true, false, not, ◌&&◌, cond, List, ℕ, ◌+◌, ◌-◌, ◌*◌, ◌/◌, ◌%◌, ◌≤◌, ◌<◌, T, eqb, length, get_or}
+use Rattle.std.specs.Prelude.{◌≡◌, ◌≢◌, Bool, false, not, ◌&&◌, cond, List, ℕ, ◌+◌, ◌-◌, ◌*◌, ◌/◌, ◌%◌, ◌≤◌, ◌<◌, T, eqb, length, get_or, EachIndex, Option, MatchOption}
 use Rattle.rules.specs.Lists.{below, filter, has}
 use Rattle.rules.specs.Mesh.{Face, face, faces_of, corners}
 use Rattle.rules.specs.Pass5.{share}
@@ -7,7 +7,7 @@ use Rattle.splitting.specs.Corners.{corner_at}
 use Rattle.fan_laws.specs.Sums.{sum_of, field}
 use Rattle.fan_laws.specs.Opening.{single, is_in_group}
 use Rattle.face_words.specs.Words.{stands, view, viewed, place}
-use Rattle.face_words.specs.Views.{Worded, ViewAsks}
+use Rattle.face_words.specs.Views.{Worded}
 
 -- how far the search has come at face g: 0 not met, 1 waits, 2 gone through
 unfoldable pub state : List ℕ → ℕ → ℕ
@@ -72,11 +72,9 @@ pub record ThroughGives (xs w : List ℕ) (i v : ℕ) (w' : List ℕ) : Type 0 w
   pub own : get_or w' i 0 ≡ get_or w i 0 + 4
   pub at : (g : ℕ) → g < length w → g ≢ i → get_or w' g 0 ≡ cond (joins xs w v i g) (get_or w g 0 + 4) (get_or w g 0)
 
--- a face that waits, the first, or the number of faces
-pub record WaitingGives (w : List ℕ) (r : ℕ) : Type 0 where
-  pub most : r ≤ length w
-  pub waits : r < length w → state w r ≡ 1
-  pub none : (g : ℕ) → g < r → state w g ≢ 1
+-- the first face that waits, if one does
+abbrev pub WaitingGives : List ℕ → Option ℕ → Type 0
+WaitingGives w r = MatchOption r (EachIndex w (λ g. get_or w g 0 / 4 % 4 ≢ 1)) (λ i. (i < length w) × (get_or w i 0 / 4 % 4 ≡ 1) × ((g : ℕ) → g < i → get_or w g 0 / 4 % 4 ≢ 1))
 
 -- the faces that were gone through are flagged at v
 pub record SettleGives (xs w : List ℕ) (v : ℕ) (w' : List ℕ) (r : ℕ) : Type 0 where

@@ -2,40 +2,13 @@
 // Bits 2 and 3 of a word say how far the search for a group has come: 0 not met, 1 waits, 2 gone through. Bits 4 to 6: the group of corner 0, 1, 2 has been met.
 #![tactic(auto)]
 
-ghost use Rattle.std.specs.Prelude.{◌≡◌, cond, [], ◌∷◌, ◌≤◌, eqb, length};
-ghost use Rattle.rules.specs.Lists.{has};
-ghost use Rattle.rules.specs.Line.{decimal};
-ghost use Rattle.rules.specs.Refusal.{most_faces};
+ghost use Rattle.std.specs.Prelude.{◌≡◌, cond, eqb};
 ghost use Rattle.face_index.specs.Index.{Indexed};
 ghost use Rattle.searched_fans.specs.Reaching as by;
 
+use byte_rows::number_length;
+use face_index::among;
 use face_words::{stands, view};
-
-// How many digits a number has in decimal.
-pub fn number_length(n: u32) -> usize
-    ensures { result ≡ length (decimal n) }
-{
-    let mut m = n;
-    let mut k = 1;
-    while m >= 10 {
-        m = m / 10;
-        k += 1;
-    }
-    k
-}
-
-// Whether v is one of a, b and c.
-fn among(v: u32, a: u32, b: u32, c: u32) -> bool
-    ensures { result ≡ has v (a ∷ b ∷ c ∷ []) }
-{
-    if v == a {
-        return true;
-    }
-    if v == b {
-        return true;
-    }
-    v == c
-}
 
 // Whether face g stands, was not met, and has both v and x.
 fn meets(faces: &[u32], words: &[u32], g: usize, v: u32, x: u32) -> bool
@@ -49,10 +22,7 @@ fn meets(faces: &[u32], words: &[u32], g: usize, v: u32, x: u32) -> bool
         return false;
     }
     let c = view(faces, words, g);
-    if among(v, c.a, c.b, c.c) {
-        return among(x, c.a, c.b, c.c);
-    }
-    false
+    among(v, c.a, c.b, c.c) && among(x, c.a, c.b, c.c)
 }
 
 // The next face to look at from `from` on among those that may have both a and b.
@@ -95,27 +65,18 @@ fn go_through(faces: &[u32], index: &[u32], words: &mut [u32], i: usize, v: u32)
     cross(faces, index, words, v, c.c);
 }
 
-// The first face that waits, or the number of faces.
-fn next_waiting(words: &[u32]) -> usize
-    requires { length words.now ≤ most_faces }
+// The first face that waits.
+fn next_waiting(words: &[u32]) -> Option<usize>
     ensures { by.WaitingGives words.now result }
 {
-    for g in 0..words.len() {
-        if words[g] / 4 % 4 == 1 {
-            return g;
-        }
-    }
-    words.len()
+    words.iter().position(|word| *word / 4 % 4 == 1)
 }
 
 // The flag of a corner, if it is v.
 fn flag(x: u32, v: u32, bit: u32) -> u32
     ensures { result ≡ cond (eqb x v) bit 0 }
 {
-    if x == v {
-        return bit;
-    }
-    0
+    if x == v { bit } else { 0 }
 }
 
 // The flags of the corners that are v.
@@ -148,10 +109,10 @@ pub fn reach(faces: &[u32], index: &[u32], words: &mut [u32], f: usize, v: u32) 
     ensures { (q : by.ReachAsks faces.now words.old f v) → by.ReachGives q words.new result }
 {
     words[f] = words[f] + 4;
-    let mut i = f;
-    while i < words.len() {
+    let mut waiting = Some(f);
+    while let Some(i) = waiting {
         go_through(faces, index, words, i, v);
-        i = next_waiting(words);
+        waiting = next_waiting(words);
     }
     settle(faces, words, v)
 }

@@ -8,8 +8,8 @@ ghost use Rattle.fan_laws.specs.Sums.{sum_of, field};
 ghost use Rattle.face_index.specs.Index.{Indexed};
 ghost use Rattle.searched_isolated.specs.Points as by;
 
+use byte_rows::number_length;
 use face_words::{stands, view};
-use searched_fans::number_length;
 use searched_splits::{met_at, pick, same};
 
 // The bytes of a line for each of the points.

@@ -28,7 +28,7 @@ fn degenerate_line(points: &[f64], s: f64, faces: &[u32], words: &[u32], f: usiz
     if kind == 0 {
         return 0;
     }
-    let n = searched_fans::number_length(f as u32);
+    let n = byte_rows::number_length(f as u32);
     if kind == 1 {
         return 14 + n;
     }
@@ -53,7 +53,7 @@ fn marked_line(words: &[u32], n: usize, f: usize) -> usize
     ensures { result ≡ by.marked_line n words.now f }
 {
     if words[f] / 4 % 2 == 1 {
-        return 6 + n + searched_fans::number_length(f as u32);
+        return 6 + n + byte_rows::number_length(f as u32);
     }
     0
 }
@@ -84,7 +84,7 @@ fn exchange_line(faces: &[u32], words: &[u32], f: usize) -> usize
     if faces[3 * f + 1] == faces[3 * f + 2] {
         return 0;
     }
-    3 + searched_fans::number_length(f as u32)
+    3 + byte_rows::number_length(f as u32)
 }
 
 // The bytes of the lines of the exchanged faces.

@@ -7,8 +7,8 @@ ghost use Rattle.face_words.specs.Words.{viewed};
 ghost use Rattle.searched_splits.specs.Splits.{id_of};
 ghost use Rattle.searched_lost.specs.Lost as by;
 
+use byte_rows::number_length;
 use face_words::{stands, view};
-use searched_fans::number_length;
 
 // The bytes of the line of the point that is split off for corner k of face f, if no face takes it.
 fn lost_corner(faces: &[u32], words: &[u32], points: usize, f: usize, k: usize) -> usize

@@ -7,8 +7,9 @@ ghost use Rattle.std.specs.Prelude.{◌≡◌, ◌&&◌, eqb};
 ghost use Rattle.face_index.specs.Index.{Indexed};
 ghost use Rattle.searched_splits.specs.Splits as by;
 
+use byte_rows::number_length;
 use face_words::{stands, view};
-use searched_fans::{number_length, reach};
+use searched_fans::reach;
 
 // How many points are split off, and the bytes of the lines that tell them.
 #[derive(Drop)]

@@ -44,7 +44,7 @@ fn unused_line(faces: &[u32], index: &[u32], words: &[u32], v: u32) -> usize
     if is_used(faces, index, words, v) {
         return 0;
     }
-    3 + searched_fans::number_length(v)
+    3 + byte_rows::number_length(v)
 }
 
 // The bytes of the lines of the points that no face that stands has, of so many points.

@@ -1,12 +1,7 @@
 -- `searched_fans::cross` meets its contract: face after face. The measure is the number of faces to come. Assumes nothing.
-use Prim.Native.Nat.{◌-◌}
 use mathlib.Core.Path.{sym, ◌∙◌}
 use native.Mathlib.Omega.{arith}
 use Rattle.searched_fans.proofs.Crossing.{begin, first_asks, next_asks, ask, turn, hit, miss, done, nothing}
-use Rattle.searched_fans.proofs.cross.Reads as reads
-use Rattle.searched_fans.proofs.cross.Lts as lts
-use Rattle.searched_fans.proofs.meets.Reads as meets-reads
-use Rattle.searched_fans.proofs.next_face.Reads as next-face-reads
 use Rattle.searched_fans.proofs.cross.Goals as goal
 use Rattle.searched_fans.proofs.cross.Goals.{else-meets, then-meets}
 

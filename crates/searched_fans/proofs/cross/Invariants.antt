@@ -2,10 +2,6 @@
 use Prim.Native.Nat.{◌-◌}
 use lib.ListN.{length}
 use Rattle.searched_fans.proofs.Crossing.{Met}
-use Rattle.searched_fans.proofs.cross.Reads as reads
-use Rattle.searched_fans.proofs.cross.Lts as lts
-use Rattle.searched_fans.proofs.meets.Reads as meets-reads
-use Rattle.searched_fans.proofs.next_face.Reads as next-face-reads
 use Rattle.searched_fans.proofs.cross.Given as goal
 
 abbrev pub invariant-loop-g : goal.invariant-loop-g

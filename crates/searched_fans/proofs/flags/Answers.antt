@@ -2,9 +2,6 @@
 use native.Mathlib.Omega.{arith}
 use lib.Dec.{eqb}
 use Rattle.searched_fans.proofs.Meeting.{flag_most, flags_sum}
-use Rattle.searched_fans.proofs.flags.Reads as reads
-use Rattle.searched_fans.proofs.flags.Lts as lts
-use Rattle.searched_fans.proofs.flag.Reads as flag-reads
 use Rattle.searched_fans.proofs.flags.Goals as goal
 
 -- src/lib.rt:123:5

@@ -2,10 +2,6 @@
 use mathlib.Core.Path.{ap}
 use native.Mathlib.Omega.{arith}
 use Rattle.searched_fans.proofs.Going.{read_small, asks_one, asks_two, asks_three, as_long, went}
-use Rattle.searched_fans.proofs.go_through.Reads as reads
-use Rattle.searched_fans.proofs.go_through.Lts as lts
-use Rattle.face_words.proofs.view.Reads as view-reads
-use Rattle.searched_fans.proofs.cross.Reads as cross-reads
 use Rattle.searched_fans.proofs.go_through.Goals as goal
 
 -- src/lib.rt:90:16

@@ -3,11 +3,6 @@ use mathlib.Core.Path.{sym, ap, ◌∙◌}
 use Rattle.rules.specs.Lists.{has}
 use Rattle.rules.specs.Mesh.{corners}
 use Rattle.searched_fans.proofs.Meeting.{was_met, is_gone, has_not, has_both}
-use Rattle.searched_fans.proofs.meets.Reads as reads
-use Rattle.searched_fans.proofs.meets.Lts as lts
-use Rattle.face_words.proofs.stands.Reads as stands-reads
-use Rattle.face_words.proofs.view.Reads as view-reads
-use Rattle.searched_fans.proofs.among.Reads as Among-Reads
 use Rattle.searched_fans.proofs.meets.Goals as goal
 
 -- src/lib.rt:44:9
@@ -29,6 +24,6 @@ returns-then-among c = let xs = c.args.faces.now in
     (sym (c.among.ensures ∙ ap (λ f. has c.args.v (corners f)) c.view-c.ensures) ∙ c.if-among.true)
 
 -- src/lib.rt:39:1
-pub returns : goal.returns
-returns c = has_not c.args.faces.now c.args.words.now c.args.v c.args.x c.args.g
+pub returns-else-among : goal.returns-else-among
+returns-else-among c = c.if-among.false ∙ has_not c.args.faces.now c.args.words.now c.args.v c.args.x c.args.g
     (sym (c.among.ensures ∙ ap (λ f. has c.args.v (corners f)) c.view-c.ensures) ∙ c.if-among.false)

@@ -1,8 +1,5 @@
 -- `searched_fans::next_face` meets its contract: the index tells the next one. Assumes nothing.
 use Rattle.face_index.specs.Index.{joins}
-use Rattle.searched_fans.proofs.next_face.Reads as reads
-use Rattle.searched_fans.proofs.next_face.Lts as lts
-use Rattle.face_index.proofs.next_indexed.Reads as next-indexed-reads
 use Rattle.searched_fans.proofs.next_face.Goals as goal
 
 pub next_indexed-requires : goal.next_indexed-requires

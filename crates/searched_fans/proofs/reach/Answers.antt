@@ -1,13 +1,11 @@
 -- `searched_fans::reach` meets its contract: face after face is gone through, until none waits. The measure is how many were not. Assumes nothing.
 use native.Mathlib.Omega.{arith}
 use mathlib.Core.Path.{refl, sym, ◌∙◌, subst}
-use Rattle.searched_fans.proofs.Spreading.{Spread, begin, asks, again, fewer}
+use Prim.Native.Nat.{◌+◌}
+use lib.ListN.{get_or, length-set}
+use Rattle.std.proofs.lemmas.Option.{MatchOption-at_none, MatchOption-at_some}
+use Rattle.searched_fans.proofs.Spreading.{Spread, begin, first_waits, next_given, asks, again, fewer}
 use Rattle.searched_fans.proofs.Reached.{settle_asks, done}
-use Rattle.searched_fans.proofs.reach.Reads as reads
-use Rattle.searched_fans.proofs.reach.Lts as lts
-use Rattle.searched_fans.proofs.go_through.Reads as go-through-reads
-use Rattle.searched_fans.proofs.next_waiting.Reads as next-waiting-reads
-use Rattle.searched_fans.proofs.settle.Reads as settle-reads
 use Rattle.searched_fans.proofs.reach.Goals as goal
 
 -- src/lib.rt:151:16
@@ -30,39 +28,39 @@ offset_bounds-words-f-2 c = omega (arith, c.requires.reach_asks.here, c.requires
 pub bounds-words-f-2 : goal.bounds-words-f-2
 bounds-words-f-2 c = c.requires.reach_asks.here
 
--- src/lib.rt:153:5
-pub loop-i-init : goal.loop-i-init
-loop-i-init c = λ base q e. subst (λ w. Spread q w c.args.f) (sym e) (begin q)
+-- nothing but face f waits at first
+pub loop-waiting-init : goal.loop-waiting-init
+loop-waiting-init c = let p = c.requires.reach_asks in
+    record {
+      spread = λ base q e. subst (λ w. Spread q w) (sym e) (begin q);
+      next = (omega (arith, p.here, length-set c.args.words.now c.args.f (get_or c.args.words.now c.args.f 0 + 4)), first_waits p);
+    }
 
--- src/lib.rt:154:9
 pub go_through-requires : goal.go_through-requires
 go_through-requires c = let p = c.requires.reach_asks in
-    record { through_asks = asks p (c.loop-i.invariant _ p refl) c.loop-i-test.true; indexed = c.requires.indexed }
+    let n = MatchOption-at_some _ _ _ c.in-Some.is c.loop-waiting.invariant.next in
+    record { through_asks = asks p (c.loop-waiting.invariant.spread _ p refl) n.0 n.1; indexed = c.requires.indexed }
 
--- src/lib.rt:155:9
-pub next_waiting-i-requires : goal.next_waiting-i-requires
-next_waiting-i-requires c = let p = c.requires.reach_asks in
-    omega (arith, c.go_through.ensures.long, (c.loop-i.invariant _ p refl).long, p.worded.few)
+pub loop-waiting-smaller : goal.loop-waiting-smaller
+loop-waiting-smaller c = let p = c.requires.reach_asks in
+    let n = MatchOption-at_some _ _ _ c.in-Some.is c.loop-waiting.invariant.next in
+    fewer p (c.loop-waiting.invariant.spread _ p refl) n.0 n.1 c.go_through.ensures
 
--- src/lib.rt:153:5
-pub loop-i-smaller : goal.loop-i-smaller
-loop-i-smaller c = let p = c.requires.reach_asks in
-    fewer p (c.loop-i.invariant _ p refl) c.loop-i-test.true c.go_through.ensures
+pub loop-waiting-preserved : goal.loop-waiting-preserved
+loop-waiting-preserved c =
+    let n = MatchOption-at_some _ _ _ c.in-Some.is c.loop-waiting.invariant.next in
+    record {
+      spread = λ base q e. again q (c.loop-waiting.invariant.spread base q e) n.0 n.1 c.go_through.ensures;
+      next = next_given _ _ c.next_waiting-waiting.ensures;
+    }
 
--- src/lib.rt:153:5
-pub loop-i-preserved : goal.loop-i-preserved
-loop-i-preserved c = λ base q e. again q (c.loop-i.invariant base q e) c.loop-i-test.true c.go_through.ensures c.next_waiting-i.ensures
-
--- src/lib.rt:157:5
 pub settle-requires : goal.settle-requires
 settle-requires c = let p = c.requires.reach_asks in
-    settle_asks p (c.loop-i.invariant _ p refl) c.loop-i-test.false
+    settle_asks p (c.loop-waiting.invariant.spread _ p refl) (MatchOption-at_none _ _ c.in_default.is c.loop-waiting.invariant.next)
 
--- src/lib.rt:147:1
 pub shape_of-words : goal.shape_of-words
 shape_of-words c = let p = c.requires.reach_asks in
-    c.settle.ensures.long ∙ (c.loop-i.invariant _ p refl).long
+    c.settle.ensures.long ∙ (c.loop-waiting.invariant.spread _ p refl).long
 
--- src/lib.rt:147:1
 pub returns : goal.returns
-returns c = λ q. done q (c.loop-i.invariant _ q refl) c.loop-i-test.false c.settle.ensures
+returns c = λ q. done q (c.loop-waiting.invariant.spread _ q refl) (MatchOption-at_none _ _ c.in_default.is c.loop-waiting.invariant.next) c.settle.ensures

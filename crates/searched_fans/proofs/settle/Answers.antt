@@ -1,14 +1,9 @@
 -- `searched_fans::settle` meets its contract: face after face. Assumes nothing.
-use Prim.Native.Nat.{◌-◌, ◌<◌}
+use Prim.Native.Nat.{◌<◌}
 use lib.ListN.{length}
 use native.Mathlib.Omega.{arith}
 use Rattle.rule_laws.proofs.Digits.{decimal_short}
 use Rattle.searched_fans.proofs.Settling.{begin, turn, ask, flagged, passed, done, flags_most}
-use Rattle.searched_fans.proofs.settle.Reads as reads
-use Rattle.searched_fans.proofs.settle.Lts as lts
-use Rattle.face_words.proofs.view.Reads as view-reads
-use Rattle.searched_fans.proofs.flags.Reads as flags-reads
-use Rattle.searched_fans.proofs.number_length.Reads as number-length-reads
 use Rattle.searched_fans.proofs.settle.Goals as goal
 use Rattle.searched_fans.proofs.settle.Goals.{else-words-g-eq2, then-words-g-eq2}
 

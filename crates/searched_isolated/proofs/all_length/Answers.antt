@@ -5,7 +5,6 @@ use Rattle.rule_laws.proofs.Digits.{decimal_short}
 use Rattle.searched_isolated.proofs.Lines.{begin, again, done}
 use Rattle.searched_isolated.proofs.all_length.Reads as reads
 use Rattle.searched_isolated.proofs.all_length.Lts as lts
-use Rattle.searched_fans.proofs.number_length.Reads as number-length-reads
 use Rattle.searched_isolated.proofs.all_length.Goals as goal
 
 -- src/lib.rt:22:5

@@ -3,7 +3,6 @@ use Prim.Native.Nat.{◌-◌}
 use Rattle.searched_isolated.proofs.Lines.{Told}
 use Rattle.searched_isolated.proofs.all_length.Reads as reads
 use Rattle.searched_isolated.proofs.all_length.Lts as lts
-use Rattle.searched_fans.proofs.number_length.Reads as number-length-reads
 use Rattle.searched_isolated.proofs.all_length.Given as goal
 
 abbrev pub invariant-loop-v : goal.invariant-loop-v

@@ -7,7 +7,6 @@ use Rattle.searched_isolated.proofs.Lines.{corner_met, corner_first}
 use Rattle.searched_isolated.proofs.kept_corner.Reads as reads
 use Rattle.searched_isolated.proofs.kept_corner.Lts as lts
 use Rattle.face_words.proofs.view.Reads as view-reads
-use Rattle.searched_fans.proofs.number_length.Reads as number-length-reads
 use Rattle.searched_splits.proofs.met_at.Reads as met-at-reads
 use Rattle.searched_splits.proofs.pick.Reads as pick-reads
 use Rattle.searched_isolated.proofs.kept_corner.Goals as goal

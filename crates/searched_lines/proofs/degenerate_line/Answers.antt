@@ -10,7 +10,6 @@ use Rattle.face_words.proofs.stands.Reads as stands-reads
 use Rattle.face_words.proofs.view.Reads as view-reads
 use Rattle.measure.proofs.number.Reads as number-reads
 use Rattle.measure.proofs.shape.Reads as shape-reads
-use Rattle.searched_fans.proofs.number_length.Reads as number-length-reads
 use Rattle.searched_lines.proofs.degenerate_line.Goals as goal
 
 pub returns-then-not-stands : goal.returns-then-not-stands

@@ -5,7 +5,6 @@ use Rattle.searched_lines.proofs.Lining.{gone_unturned, straight_none, equal_non
 use Rattle.searched_lines.proofs.exchange_line.Reads as reads
 use Rattle.searched_lines.proofs.exchange_line.Lts as lts
 use Rattle.face_words.proofs.stands.Reads as stands-reads
-use Rattle.searched_fans.proofs.number_length.Reads as number-length-reads
 use Rattle.searched_lines.proofs.exchange_line.Goals as goal
 
 pub returns-then-not-stands : goal.returns-then-not-stands

@@ -4,7 +4,6 @@ use Rattle.rule_laws.proofs.Digits.{decimal_short}
 use Rattle.searched_lines.proofs.Lining.{marked_line_is, unmarked_none}
 use Rattle.searched_lines.proofs.marked_line.Reads as reads
 use Rattle.searched_lines.proofs.marked_line.Lts as lts
-use Rattle.searched_fans.proofs.number_length.Reads as number-length-reads
 use Rattle.searched_lines.proofs.marked_line.Goals as goal
 
 pub overflow_add-result-then-words-f-eq1 : goal.overflow_add-result-then-words-f-eq1

@@ -8,7 +8,6 @@ use Rattle.searched_lost.proofs.Losing.{unmarked_none, several_none, given_none,
 use Rattle.searched_lost.proofs.lost_corner.Reads as reads
 use Rattle.searched_lost.proofs.lost_corner.Lts as lts
 use Rattle.face_words.proofs.view.Reads as view-reads
-use Rattle.searched_fans.proofs.number_length.Reads as number-length-reads
 use Rattle.searched_ranks.proofs.marked.Reads as marked-reads
 use Rattle.searched_ranks.proofs.rank.Reads as rank-reads
 use Rattle.searched_splits.proofs.gives.Reads as gives-reads

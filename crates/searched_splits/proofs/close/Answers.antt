@@ -10,7 +10,6 @@ use Rattle.searched_splits.proofs.Closing.{bit_most, reach_ask, reached, given, 
 use Rattle.searched_splits.proofs.close.Reads as reads
 use Rattle.searched_splits.proofs.close.Lts as lts
 use Rattle.face_words.proofs.view.Reads as view-reads
-use Rattle.searched_fans.proofs.number_length.Reads as number-length-reads
 use Rattle.searched_fans.proofs.reach.Reads as reach-reads
 use Rattle.searched_splits.proofs.bit.Reads as bit-reads
 use Rattle.searched_splits.proofs.gives.Reads as gives-reads

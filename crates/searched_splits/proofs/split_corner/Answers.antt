@@ -10,7 +10,6 @@ use Rattle.searched_splits.proofs.Stepping.{passed, bounds, close_ask, closed, o
 use Rattle.searched_splits.proofs.split_corner.Reads as reads
 use Rattle.searched_splits.proofs.split_corner.Lts as lts
 use Rattle.face_words.proofs.view.Reads as view-reads
-use Rattle.searched_fans.proofs.number_length.Reads as number-length-reads
 use Rattle.searched_splits.proofs.bit.Reads as bit-reads
 use Rattle.searched_splits.proofs.close.Reads as close-reads
 use Rattle.searched_splits.proofs.flagged.Reads as flagged-reads

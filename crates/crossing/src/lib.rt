@@ -10,22 +10,8 @@
 //     3 + 14n       15n + 1 + P     the undirected table of the faces, see `table`
 #![tactic(auto)]
 
-ghost use Rattle.std.specs.Prelude.{◌≡◌, min, max};
+ghost use Rattle.std.specs.Prelude.{◌≡◌};
 ghost use Rattle.crossing.specs.Crossing.{MateAsks, MateGives, MateAllAsks, NoteAsks, NoteGives, SettleAsks, SettleGives, WhoAsks, disagreeing, MarkAsks, MarkGives, ManyAsks, CrossAsks, CrossGives, ThreeAsks, ThreeGives, FaceAsks, FaceGives};
-
-// The lower of two.
-fn lower(x: u32, y: u32) -> u32
-    ensures { result ≡ min x y }
-{
-    if x <= y { x } else { y }
-}
-
-// The higher of two.
-fn higher(x: u32, y: u32) -> u32
-    ensures { result ≡ max x y }
-{
-    if x <= y { y } else { x }
-}
 
 // Notes for the entries of run r which face is across, if they are at most two.
 fn mate(work: &mut [u32], faces: &[u32], n: usize, r: usize)
@@ -87,8 +73,8 @@ fn settle(work: &mut [u32], faces: &[u32], n: usize, r: usize, x: u32, y: u32)
     let from = order + work[starts + r] as usize;
     let to = order + work[starts + (r + 1)] as usize;
     reaching::reach_run(work, faces, n, from, to, x, y);
-    let low = lower(x, y);
-    let high = higher(x, y);
+    let low = x.min(y);
+    let high = x.max(y);
     note(work, faces, n, r, from, to, low, high);
 }
 
@@ -107,10 +93,12 @@ fn who(work: &[u32], n: usize, r: usize, x: u32, y: u32) -> u32
     requires { WhoAsks work.now n r }
     ensures { result ≡ disagreeing work.now n r x y }
 {
+    let noted = 3 + 2 * n + 3 * r;
     if x <= y {
-        return work[3 + 2 * n + 3 * r + 1];
+        work[noted + 1]
+    } else {
+        work[noted + 2]
     }
-    work[3 + 2 * n + 3 * r + 2]
 }
 
 // Marks the component, if some other than face j disagrees.
@@ -118,10 +106,8 @@ fn mark(work: &mut [u32], n: usize, j: usize, known: u32)
     requires { MarkAsks work.old n j }
     ensures { MarkGives work.old n j known work.new }
 {
-    if known != 0 {
-        if known as usize != j + 1 {
-            work[2] = 1;
-        }
+    if known != 0 && known as usize != j + 1 {
+        work[2] = 1;
     }
 }
 

@@ -4,7 +4,7 @@ use mathlib.Core.Bool.{Bool, true, false, not, cond, or-false}
 use mathlib.Core.List.{List, ◌∷◌}
 use Prim.Native.Nat.{ℕ, zero, suc, ◌+◌, ◌*◌, ◌/◌, ◌≤◌, ◌<◌}
 use native.Mathlib.Omega.{arith}
-use borrow.Author.Tests.{eq-eqb, ne_eqb}
+use borrow.Author.Tests.{ne_eqb}
 use lib.Dec.{eqb}
 use lib.ListN.{length, get_or}
 use Rattle.rows.specs.Region.{part}
@@ -48,16 +48,6 @@ module _ (fs : List Face) (n : ℕ) (w : List ℕ) (h : 3 + n ≤ length w) (i :
   turned_at = face_turned (part w 3 n) fs i ∙ ap (λ s. turn s (face fs i)) (get_d_part w 3 n i l)
 
 -- ---- the step of a face
-
--- where the first ends are the same, the last decide
-pub same_from : (x y a b : ℕ) → x ≡ a → eqb y b ≡ same (step x y) (step a b)
-unfolding same
-same_from x y a b e = rw (eq-eqb x a e)
-
--- else the steps differ
-pub not_from : (x y a b : ℕ) → (x ≡ a → ⊥) → false ≡ same (step x y) (step a b)
-unfolding same
-not_from x y a b e = rw (ne_eqb x a e)
 
 module _ (xs : List ℕ) (i x y : ℕ) (h : i < length xs / 3) where
   -- the first, second and third step of the face, by its corners

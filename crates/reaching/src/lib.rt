@@ -19,13 +19,11 @@ ghost use Rattle.orienting.specs.Reaching.{lone, sole};
 ghost use Rattle.reaching.specs.Walking.{walk_of, StandsAsks, VisitAsks, VisitGives, ReachAsks, ReachGives, RunAsks, ReachRunGives, MeetGives, met};
 
 // Whether the step from x to y is the one from a to b.
+#[tactic(auto, unfolding(rules::specs::Steps::same))]
 fn is_step(x: u32, y: u32, a: u32, b: u32) -> bool
     ensures { result ≡ same (step x y) (step a b) }
 {
-    if x == a {
-        return y == b;
-    }
-    false
+    x == a && y == b
 }
 
 // Whether face i makes the step from x to y.
@@ -36,13 +34,7 @@ fn makes(faces: &[u32], i: usize, x: u32, y: u32) -> bool
     let a = faces[3 * i];
     let b = faces[3 * i + 1];
     let c = faces[3 * i + 2];
-    if is_step(x, y, a, b) {
-        return true;
-    }
-    if is_step(x, y, b, c) {
-        return true;
-    }
-    is_step(x, y, c, a)
+    is_step(x, y, a, b) || is_step(x, y, b, c) || is_step(x, y, c, a)
 }
 
 // Whether face i makes the step from x to y as it stands: one that is exchanged does where it made the opposite step.

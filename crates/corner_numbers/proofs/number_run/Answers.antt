@@ -89,53 +89,17 @@ done {m = m} {j = j} p i h =
 pub loop-j-init : goal.loop-j-init
 loop-j-init c = begin c.requires
 
-pub overflow_add-id : goal.overflow_add-id
-overflow_add-id c = omega (arith, turn c.requires c.loop-j.invariant c.loop-j-test.true)
-
-pub offset_bounds-work-run : goal.offset_bounds-work-run
-offset_bounds-work-run c = omega (arith, turn c.requires c.loop-j.invariant c.loop-j-test.true)
-
-pub bounds-work-run : goal.bounds-work-run
-bounds-work-run c = omega (arith, turn c.requires c.loop-j.invariant c.loop-j-test.true)
-
-pub overflow_cast-id : goal.overflow_cast-id
-overflow_cast-id c = omega (arith, turn c.requires c.loop-j.invariant c.loop-j-test.true)
-
 pub extra-requires : goal.extra-requires
 extra-requires c = extra_ok c.requires c.loop-j.invariant c.loop-j-test.true
 
 pub overflow_cast-work : goal.overflow_cast-work
 overflow_cast-work c = omega (arith, turn c.requires c.loop-j.invariant c.loop-j-test.true)
 
-pub overflow_add-work : goal.overflow_add-work
-overflow_add-work c = omega (arith, turn c.requires c.loop-j.invariant c.loop-j-test.true)
-
-pub offset_bounds-work-numbers : goal.offset_bounds-work-numbers
-offset_bounds-work-numbers c = omega (arith, turn c.requires c.loop-j.invariant c.loop-j-test.true)
-
-pub bounds-work-numbers : goal.bounds-work-numbers
-bounds-work-numbers c = omega (arith, turn c.requires c.loop-j.invariant c.loop-j-test.true)
-
 pub overflow_add-new : goal.overflow_add-new
 overflow_add-new c = omega (arith, turn c.requires c.loop-j.invariant c.loop-j-test.true)
 
-pub overflow_cast-work-else-extra : goal.overflow_cast-work-else-extra
-overflow_cast-work-else-extra c = omega (arith, turn c.requires c.loop-j.invariant c.loop-j-test.true)
-
-pub overflow_add-work-else-extra : goal.overflow_add-work-else-extra
-overflow_add-work-else-extra c = omega (arith, turn c.requires c.loop-j.invariant c.loop-j-test.true)
-
-pub offset_bounds-work-numbers-else-extra : goal.offset_bounds-work-numbers-else-extra
-offset_bounds-work-numbers-else-extra c = omega (arith, turn c.requires c.loop-j.invariant c.loop-j-test.true)
-
-pub bounds-work-numbers-else-extra : goal.bounds-work-numbers-else-extra
-bounds-work-numbers-else-extra c = omega (arith, turn c.requires c.loop-j.invariant c.loop-j-test.true)
-
 pub loop-j-preserved : goal.loop-j-preserved
 loop-j-preserved c = elim c.if-extra.branch [ then-extra w ↦ rw (w.work-is, w.new-is) (again c.requires c.loop-j.invariant c.loop-j-test.true (sym c.extra.ensures ∙ w.if-extra.true) refl refl) | else-extra w ↦ rw (w.work-is, w.new-is) (again c.requires c.loop-j.invariant c.loop-j-test.true (sym c.extra.ensures ∙ w.if-extra.false) refl (omega arith)) ]
-
-pub shape_of-work : goal.shape_of-work
-shape_of-work c = c.loop-j.invariant.only.long
 
 pub returns : goal.returns
 returns c = done c.requires c.loop-j.invariant c.loop-j-test.false

@@ -34,24 +34,6 @@ done a i h = record { least = i.least; most = i.most; inside = i.inside; stop = 
 pub loop-p-init : goal.loop-p-init
 loop-p-init c = start c.requires
 
-pub overflow_add-id : goal.overflow_add-id
-overflow_add-id c = omega (arith, turn c.requires c.loop-p.invariant c.loop-p-test.true)
-
-pub offset_bounds-work-sorted : goal.offset_bounds-work-sorted
-offset_bounds-work-sorted c = omega (arith, turn c.requires c.loop-p.invariant c.loop-p-test.true)
-
-pub bounds-work-sorted : goal.bounds-work-sorted
-bounds-work-sorted c = omega (arith, turn c.requires c.loop-p.invariant c.loop-p-test.true)
-
-pub overflow_cast-id : goal.overflow_cast-id
-overflow_cast-id c = omega (arith, turn c.requires c.loop-p.invariant c.loop-p-test.true)
-
-pub offset_bounds-work-id : goal.offset_bounds-work-id
-offset_bounds-work-id c = omega (arith, turn c.requires c.loop-p.invariant c.loop-p-test.true)
-
-pub bounds-work-id : goal.bounds-work-id
-bounds-work-id c = omega (arith, turn c.requires c.loop-p.invariant c.loop-p-test.true)
-
 pub returns-then-work-id : goal.returns-then-work-id
 returns-then-work-id c = stops c.requires c.loop-p.invariant c.loop-p-test.true c.if-work-id.true
 

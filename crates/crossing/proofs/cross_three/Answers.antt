@@ -1,16 +1,9 @@
 -- `crossing::cross_three` meets its contract. Assumes nothing.
-use native.Mathlib.Omega.{arith}
 use Rattle.crossing.proofs.Crossings.{first_asks, second_asks, last_asks, three_gives}
 use Rattle.crossing.proofs.cross_three.Goals as goal
 
 pub cross-requires : goal.cross-requires
 cross-requires c = first_asks c.requires
-
-pub overflow_mul-j : goal.overflow_mul-j
-overflow_mul-j c = omega (arith, c.requires.here, c.requires.going.ready.fits)
-
-pub overflow_add-j : goal.overflow_add-j
-overflow_add-j c = omega (arith, c.requires.here, c.requires.going.ready.fits)
 
 pub cross-requires-2 : goal.cross-requires-2
 cross-requires-2 c = second_asks c.requires c.cross.ensures

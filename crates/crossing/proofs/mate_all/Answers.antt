@@ -1,7 +1,5 @@
 -- `crossing::mate_all` meets its contract: one run a turn. Assumes nothing.
-use Prim.Native.Nat.{◌-◌}
-use native.Mathlib.Omega.{arith}
-use Rattle.crossing.proofs.Mating.{mates_begin, mates_ask, mates_few, mates_again}
+use Rattle.crossing.proofs.Mating.{mates_begin, mates_ask, mates_again}
 use Rattle.crossing.proofs.mate_all.Goals as goal
 
 pub loop-r-init : goal.loop-r-init
@@ -12,9 +10,6 @@ mate-requires c = mates_ask c.requires c.loop-r.invariant c.loop-r-test.true
 
 pub loop-r-preserved : goal.loop-r-preserved
 loop-r-preserved c = mates_again c.requires c.loop-r.invariant c.loop-r-test.true c.mate.ensures
-
-pub shape_of-work : goal.shape_of-work
-shape_of-work c = c.loop-r.invariant.gives.only.long
 
 pub returns : goal.returns
 returns c = c.loop-r.invariant.gives

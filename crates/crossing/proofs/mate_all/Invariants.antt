@@ -1,5 +1,4 @@
 -- `crossing::mate_all` meets its contract: one run a turn. Assumes nothing.
-use Prim.Native.Nat.{◌-◌}
 use Rattle.crossing.proofs.Mating.{MateInv}
 use Rattle.crossing.proofs.mate_all.Given as goal
 

@@ -3,12 +3,6 @@ use native.Mathlib.Omega.{arith}
 use Rattle.crossing.proofs.Settling.{settle_bounds, was_crossed}
 use Rattle.crossing.proofs.open.Goals as goal
 
-pub overflow_mul-n : goal.overflow_mul-n
-overflow_mul-n c = omega (arith, settle_bounds c.requires)
-
-pub overflow_add-n : goal.overflow_add-n
-overflow_add-n c = omega (arith, settle_bounds c.requires)
-
 pub overflow_mul-r : goal.overflow_mul-r
 overflow_mul-r c = omega (arith, settle_bounds c.requires)
 

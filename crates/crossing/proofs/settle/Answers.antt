@@ -3,30 +3,6 @@ use native.Mathlib.Omega.{arith}
 use Rattle.crossing.proofs.Settling.{settle_bounds, run_asks, note_asks, settle_gives}
 use Rattle.crossing.proofs.settle.Goals as goal
 
-pub overflow_mul-order : goal.overflow_mul-order
-overflow_mul-order c = omega (arith, settle_bounds c.requires)
-
-pub overflow_add-order : goal.overflow_add-order
-overflow_add-order c = omega (arith, settle_bounds c.requires)
-
-pub overflow_mul-order-2 : goal.overflow_mul-order-2
-overflow_mul-order-2 c = omega (arith, settle_bounds c.requires)
-
-pub overflow_add-order-2 : goal.overflow_add-order-2
-overflow_add-order-2 c = omega (arith, settle_bounds c.requires)
-
-pub overflow_mul-starts : goal.overflow_mul-starts
-overflow_mul-starts c = omega (arith, settle_bounds c.requires)
-
-pub overflow_add-starts : goal.overflow_add-starts
-overflow_add-starts c = omega (arith, settle_bounds c.requires)
-
-pub overflow_mul-starts-2 : goal.overflow_mul-starts-2
-overflow_mul-starts-2 c = omega (arith, settle_bounds c.requires)
-
-pub overflow_add-starts-2 : goal.overflow_add-starts-2
-overflow_add-starts-2 c = omega (arith, settle_bounds c.requires)
-
 pub overflow_add-from : goal.overflow_add-from
 overflow_add-from c = omega (arith, settle_bounds c.requires)
 
@@ -35,12 +11,6 @@ offset_bounds-work-starts c = omega (arith, settle_bounds c.requires)
 
 pub bounds-work-starts : goal.bounds-work-starts
 bounds-work-starts c = omega (arith, settle_bounds c.requires)
-
-pub overflow_cast-from : goal.overflow_cast-from
-overflow_cast-from c = omega (arith, settle_bounds c.requires)
-
-pub overflow_add-from-2 : goal.overflow_add-from-2
-overflow_add-from-2 c = omega (arith, settle_bounds c.requires)
 
 pub overflow_add-to : goal.overflow_add-to
 overflow_add-to c = omega (arith, settle_bounds c.requires)
@@ -54,12 +24,6 @@ offset_bounds-work-starts-2 c = omega (arith, settle_bounds c.requires)
 pub bounds-work-starts-2 : goal.bounds-work-starts-2
 bounds-work-starts-2 c = omega (arith, settle_bounds c.requires)
 
-pub overflow_cast-to : goal.overflow_cast-to
-overflow_cast-to c = omega (arith, settle_bounds c.requires)
-
-pub overflow_add-to-3 : goal.overflow_add-to-3
-overflow_add-to-3 c = omega (arith, settle_bounds c.requires)
-
 pub reach_run-requires : goal.reach_run-requires
 reach_run-requires c = run_asks c.requires
 
@@ -67,4 +31,4 @@ pub note-requires : goal.note-requires
 note-requires c = note_asks c.requires c.reach_run.ensures
 
 pub returns : goal.returns
-returns c = settle_gives c.requires c.reach_run.ensures c.lower-low.ensures c.higher-high.ensures c.note.ensures
+returns c = settle_gives c.requires c.reach_run.ensures c.min-low.ensures c.max-high.ensures c.note.ensures

@@ -1,20 +1,9 @@
 -- `reaching::lone` meets its contract: one face of the run a turn. Assumes nothing.
-use Prim.Native.Nat.{◌-◌}
-use native.Mathlib.Omega.{arith}
-use Rattle.reaching.proofs.Running.{lone_begin, lone_turn, lone_ask, lone_again, lone_done}
+use Rattle.reaching.proofs.Running.{lone_begin, lone_ask, lone_again, lone_done}
 use Rattle.reaching.proofs.lone.Goals as goal
 
 pub loop-k-init : goal.loop-k-init
 loop-k-init c = lone_begin c.requires
-
-pub offset_bounds-work-k : goal.offset_bounds-work-k
-offset_bounds-work-k c = omega (arith, lone_turn c.requires c.loop-k.invariant c.loop-k-test.true)
-
-pub bounds-work-k : goal.bounds-work-k
-bounds-work-k c = omega (arith, lone_turn c.requires c.loop-k.invariant c.loop-k-test.true)
-
-pub overflow_cast-i : goal.overflow_cast-i
-overflow_cast-i c = omega (arith, lone_turn c.requires c.loop-k.invariant c.loop-k-test.true)
 
 pub met-known-requires : goal.met-known-requires
 met-known-requires c = lone_ask c.requires c.loop-k.invariant c.loop-k-test.true

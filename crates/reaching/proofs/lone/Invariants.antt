@@ -1,5 +1,4 @@
 -- `reaching::lone` meets its contract: one face of the run a turn. Assumes nothing.
-use Prim.Native.Nat.{◌-◌}
 use Rattle.reaching.proofs.Running.{LoneInv}
 use Rattle.reaching.proofs.lone.Given as goal
 

@@ -1,5 +1,4 @@
 -- `reaching::reach_run` meets its contract: one face of the run a turn. Assumes nothing.
-use Prim.Native.Nat.{◌-◌}
 use Rattle.reaching.proofs.Running.{ReachInv}
 use Rattle.reaching.proofs.reach_run.Given as goal
 

@@ -1,13 +1,15 @@
 -- Laws of ranking: what the scans compute is what the rules say. Assumes nothing.
-use mathlib.Core.Path.{◌≡◌, refl, ap, ◌∙◌}
-use mathlib.Core.Bool.{Bool, true, false, not, ◌||◌, beq, cond}
+use mathlib.Core.Path.{◌≡◌, refl, sym, ap, ◌∙◌}
+use mathlib.Core.Bool.{Bool, true, false, not, ◌||◌, beq, cond, true≢false}
 use mathlib.Core.List.{List, [], ◌∷◌, ◌++◌, append-nil, map-append}
 use Prim.Native.Nat.{ℕ, zero, suc, ◌+◌, ◌*◌, ◌-◌, ◌/◌, ◌≤◌, ◌<◌, suc-le-suc}
 use native.Mathlib.Omega.{arith}
 use native.Mathlib.Numerals.{add-one}
 use native.Mathlib.Nat.{not-suc-le-zero, le_of_suc-le-suc}
-use borrow.Author.Tests.{eq-eqb, ne_eqb}
-use lib.Dec.{eqb}
+use borrow.Author.Tests.{eq-eqb, ne_eqb, eqb-true, ltb-true, ltb-false}
+use Rattle.std.specs.List.{position, position_or_len}
+use Rattle.std.proofs.lemmas.Option.{cond_some, none-some}
+use lib.Dec.{eqb, ltb}
 use lib.ListN.{length, get_or, take, drop, length-map, length-take, length-drop}
 use lib.Seq.{take-suc, take_all, length-take-le, get_or-take, get_or-drop}
 use lib.Ieee.{Float}
@@ -19,7 +21,8 @@ use Rattle.rules.specs.Pass3.{second}
 use Rattle.rule_laws.proofs.Lists.{filter_append, through_append}
 use Rattle.rule_laws.proofs.Flat.{face_at}
 use Rattle.rule_laws.proofs.Rising.{All}
-use Rattle.rank.specs.Ranks.{faces_in, count, above, better_or, pick, others, Chosen, RankAsks}
+use Rattle.rank.specs.Ranks.{faces_in, count, above, better_or, pick, others, face_or, RankAsks}
+use Rattle.std.specs.Prelude.{Option, Some, None, IsSome}
 use Rattle.rank.specs.declared.Choice.{Choice}
 
 module _ (F : ℕ) (q : ℕ → Float) where
@@ -82,13 +85,6 @@ run_all {ps} {xs} {run} p = faces_all run (length xs) (count xs) (omega (arith, 
 pub faces_next : (run : List ℕ) (i : ℕ) → i < length run → faces_in (take (i + 1) run) ≡ faces_in (take i run) ++ (get_or run i 0 / 3 ∷ [])
 faces_next run i h = rw (add-one i, take-suc run i 0 h) (map-append (λ id. id / 3) (take i run) (get_or run i 0 ∷ []))
 
--- the face at a place
-pub get_or_faces : (run : List ℕ) (i : ℕ) → get_or (faces_in run) i 0 ≡ get_or run i 0 / 3
-get_or_faces [] zero = refl
-get_or_faces [] (suc i) = refl
-get_or_faces (x ∷ run) zero = refl
-get_or_faces (x ∷ run) (suc i) = get_or_faces run i
-
 -- the faces of the part before a place
 pub faces_take : (k : ℕ) (run : List ℕ) → faces_in (take k run) ≡ take k (faces_in run)
 faces_take zero run = refl
@@ -103,11 +99,41 @@ faces_drop (suc k) (x ∷ run) = faces_drop k run
 
 -- ---- the first place that passes
 
--- where none passes, the first is behind all
-pub first_none : {A : Type 0} (p : A → Bool) (z : A) (xs : List A) → ((s : ℕ) → s < length xs → p (get_or xs s z) ≡ false) → first p xs ≡ length xs
+-- a test either way round
+same_back : (a b : ℕ) → eqb a b ≡ eqb b a
+same_back a b = go (eqb b a) refl
+  where
+    go : (t : Bool) → eqb b a ≡ t → eqb a b ≡ t
+    go true e = eq-eqb a b (sym (eqb-true b a e))
+    go false e = ne_eqb a b (λ h. true≢false (sym (eq-eqb b a (sym h)) ∙ e))
+
+-- the first place of a face in a run
+first_is : (one : ℕ) (run : List ℕ) → position_or_len (λ id. eqb (id / 3) one) run ≡ first (eqb one) (faces_in run)
 unfolding first
-first_none p z [] f = refl
-first_none p z (x ∷ xs) f = rw (f 0 (omega arith)) (ap suc (first_none p z xs (λ s q. f (suc s) (suc-le-suc q))))
+first_is one [] = refl
+first_is one (x ∷ run) = rw (same_back (x / 3) one) (go (eqb one (x / 3)) (first_is one run))
+  where
+    go : (t : Bool) → position_or_len (λ id. eqb (id / 3) one) run ≡ first (eqb one) (faces_in run)
+        → cond (not t) (1 + position_or_len (λ id. eqb (id / 3) one) run) 0 ≡ cond t 0 (suc (first (eqb one) (faces_in run)))
+    go true e = refl
+    go false e = omega (arith, e)
+
+-- where one is found, it is there
+pub found_at : (one : ℕ) (run : List ℕ) {k : ℕ} → Some k ≡ position (λ id. eqb (id / 3) one) run → (k ≡ first (eqb one) (faces_in run)) × (k < length run)
+found_at one run {k} e =
+    let p = position_or_len (λ id. eqb (id / 3) one) run in
+    let s : (ltb p (length run) ≡ true) × (p ≡ k) = cond_some (ltb p (length run)) p k (sym e) in
+    (sym s.1 ∙ first_is one run, rw (← s.1) (ltb-true p (length run) s.0))
+
+-- where none is found, the first is behind all
+pub found_none : (one : ℕ) (run : List ℕ) → None ≡ position (λ id. eqb (id / 3) one) run → length run ≤ first (eqb one) (faces_in run)
+found_none one run e =
+    let p = position_or_len (λ id. eqb (id / 3) one) run in
+    rw (← (first_is one run)) (ltb-false p (length run) (go (ltb p (length run)) e))
+  where
+    go : (t : Bool) → ◌≡◌ {A = Option ℕ} None (cond t (Some (position_or_len (λ id. eqb (id / 3) one) run)) None) → t ≡ false
+    go true h = absurd (none-some _ h)
+    go false h = refl
 
 -- without one i is: the part before its first place, and the part behind it
 pub without_is : (one : ℕ) (us : List ℕ) → without one us ≡ take (first (eqb one) us) us ++ drop (suc (first (eqb one) us)) us
@@ -186,9 +212,14 @@ pub pick_some : (F : ℕ) (q : ℕ → Float) (us : List ℕ) → All (λ x. x <
 pick_some F q [] a h = absurd (not-suc-le-zero h)
 pick_some F q (x ∷ xs) a h = pick_best F q x xs a
 
--- no choice yet is a choice
-pub none_chosen : {ps : List Float} {xs : List ℕ} {b : Choice} → b.face ≡ count xs → Chosen ps xs b
-none_chosen e = record { most = omega arith; value = λ l. absurd (omega arith) }
+-- the face of some choice
+pub face_some : {F : ℕ} (b : Option Choice) → face_or F b < F → IsSome b
+face_some None h = absurd (omega (arith, h))
+face_some (Some c) h = refl
+
+-- what is some has its face
+pub face_of_some : (F : ℕ) {b : Option Choice} {c : Choice} → b ≡ Some c → c.face ≡ face_or F b
+face_of_some F e = rw e
 
 -- one more: it walks otherwise, or not
 module _ (fs : List Face) (e : Step) (f : Bool) (us : List ℕ) (x : ℕ) where

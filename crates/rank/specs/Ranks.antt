@@ -1,11 +1,11 @@
 -- Ranking the faces of a run of entries, over the coordinates ps, the flat list of faces xs and the run's entries. Definitions only.
-use Rattle.std.specs.Prelude.{◌≡◌, Bool, not, ◌&&◌, ◌||◌, cond, List, map, ℕ, ◌/◌, ◌%◌, ◌≤◌, ◌<◌, eqb, ltb, length, get_or, Float}
+use Rattle.std.specs.Prelude.{◌≡◌, Bool, not, ◌&&◌, ◌||◌, cond, List, map, ℕ, ◌/◌, ◌%◌, ◌<◌, eqb, ltb, length, get_or, Float, Option, None, Some, IfSome}
 use Rattle.std.specs.Bool.{beq}
 use Rattle.std.specs.Float.Ieee.{lt}
 use Rattle.rules.specs.Lists.{filter, through}
 use Rattle.rules.specs.Mesh.{Face, face, faces_of, points_of}
 use Rattle.rules.specs.Steps.{Step, walks, quality_of}
-use Rattle.rules.specs.Rank.{better, best}
+use Rattle.rules.specs.Rank.{better, best, without}
 use Rattle.rank.specs.declared.Choice.{Choice}
 
 -- the faces of a run of entries
@@ -51,40 +51,50 @@ pub record QualityAsks (ps : List Float) (xs : List ℕ) (i : ℕ) : Type 0 wher
   pub faces : FacesAsks ps xs
   pub here : i < count xs
 
--- a choice: none yet, or a face with its quality
-pub record Chosen (ps : List Float) (xs : List ℕ) (b : Choice) : Type 0 where
-  pub most : b.face ≤ count xs
-  pub value : b.face < count xs → b.quality ≡ value_of ps xs b.face
+-- a choice: a face with its quality
+pub record Chosen (ps : List Float) (xs : List ℕ) (c : Choice) : Type 0 where
+  pub here : c.face < count xs
+  pub value : c.quality ≡ value_of ps xs c.face
 
--- a choice, and a face to hold it against
-pub record BetterAsks (ps : List Float) (xs : List ℕ) (b : Choice) (j : ℕ) : Type 0 where
+-- its face, or F of none
+abbrev pub face_or : ℕ → Option Choice → ℕ
+face_or F None = F
+face_or F (Some c) = c.face
+
+-- the choice so far, and a face to hold it against
+pub record BetterAsks (ps : List Float) (xs : List ℕ) (b : Option Choice) (j : ℕ) : Type 0 where
   pub faces : FacesAsks ps xs
-  pub chosen : Chosen ps xs b
+  pub chosen : IfSome b (Chosen ps xs)
   pub here : j < count xs
 
 -- the better of both
-pub record BetterGives (ps : List Float) (xs : List ℕ) (b : Choice) (j : ℕ) (r : Choice) : Type 0 where
+pub record BetterGives (ps : List Float) (xs : List ℕ) (b : Option Choice) (j : ℕ) (r : Choice) : Type 0 where
   pub chosen : Chosen ps xs r
-  pub picked : r.face ≡ better_or (count xs) (value_of ps xs) b.face j
+  pub picked : r.face ≡ better_or (count xs) (value_of ps xs) (face_or (count xs) b) j
 
 -- what ranking asks: faces over points, and a run of their entries
 pub record RankAsks (ps : List Float) (xs run : List ℕ) : Type 0 where
   pub faces : FacesAsks ps xs
   pub ids : (i : ℕ) → i < length run → get_or run i 0 < length xs
 
--- a run, and a choice to begin with
-pub record ScanAsks (ps : List Float) (xs run : List ℕ) (b : Choice) : Type 0 where
+-- a run, and the choice to begin with
+pub record ScanAsks (ps : List Float) (xs run : List ℕ) (b : Option Choice) : Type 0 where
   pub rank : RankAsks ps xs run
-  pub chosen : Chosen ps xs b
+  pub chosen : IfSome b (Chosen ps xs)
 
 -- the best of both
-pub record ScanGives (ps : List Float) (xs run : List ℕ) (b r : Choice) : Type 0 where
-  pub chosen : Chosen ps xs r
-  pub picked : r.face ≡ pick (count xs) (value_of ps xs) b.face (faces_in run)
+pub record ScanGives (ps : List Float) (xs run : List ℕ) (b r : Option Choice) : Type 0 where
+  pub chosen : IfSome r (Chosen ps xs)
+  pub picked : face_or (count xs) r ≡ pick (count xs) (value_of ps xs) (face_or (count xs) b) (faces_in run)
 
 -- the best of those that walk otherwise
-pub record OtherGives (ps : List Float) (xs run : List ℕ) (e : Step) (forward : Bool) (r : ℕ) : Type 0 where
-  pub picked : r ≡ pick (count xs) (value_of ps xs) (count xs) (others (faces_of xs) e forward (faces_in run))
+pub record OtherGives (ps : List Float) (xs run : List ℕ) (e : Step) (forward : Bool) (r : Option Choice) : Type 0 where
+  pub chosen : IfSome r (Chosen ps xs)
+  pub picked : face_or (count xs) r ≡ pick (count xs) (value_of ps xs) (count xs) (others (faces_of xs) e forward (faces_in run))
+
+-- the best of those without one entry of `one`
+pub record RestGives (ps : List Float) (xs run : List ℕ) (one : ℕ) (r : Option Choice) : Type 0 where
+  pub picked : face_or (count xs) r ≡ pick (count xs) (value_of ps xs) (count xs) (without one (faces_in run))
 
 -- a run that is not empty
 pub record BestAsks (ps : List Float) (xs run : List ℕ) : Type 0 where

@@ -2,15 +2,15 @@
 // handed over as a part of the slice from its first to its last entry. Each scan computes the quality of an entry's face once.
 #![tactic(auto)]
 
-ghost use Rattle.std.specs.Prelude.{◌≡◌, ◌/◌, eqb, length};
-ghost use Rattle.rules.specs.Lists.{first};
+ghost use Rattle.std.specs.Prelude.{◌≡◌, ◌/◌, nat_eq};
+ghost use Rattle.std.specs.List.{position};
 ghost use Rattle.rules.specs.Mesh.{face, faces_of};
 ghost use Rattle.rules.specs.Pass3 as pass3;
 ghost use Rattle.rules.specs.Steps as steps;
-ghost use Rattle.rank.specs.Ranks.{faces_in, value_of, above, others, WalksAsks, QualityAsks, BetterAsks, BetterGives, ScanAsks, ScanGives, OtherGives, BestAsks, BestGives, RankAsks, SecondAsks};
+ghost use Rattle.rank.specs.Ranks.{faces_in, value_of, above, others, WalksAsks, QualityAsks, BetterAsks, BetterGives, ScanAsks, ScanGives, OtherGives, RestGives, BestAsks, BestGives, RankAsks, SecondAsks};
 
-// The face that ranks first so far, and its quality. The number of faces in place of a face stands for none.
-#[derive(Drop)]
+// A face, and its quality.
+#[derive(Clone, Copy, Debug, PartialEq)]
 struct Choice {
     face: usize,
     quality: f64,
@@ -20,13 +20,7 @@ struct Choice {
 fn outranks(a: f64, i: usize, b: f64, j: usize) -> bool
     ensures { result ≡ above a i b j }
 {
-    if b < a {
-        return true;
-    }
-    if a < b {
-        return false;
-    }
-    i < j
+    b < a || !(a < b) && i < j
 }
 
 // The quality of face i.
@@ -40,48 +34,32 @@ fn quality(points: &[f64], faces: &[u32], i: usize) -> f64
     measure::quality(points, a, b, c)
 }
 
-// Of the best so far and face j the one that ranks first.
-fn better(points: &[f64], faces: &[u32], b: Choice, j: usize) -> Choice
-    requires { BetterAsks points.now faces.now b j }
-    ensures { BetterGives points.now faces.now b j result }
+// Of the best so far, if there is one, and face j the one that ranks first.
+fn better(points: &[f64], faces: &[u32], best: Option<Choice>, j: usize) -> Choice
+    requires { BetterAsks points.now faces.now best j }
+    ensures { BetterGives points.now faces.now best j result }
 {
     let q = quality(points, faces, j);
-    if b.face == faces.len() / 3 {
-        return Choice {
+    match best {
+        Some(b) if !outranks(q, j, b.quality, b.face) => b,
+        _ => Choice {
             face: j,
             quality: q,
-        };
+        },
     }
-    if outranks(q, j, b.quality, b.face) {
-        return Choice {
-            face: j,
-            quality: q,
-        };
-    }
-    b
 }
 
 // The best of `start` and the faces of the run.
-fn scan(points: &[f64], faces: &[u32], run: &[u32], start: Choice) -> Choice
+fn scan(points: &[f64], faces: &[u32], run: &[u32], start: Option<Choice>) -> Option<Choice>
     requires { ScanAsks points.now faces.now run.now start }
     ensures { ScanGives points.now faces.now run.now start result }
 {
-    let mut b = start;
-    for i in 0..run.len() {
-        let j = run[i] as usize / 3;
-        b = better(points, faces, b, j);
+    let mut best = start;
+    for id in run {
+        let j = *id as usize / 3;
+        best = Some(better(points, faces, best, j));
     }
-    b
-}
-
-// No choice yet.
-fn none(faces: &[u32]) -> Choice
-    ensures { result.face ≡ length faces.now / 3 }
-{
-    Choice {
-        face: faces.len() / 3,
-        quality: 0.0,
-    }
+    best
 }
 
 // The face of the run that ranks first.
@@ -89,28 +67,21 @@ pub fn best(points: &[f64], faces: &[u32], run: &[u32]) -> usize
     requires { BestAsks points.now faces.now run.now }
     ensures { BestGives points.now faces.now run.now result }
 {
-    let b = scan(points, faces, run, none(faces));
-    b.face
+    scan(points, faces, run, None).unwrap().face
 }
 
-// The first place of the run with an entry of face `one`; the run's length if there is none.
-pub fn place(run: &[u32], one: usize) -> usize
-    ensures { result ≡ first (eqb one) (faces_in run.now) }
+// The first place of the run with an entry of face `one`.
+pub fn place(run: &[u32], one: usize) -> Option<usize>
+    ensures { result ≡ position (λ id. nat_eq (id / 3) one) run.now }
 {
-    for i in 0..run.len() {
-        let j = run[i] as usize / 3;
-        if j == one {
-            return i;
-        }
-    }
-    run.len()
+    run.iter().position(|id| *id as usize / 3 == one)
 }
 
 // Whether the step from x to y is the one from a to b.
 fn same(x: u32, y: u32, a: u32, b: u32) -> bool
     ensures { result ≡ steps.same (steps.step x y) (steps.step a b) }
 {
-    if x == a { y == b } else { false }
+    x == a && y == b
 }
 
 // Whether face i anywhere steps from `from` to `to`.
@@ -121,16 +92,11 @@ fn walks(faces: &[u32], i: usize, from: u32, to: u32) -> bool
     let a = faces[3 * i];
     let b = faces[3 * i + 1];
     let c = faces[3 * i + 2];
-    if same(from, to, a, b) {
-        return true;
-    }
-    if same(from, to, b, c) {
-        return true;
-    }
-    same(from, to, c, a)
+    same(from, to, a, b) || same(from, to, b, c) || same(from, to, c, a)
 }
 
-// The best of the run's faces whose walk of the edge is not `forward`; the number of faces if there is none.
+// The best of the run's faces whose walk of the edge is not `forward`. Its loop is `scan`'s with a test; one loop over both would take a test that
+// always holds.
 fn scan_other(
     points: &[f64],
     faces: &[u32],
@@ -138,19 +104,32 @@ fn scan_other(
     from: u32,
     to: u32,
     forward: bool,
-) -> usize
+) -> Option<Choice>
     requires { RankAsks points.now faces.now run.now }
     ensures { OtherGives points.now faces.now run.now (steps.step from to) forward result }
 {
-    let mut b = none(faces);
-    for i in 0..run.len() {
-        let j = run[i] as usize / 3;
-        let k = walks(faces, j, from, to);
-        if k != forward {
-            b = better(points, faces, b, j);
+    let mut best = None;
+    for id in run {
+        let j = *id as usize / 3;
+        if walks(faces, j, from, to) != forward {
+            best = Some(better(points, faces, best, j));
         }
     }
-    b.face
+    best
+}
+
+// The best of the run's faces but for the first entry of `one`.
+fn scan_rest(points: &[f64], faces: &[u32], run: &[u32], one: usize) -> Option<Choice>
+    requires { RankAsks points.now faces.now run.now }
+    ensures { RestGives points.now faces.now run.now one result }
+{
+    match place(run, one) {
+        Some(k) => {
+            let before = scan(points, faces, &run[..k], None);
+            scan(points, faces, &run[k + 1..], before)
+        }
+        None => scan(points, faces, run, None),
+    }
 }
 
 // Pass 3's second choice at the edge from `from` to `to`, whose first choice is `one`: the next entry whose walk differs from it, or, if none differs,
@@ -162,17 +141,10 @@ pub fn second(points: &[f64], faces: &[u32], run: &[u32], from: u32, to: u32, on
         let e = steps.step from to in
         result ≡ pass3.second (value_of points.now faces.now) one us (others fs e (steps.walks (face fs one) e) us) }
 {
-    let f = walks(faces, one, from, to);
-    let o = scan_other(points, faces, run, from, to, f);
-    if o < faces.len() / 3 {
-        return o;
+    let forward = walks(faces, one, from, to);
+    let other = scan_other(points, faces, run, from, to, forward);
+    if let Some(choice) = other {
+        return choice.face;
     }
-    let k = place(run, one);
-    if k < run.len() {
-        let h = scan(points, faces, &run[..k], none(faces));
-        let r = scan(points, faces, &run[k + 1..], h);
-        return r.face;
-    }
-    let r = scan(points, faces, run, none(faces));
-    r.face
+    scan_rest(points, faces, run, one).unwrap().face
 }

@@ -1,50 +1,41 @@
 -- `rank::better` meets its contract. What is held against the new quality is the quality of the choice.
 -- Assumes nothing.
-use mathlib.Core.Path.{◌≡◌, sym, ◌∙◌}
+use mathlib.Core.Path.{◌≡◌, refl, sym, ◌∙◌}
 use mathlib.Core.Bool.{Bool, true, false}
 use mathlib.Core.List.{List}
 use Prim.Native.Nat.{ℕ}
 use native.Mathlib.Omega.{arith}
 use lib.Ieee.{Float}
+use Rattle.std.specs.Prelude.{Option, None, Some}
 use Rattle.rank.specs.declared.Choice.{Choice}
-use Rattle.rank.specs.Ranks.{count, value_of, above, BetterAsks, BetterGives}
+use Rattle.rank.specs.Ranks.{count, value_of, above, Chosen, BetterAsks, BetterGives}
 use Rattle.rank.proofs.RankLaws.{better_none, better_some}
-use borrow.Author.Rules.{rules}
 use Rattle.rank.proofs.better.Goals as goal
 
-module _ {ps : List Float} {xs : List ℕ} {b : Choice} {j : ℕ} (p : BetterAsks ps xs b j) {q : Float} (e : q ≡ value_of ps xs j) where
+module _ {ps : List Float} {xs : List ℕ} {best : Option Choice} {j : ℕ} (p : BetterAsks ps xs best j) {q : Float} (e : q ≡ value_of ps xs j) where
   -- none so far: j is taken
-  taken_first : b.face ≡ count xs → BetterGives ps xs b j (record { face = j; quality = q })
-  taken_first n =
-      let h = p.here in
-      record { chosen = record { most = omega arith; value = λ l. e }; picked = better_none (count xs) (value_of ps xs) b.face j n }
+  taken_first : best ≡ None → BetterGives ps xs best j (record { face = j; quality = q })
+  taken_first n = record { chosen = record { here = p.here; value = e }; picked = rw n (better_none (count xs) (value_of ps xs) (count xs) j refl) }
 
   -- what the comparison says of both qualities, it says of the rules' values
-  module _ (n : b.face ≡ count xs → ⊥) {r : Bool} (o : r ≡ above q j b.quality b.face) where
+  module _ {b : Choice} (n : best ≡ Some b) {r : Bool} (o : r ≡ above q j b.quality b.face) where
+    chosen : Chosen ps xs b
+    chosen = rw n at p.chosen
+
     compared : r ≡ above (value_of ps xs j) j (value_of ps xs b.face) b.face
-    compared = let m = p.chosen.most in o ∙ cc (e, p.chosen.value (omega arith))
+    compared = o ∙ cc (e, chosen.value)
 
-    taken : r ≡ true → BetterGives ps xs b j (record { face = j; quality = q })
-    taken t =
-        let h = p.here in
-        record { chosen = record { most = omega arith; value = λ l. e }; picked = better_some (count xs) (value_of ps xs) b.face j n true (sym t ∙ compared) }
+    taken : r ≡ true → BetterGives ps xs best j (record { face = j; quality = q })
+    taken t = record { chosen = record { here = p.here; value = e }; picked = rw n (better_some (count xs) (value_of ps xs) b.face j (omega (arith, chosen.here)) true (sym t ∙ compared)) }
 
-    left : r ≡ false → BetterGives ps xs b j b
-    left t = record { chosen = p.chosen; picked = better_some (count xs) (value_of ps xs) b.face j n false (sym t ∙ compared) }
+    left : r ≡ false → BetterGives ps xs best j b
+    left t = record { chosen = chosen; picked = rw n (better_some (count xs) (value_of ps xs) b.face j (omega (arith, chosen.here)) false (sym t ∙ compared)) }
 
-pub returns-then-b-faces : goal.returns-then-b-faces
-returns-then-b-faces c = let at-quality = c.before.before in
-    let start = at-quality.before.before.before in
-    taken_first start.requires at-quality.quality-q.ensures c.if-b-faces.true
+pub returns-in-Some : goal.returns-in-Some
+returns-in-Some c = left c.requires c.quality-q.ensures c.in-Some.is c.outranks.ensures c.if-not-outranks.true
 
-pub returns-then-outranks : goal.returns-then-outranks
-returns-then-outranks c = let at-outranks = c.before in
-    let at-quality = at-outranks.before.before.before in
-    let start = at-quality.before.before.before in
-    taken start.requires at-quality.quality-q.ensures at-outranks.if-b-faces.false at-outranks.outranks.ensures c.if-outranks.true
+pub returns-in_default : goal.returns-in_default
+returns-in_default c = taken c.requires c.quality-q.ensures c.in-Some.is c.outranks.ensures c.if-not-outranks.false
 
-pub returns : goal.returns
-returns c = let at-outranks = c.before in
-    let at-quality = at-outranks.before.before.before in
-    let start = at-quality.before.before.before in
-    left start.requires at-quality.quality-q.ensures at-outranks.if-b-faces.false at-outranks.outranks.ensures c.if-outranks.false
+pub returns-in_default-2 : goal.returns-in_default-2
+returns-in_default-2 c = taken_first c.requires c.quality-q.ensures c.in_default.is

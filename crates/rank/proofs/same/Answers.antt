@@ -5,10 +5,8 @@ use Rattle.rank.proofs.same.Goals as goal
 
 pub returns-then-x-a : goal.returns-then-x-a
 unfolding same
-returns-then-x-a c = let start = c.before in
-    rw (eq-eqb start.args.x start.args.a c.if-x-a.true)
+returns-then-x-a c = rw (eq-eqb c.args.x c.args.a c.if-x-a.true)
 
 pub returns-else-x-a : goal.returns-else-x-a
 unfolding same
-returns-else-x-a c = let start = c.before in
-    rw (ne_eqb start.args.x start.args.a c.if-x-a.false)
+returns-else-x-a c = rw (ne_eqb c.args.x c.args.a c.if-x-a.false)

@@ -1,33 +1,32 @@
 -- `rank::walks` meets its contract. Assumes nothing.
-use Prim.Native.Nat.{◌≤◌}
-use lib.ListN.{length}
-use native.Mathlib.Omega.{arith}
+use mathlib.Core.Path.{sym, ◌∙◌}
+use mathlib.Core.Bool.{true≢false}
 use mathlib.Core.List.{List}
-use Prim.Native.Nat.{ℕ}
-use Rattle.rank.specs.Ranks.{WalksAsks}
-use Prim.Native.Nat.{◌*◌, ◌+◌}
+use Prim.Native.Nat.{ℕ, ◌+◌, ◌*◌, ◌≤◌}
+use native.Mathlib.Omega.{arith}
+use lib.ListN.{length}
 use Rattle.rules.specs.Steps.{step}
+use Rattle.rank.specs.Ranks.{WalksAsks}
 use Rattle.rank.proofs.RankLaws.{walks_flat, or_false}
 use Rattle.rank.proofs.walks.Goals as goal
+use Rattle.rank.proofs.walks.Goals.{then-same, else-same}
 
 -- the face's three corners are in the list
 in_list : {xs : List ℕ} {i : ℕ} → WalksAsks xs i → 3 * i + 3 ≤ length xs
 in_list p = let w = p.whole in let h = p.here in omega arith
 
-pub returns-then-same : goal.returns-then-same
-returns-then-same c = let at_same = c.before in
-    let start = at_same.before.before.before.before.before in
-    rw (walks_flat start.args.faces.now start.args.i (step start.args.from start.args.to) (in_list start.requires), ← at_same.same.ensures, c.if-same.true)
-
 pub returns-then-same-2 : goal.returns-then-same-2
-returns-then-same-2 c = let at-same2 = c.before in
-    let at_same = at-same2.before.before in
-    let start = at_same.before.before.before.before.before in
-    rw (walks_flat start.args.faces.now start.args.i (step start.args.from start.args.to) (in_list start.requires), ← at_same.same.ensures, at-same2.if-same.false, ← at-same2.same-2.ensures, c.if-same-2.true)
+returns-then-same-2 c =
+    rw (walks_flat c.args.faces.now c.args.i (step c.args.from c.args.to) (in_list c.requires), ← c.same.ensures)
+    (elim c.if-same.branch [
+      | then-same w ↦ rw (w.value-is, w.if-same.true)
+      | else-same w ↦ rw (w.if-same.false, ← w.same-else-same.ensures, ← w.value-is, c.if-same-2.true)
+    ])
 
-pub returns : goal.returns
-returns c = let at-same3 = c in
-    let at-same2 = at-same3.before.before in
-    let at_same = at-same2.before.before in
-    let start = at_same.before.before.before.before.before in
-    rw (walks_flat start.args.faces.now start.args.i (step start.args.from start.args.to) (in_list start.requires), ← at_same.same.ensures, at-same2.if-same.false, ← at-same2.same-2.ensures, at-same3.if-same-2.false, ← at-same3.same-3.ensures) (or_false c.same-3.result)
+pub returns-else-same-2 : goal.returns-else-same-2
+returns-else-same-2 c =
+    rw (walks_flat c.args.faces.now c.args.i (step c.args.from c.args.to) (in_list c.requires), ← c.same.ensures)
+    (elim c.if-same.branch [
+      | then-same w ↦ absurd (true≢false (sym w.if-same.true ∙ sym w.value-is ∙ c.if-same-2.false))
+      | else-same w ↦ rw (w.if-same.false, ← w.same-else-same.ensures, ← w.value-is, c.if-same-2.false, ← c.same-else-same-2.ensures) (or_false c.same-else-same-2.result)
+    ])

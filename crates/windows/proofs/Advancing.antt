@@ -1,16 +1,18 @@
 -- What a window makes of what is known: its runs have the half entries of its vertices. Assumes nothing.
-use Rattle.std.proofs.Common.{◌≡◌, ℕ, zero, suc, ◌+◌, ◌-◌, ◌*◌, ◌/◌, ◌<◌, ◌≤◌, min, true, false, List, length, get_or, sym, refl, ap, ◌∙◌, add-zero, mul-le-mul_right, arith}
+use Rattle.std.proofs.Common.{◌≡◌, ℕ, zero, suc, ◌+◌, ◌-◌, ◌*◌, ◌/◌, ◌<◌, ◌≤◌, min, List, length, get_or, sym, refl, ap, ◌∙◌, add-zero, mul-le-mul_right, arith}
 use native.Mathlib.Decide.{dec_lt}
 use Rattle.rows.specs.Region.{Filled}
+use Rattle.std.specs.Prelude.{Result, Ok, Err}
+use Rattle.refuse.specs.declared.Refusal.{Refusal}
 use Rattle.halves.specs.declared.State.{State}
 use Rattle.halves.specs.Split.{tally}
-use Rattle.halves.specs.Scan.{Told, Small, StartGives}
+use Rattle.halves.specs.Scan.{Upto, Met, Small, StartGives}
 use Rattle.halves.specs.Gather.{halves, RoundsAsks, RoundsGives}
 use Rattle.halves.proofs.Tallies.{tally_some}
 use Rattle.halves.proofs.Halves.{bound}
-use Rattle.halves.proofs.Walking.{small_more, crowd_told}
 use Rattle.windows.specs.Around.{around, corners_of, start_of, sum_to, PassAsks, PassGives, FitGives}
-use Rattle.windows.specs.Window.{begin_of, many_of, RunsAsks, RunsGives, WindowAsks, Counted, AdvanceAsks, AdvanceGives, AllAsks}
+use Rattle.windows.specs.Window.{begin_of, many_of, RunsAsks, RunsCount, RunsGives, WindowAsks, Counted, AdvanceAsks, Passed, WindowGives, Stepped, AllAsks}
+use Rattle.windows.specs.declared.Step.{Step}
 use Rattle.windows.proofs.Arounds.{around_none, around_halves}
 use Rattle.windows.proofs.Places.{start_zero, start_suc, start_before, sum_start, begin_zero, begin_suc}
 
@@ -72,16 +74,14 @@ module _ {f : List ℕ} {P v w more width : ℕ} {t : State} {ends b counts entr
           small = p.small;
         }
 
+    -- as the rules count
+    runs_count : RunsCount (halves f P (length f)) P v w ends' b'
+    runs_count = record { each = λ j h x l. run_is j h x ∙ around_halves f P p.faces (v + j) x l }
+
     -- and the vertices are passed
-    pub together_gives : {r : State} → RunsGives P v w ends' b' t r → AdvanceGives f P (v + w) width counts' r
-    together_gives k =
-        record {
-          counted = record { each = g.counted };
-          passed = record {
-            small = k.small;
-            told = k.told (halves f P (length f)) (record { each = λ j h x l. run_is j h x ∙ around_halves f P p.faces (v + j) x l }) p.told;
-          };
-        }
+    pub together_gives : (r : Result State Refusal) → RunsGives P v w ends' b' t r → WindowGives f P (v + w) width counts' r
+    together_gives (Ok s) k = record { counted = record { each = g.counted }; small = k.small; upto = k.told (halves f P (length f)) runs_count p.upto }
+    together_gives (Err e) k = k.told (halves f P (length f)) runs_count p.upto
 
 -- ---- a vertex alone
 
@@ -96,7 +96,7 @@ module _ {f : List ℕ} {P v width : ℕ} {t : State} {ends b counts entries : L
 
   -- and are taken in
   pub alone_asks : RoundsAsks f P (v * P) (v * P + P) t entries
-  alone_asks = record { faces = p.faces; order = omega arith; within = keys_in; going = p.going; small = p.small; told = p.told; room = p.entries_fit }
+  alone_asks = record { faces = p.faces; order = omega arith; within = keys_in; small = p.small; upto = p.upto; room = p.entries_fit }
 
   -- the vertices after it are counted
   pub alone_pass : PassAsks f (v + 1) 0 width ends b counts
@@ -116,10 +116,10 @@ module _ {f : List ℕ} {P v width : ℕ} {t : State} {ends b counts entries : L
       }
 
   -- it is passed
-  pub alone_gives : {ends' b' counts' : List ℕ} {r : State} → RoundsGives f P (v * P + P) r → PassGives f (v + 1) 0 width ends' b' counts' → AdvanceGives f P (v + 1) width counts' r
-  alone_gives {r = r} k g =
+  pub alone_gives : {ends' b' counts' : List ℕ} {r : State} → RoundsGives f P (v * P + P) (Ok r) → PassGives f (v + 1) 0 width ends' b' counts' → Passed f P (v + 1) width counts' r
+  alone_gives k g =
       let e : v * P + P ≡ (v + 1) * P = omega arith in
-      record { counted = record { each = λ j h. g.counted j h ∙ ap (λ (z : ℕ). corners_of f (z + j)) (add-zero (v + 1)) }; passed = rw e at k }
+      record { counted = record { each = λ j h. g.counted j h ∙ ap (λ (z : ℕ). corners_of f (z + j)) (add-zero (v + 1)) }; small = rw e at k.small; upto = rw e at k.told }
 
 -- ---- the next window
 
@@ -150,9 +150,8 @@ module _ {f : List ℕ} {P v width : ℕ} {t : State} {ends counts entries : Lis
           each = λ j h. omega (arith, g.each j h, p.counted.each j (omega (arith, g.within)));
           zeros = z;
           entries_fit = p.entries_fit;
-          going = p.going;
           small = p.small;
-          told = p.told;
+          upto = p.upto;
         }
 
     -- of one, where the first is too many
@@ -167,9 +166,17 @@ module _ {f : List ℕ} {P v width : ℕ} {t : State} {ends counts entries : Lis
     pub some_in : v + w ≤ P
     some_in = omega (arith, g.within, p.left)
 
+    -- it is passed
+    pub one_step : {counts₂ : List ℕ} {r : State} → Passed f P (v + 1) width counts₂ r → Stepped f P v width counts₂ (record { v = v + 1; t = r })
+    one_step k = record { passed = k; above = omega arith; within = omega (arith, p.left) }
+
+    -- they are
+    pub some_step : {counts₂ : List ℕ} {r : State} → (w ≡ 0 → ⊥) → Passed f P (v + w) width counts₂ r → Stepped f P v width counts₂ (record { v = v + w; t = r })
+    some_step n k = record { passed = k; above = omega arith; within = some_in }
+
 -- ---- all windows
 
--- the vertices before v are passed, and none of their edges is crowded
+-- the vertices before v are passed
 pub record Advanced (f : List ℕ) (P width : ℕ) (ends₀ b₀ counts₀ entries₀ : List ℕ) (ends b counts entries : List ℕ) (t : State) (v : ℕ) : Type 0 where
   pub at_most : v ≤ P
   pub wide : width ≤ 65536
@@ -180,9 +187,8 @@ pub record Advanced (f : List ℕ) (P width : ℕ) (ends₀ b₀ counts₀ entri
   pub counts_long : length counts ≡ length counts₀
   pub entries_long : length entries ≡ length entries₀
   pub counted : Counted f v width counts
-  pub going : t.crowd ≡ false
   pub small : Small (v * P) t
-  pub told : Told (halves f P (length f)) P (v * P) t
+  pub upto : Upto (halves f P (length f)) P (v * P) t
 
 module _ {f : List ℕ} {P : ℕ} {entries₀ : List ℕ} (p : AllAsks f P entries₀) where
   -- the first pass only counts
@@ -205,7 +211,7 @@ module _ {f : List ℕ} {P : ℕ} {entries₀ : List ℕ} (p : AllAsks f P entri
   -- before the first window
   pub begin :
       {width : ℕ} {ends₀ b₀ counts₀ ends b counts : List ℕ} {t : State} → width ≤ 65536 → width ≤ length ends₀ → width ≤ length counts₀
-      → length ends ≡ length ends₀ → length b ≡ length b₀ → length counts ≡ length counts₀ → PassGives f 0 0 width ends b counts → StartGives P t
+      → length ends ≡ length ends₀ → length b ≡ length b₀ → length counts ≡ length counts₀ → PassGives f 0 0 width ends b counts → StartGives t
       → Advanced f P width ends₀ b₀ counts₀ entries₀ ends b counts entries₀ t 0
   begin h e c el bl cl g s =
       let n : 0 ≡ 0 * P = omega arith in
@@ -219,18 +225,17 @@ module _ {f : List ℕ} {P : ℕ} {entries₀ : List ℕ} (p : AllAsks f P entri
         counts_long = cl;
         entries_long = refl;
         counted = record { each = λ k l. g.counted k l };
-        going = s.going;
         small = rw n at s.small;
-        told = rw n at (s.told (halves f P (length f)));
+        upto = rw n at (s.upto (halves f P (length f)) P);
       }
 
   module _ {width : ℕ} {ends₀ b₀ counts₀ ends b counts entries : List ℕ} {t : State} {v : ℕ} (q : Advanced f P width ends₀ b₀ counts₀ entries₀ ends b counts entries t v) where
     -- after the last
-    pub done : P ≤ v → RoundsGives f P (P * P) t
+    pub done : P ≤ v → RoundsGives f P (P * P) (Ok t)
     done h =
         let l = q.at_most in
         let e : v ≡ P = omega arith in
-        record { small = rw e at q.small; told = rw e at q.told }
+        record { small = rw e at q.small; told = rw e at q.upto }
 
     -- the next
     pub advance_asks : v < P → AdvanceAsks f P v width t ends counts entries
@@ -243,32 +248,30 @@ module _ {f : List ℕ} {P : ℕ} {entries₀ : List ℕ} (p : AllAsks f P entri
           counts_fit = omega (arith, q.counts_fit, q.counts_long);
           counted = q.counted;
           entries_fit = omega (arith, p.entries_fit, q.entries_long);
-          going = q.going;
           small = q.small;
-          told = q.told;
+          upto = q.upto;
         }
 
-    module _ {counts₁ : List ℕ} {r : State} {v₁ : ℕ} (g : AdvanceGives f P v₁ width counts₁ r) (within : v₁ ≤ P) where
-      -- a crowded edge ends the loop
-      pub crowd : r.crowd ≡ true → RoundsGives f P (P * P) r
-      crowd e = record { small = small_more (mul-le-mul_right P within) g.passed.small; told = crowd_told e g.passed.told }
+    -- one window more
+    pub again :
+        {ends₁ b₁ counts₁ entries₁ : List ℕ} {s : Step} → Stepped f P v width counts₁ s
+        → length ends₁ ≡ length ends → length b₁ ≡ length b → length counts₁ ≡ length counts → length entries₁ ≡ length entries
+        → Advanced f P width ends₀ b₀ counts₀ entries₀ ends₁ b₁ counts₁ entries₁ s.t s.v
+    again g el bl cl nl =
+        record {
+          at_most = g.within;
+          wide = q.wide;
+          ends_fit = q.ends_fit;
+          counts_fit = q.counts_fit;
+          ends_long = el ∙ q.ends_long;
+          b_long = bl ∙ q.b_long;
+          counts_long = cl ∙ q.counts_long;
+          entries_long = nl ∙ q.entries_long;
+          counted = g.passed.counted;
+          small = g.passed.small;
+          upto = g.passed.upto;
+        }
 
-      -- else it goes on
-      pub again :
-          {ends₁ b₁ entries₁ : List ℕ} → r.crowd ≡ false → length ends₁ ≡ length ends → length b₁ ≡ length b → length counts₁ ≡ length counts → length entries₁ ≡ length entries
-          → Advanced f P width ends₀ b₀ counts₀ entries₀ ends₁ b₁ counts₁ entries₁ r v₁
-      again e el bl cl nl =
-          record {
-            at_most = within;
-            wide = q.wide;
-            ends_fit = q.ends_fit;
-            counts_fit = q.counts_fit;
-            ends_long = el ∙ q.ends_long;
-            b_long = bl ∙ q.b_long;
-            counts_long = cl ∙ q.counts_long;
-            entries_long = nl ∙ q.entries_long;
-            counted = g.counted;
-            going = e;
-            small = g.passed.small;
-            told = g.passed.told;
-          }
+-- a crowded edge ends the loop
+pub crowd : {f : List ℕ} {P top : ℕ} {e : Refusal} → Met (halves f P (length f)) P e → RoundsGives f P top (Err e)
+crowd m = record { small = tt; told = m }

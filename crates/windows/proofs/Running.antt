@@ -1,9 +1,11 @@
 -- The loop over the runs of a window: each is copied with the part of its vertex added, and its keys are taken in. Assumes nothing.
 use Rattle.std.proofs.Common.{◌≡◌, ℕ, zero, suc, ◌+◌, ◌-◌, ◌*◌, ◌/◌, ◌<◌, ◌≤◌, List, length, get_or, sym, refl, ap, ◌∙◌, add-zero, mul-le-mul_right, zero-add, add-one, arith}
 use native.Mathlib.Decide.{ℕ_discrete}
+use Rattle.std.specs.Prelude.{Ok, Err}
+use Rattle.refuse.specs.declared.Refusal.{Refusal}
 use Rattle.halves.specs.declared.State.{State}
 use Rattle.halves.specs.Split.{hit, tally}
-use Rattle.halves.specs.Scan.{Told, Small}
+use Rattle.halves.specs.Scan.{Upto, Small}
 use Rattle.halves.specs.Walk.{Counts, WalkAsks, WalkGives}
 use Rattle.halves.proofs.Tallies.{hit_other, tally_zero, tally_suc}
 use Rattle.halves.proofs.Halves.{bound}
@@ -40,7 +42,7 @@ pub record Ran (P v w : ℕ) (ends b entries₀ : List ℕ) (t : State) (entries
   pub from_is : from ≡ (v + j) * P
   pub s_is : s ≡ begin_of ends j
   pub small : Small from r
-  pub told : (c : ℕ → ℕ) → RunsCount c P v w ends b → Told c P (v * P) t → Told c P from r
+  pub upto : (c : ℕ → ℕ) → RunsCount c P v w ends b → Upto c P (v * P) t → Upto c P from r
 
 -- what a turn needs
 pub record Bounds (P w : ℕ) (ends b entries : List ℕ) (from s j : ℕ) : Type 0 where
@@ -61,7 +63,7 @@ module _ {P v w : ℕ} {ends b entries₀ : List ℕ} {t : State} (p : RunsAsks 
         from_is = ap (λ (z : ℕ). z * P) (sym (add-zero v));
         s_is = sym (begin_zero ends);
         small = p.small;
-        told = λ c q u. u;
+        upto = λ c q u. u;
       }
 
   -- the first key of the first vertex is small
@@ -70,12 +72,12 @@ module _ {P v w : ℕ} {ends b entries₀ : List ℕ} {t : State} (p : RunsAsks 
 
   module _ {entries : List ℕ} {r : State} {from s j : ℕ} (q : Ran P v w ends b entries₀ t entries r from s j) where
     -- all
-    pub done : w ≤ j → RunsGives P v w ends b t r
+    pub done : w ≤ j → RunsGives P v w ends b t (Ok r)
     done h =
         let z = q.at_most in
         let e : j ≡ w = omega arith in
         let k : from ≡ (v + w) * P = q.from_is ∙ ap (λ (y : ℕ). (v + y) * P) e in
-        record { small = rw k at q.small; told = λ c m u. rw k at (q.told c m u) }
+        record { small = rw k at q.small; told = λ c m u. rw k at (q.upto c m u) }
 
     module _ (h : j < w) where
       -- where the next vertex' keys begin
@@ -141,8 +143,12 @@ module _ {P v w : ℕ} {ends b entries₀ : List ℕ} {t : State} (p : RunsAsks 
                 rw e (tally_shift entries₁ b s (2 * from) (get_or ends j 0 - s) y at
                 ∙ ap (λ (z : ℕ). tally b z (get_or ends j 0 - z) y) q.s_is ∙ m.each j h y k ∙ ap (λ (z : ℕ). c (2 * z + y)) (sym q.from_is))
 
+        -- a crowded edge is met
+        pub stop : {entries₂ : List ℕ} {e : Refusal} → WalkGives entries₁ 0 (get_or ends j 0 - s) from (from + P) P r entries₂ (Err e) → RunsGives P v w ends b t (Err e)
+        stop k = record { small = tt; told = λ c m u. k.told c (counts c m) (q.upto c m u) }
+
         -- one run more
-        pub again : {entries₂ : List ℕ} {r₂ : State} → WalkGives entries₁ 0 (get_or ends j 0 - s) from (from + P) P r entries₂ r₂ → Ran P v w ends b entries₀ t entries₂ r₂ (from + P) (get_or ends j 0) (j + 1)
+        pub again : {entries₂ : List ℕ} {r₂ : State} → WalkGives entries₁ 0 (get_or ends j 0 - s) from (from + P) P r entries₂ (Ok r₂) → Ran P v w ends b entries₀ t entries₂ r₂ (from + P) (get_or ends j 0) (j + 1)
         again k =
             record {
               at_most = omega arith;
@@ -150,5 +156,5 @@ module _ {P v w : ℕ} {ends b entries₀ : List ℕ} {t : State} (p : RunsAsks 
               from_is = next_is;
               s_is = rw (add-one j) (sym (begin_suc ends j));
               small = k.small;
-              told = λ c m u. k.told c (counts c m) (q.told c m u);
+              upto = λ c m u. k.told c (counts c m) (q.upto c m u);
             }

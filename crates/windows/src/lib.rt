@@ -6,15 +6,15 @@
 // v * P + u, doubled, plus the direction is kept without the part of the vertex: 2 * u, or 2 * u + 1.
 #![tactic(auto)]
 
-ghost use Rattle.std.specs.Prelude.{◌≡◌, ◌+◌, ◌*◌, ◌^◌, ◌<◌, ◌≤◌, min, length};
+ghost use Rattle.std.specs.Prelude.{◌≡◌, ◌+◌, ◌*◌, ◌^◌, ◌<◌, ◌≤◌, length};
 ghost use Rattle.refuse.specs.Accepted.{Faces};
 ghost use Rattle.halves.specs.Gather.{halves, RoundsGives};
 ghost use Rattle.halves.specs.Right.{Right};
 ghost use Rattle.windows.specs.Around.{previous_of, CornerAsks, CornerGives, PassAsks, PassGives, FitAsks, FitGives, WidenAsks, WidenGives};
-ghost use Rattle.windows.specs.Window.{RunsAsks, RunsGives, WindowAsks, AdvanceAsks, AdvanceGives, AllAsks};
+ghost use Rattle.windows.specs.Window.{RunsAsks, RunsGives, WindowAsks, WindowGives, AdvanceAsks, AdvanceGives, AllAsks};
 
 use halves::State;
-use refuse::Verdict;
+use refuse::Refusal;
 
 // The place of the corner before the one at place i of the flat list, in its face.
 fn previous(i: usize) -> usize
@@ -63,7 +63,7 @@ fn pass(
                 put_corner(faces, i, j as usize, ends, buffer);
             } else {
                 let k = (j - inner) as usize;
-                counts[k] = counts[k] + 1;
+                counts[k] += 1;
             }
         }
     }
@@ -78,10 +78,7 @@ fn fit(counts: &[u32], limit: usize, room: usize, most: usize, ends: &mut [u32])
     let mut s: usize = 0;
     for k in 0..limit {
         let n = 2 * (counts[k] as usize);
-        if most < n {
-            return k;
-        }
-        if room - s < n {
+        if most < n || room - s < n {
             return k;
         }
         ends[k] = s as u32;
@@ -109,7 +106,7 @@ fn runs(
     buffer: &[u32],
     entries: &mut [u64],
     t: State,
-) -> State
+) -> Result<State, Refusal>
     requires { RunsAsks points v w ends.now buffer.now entries.old t }
     ensures { RunsGives points v w ends.now buffer.now t result }
 {
@@ -120,11 +117,11 @@ fn runs(
         let e = ends[j] as usize;
         let to = from + points;
         widen(buffer, s, e - s, 2 * from, entries);
-        r = short_runs::walk(entries, 0, e - s, from, to, points, r);
+        r = short_runs::walk(entries, 0, e - s, from, to, points, r)?;
         from = to;
         s = e;
     }
-    r
+    Ok(r)
 }
 
 // Takes in all keys of the vertex v, of which a run would be too long, and counts the corners of the vertices after it.
@@ -138,14 +135,14 @@ fn alone(
     buffer: &mut [u32],
     counts: &mut [u32],
     entries: &mut [u64],
-) -> State
+) -> Result<State, Refusal>
     requires { WindowAsks faces.now points v 0 1 width t ends.old buffer.old counts.old entries.old }
-    ensures { AdvanceGives faces.now points (v + 1) width counts.new result }
+    ensures { WindowGives faces.now points (v + 1) width counts.new result }
 {
     let from = v * points;
-    let r = halves::rounds(points, faces, from, from + points, t, entries);
+    let r = halves::rounds(points, faces, from, from + points, t, entries)?;
     pass(faces, v + 1, 0, width, ends, buffer, counts);
-    r
+    Ok(r)
 }
 
 // Takes in all keys of the w vertices from v on, and counts the corners of the vertices after them.
@@ -160,26 +157,16 @@ fn together(
     buffer: &mut [u32],
     counts: &mut [u32],
     entries: &mut [u64],
-) -> State
+) -> Result<State, Refusal>
     requires { WindowAsks faces.now points v w w width t ends.old buffer.old counts.old entries.old }
-    ensures { AdvanceGives faces.now points (v + w) width counts.new result }
+    ensures { WindowGives faces.now points (v + w) width counts.new result }
 {
     pass(faces, v, w, width, ends, buffer, counts);
     runs(points, v, w, ends, buffer, entries, t)
 }
 
-// The lesser of two numbers.
-fn lesser(x: usize, y: usize) -> usize
-    ensures { result ≡ min x y }
-{
-    if x < y {
-        return x;
-    }
-    y
-}
-
 // The vertices before v are passed.
-#[derive(Drop)]
+#[derive(Clone, Copy, Debug, PartialEq, Eq)]
 struct Step {
     v: u64,
     t: State,
@@ -196,24 +183,23 @@ fn advance(
     buffer: &mut [u32],
     counts: &mut [u32],
     entries: &mut [u64],
-) -> Step
+) -> Result<Step, Refusal>
     requires { AdvanceAsks faces.now points v width t ends.old counts.old entries.old }
-    ensures advance_gives { AdvanceGives faces.now points result.v width counts.new result.t }
-    ensures v_lt_v { (v < result.v) × (result.v ≤ points) }
+    ensures { AdvanceGives faces.now points v width counts.new result }
 {
-    let room = lesser(buffer.len(), 1073741824);
-    let limit = lesser(width, (points - v) as usize);
+    let room = buffer.len().min(1073741824);
+    let limit = width.min((points - v) as usize);
     let w = fit(counts, limit, room, entries.len(), ends);
     rows::clear(counts, 0, width);
     if w == 0 {
-        let r = alone(points, faces, v, width, t, ends, buffer, counts, entries);
-        return Step { v: v + 1, t: r };
+        let r = alone(points, faces, v, width, t, ends, buffer, counts, entries)?;
+        return Ok(Step { v: v + 1, t: r });
     }
-    let r = together(points, faces, v, w, width, t, ends, buffer, counts, entries);
-    Step {
+    let r = together(points, faces, v, w, width, t, ends, buffer, counts, entries)?;
+    Ok(Step {
         v: v + w as u64,
         t: r,
-    }
+    })
 }
 
 // Takes in all keys, window after window.
@@ -224,35 +210,39 @@ fn all(
     buffer: &mut [u32],
     counts: &mut [u32],
     entries: &mut [u64],
-) -> State
+) -> Result<State, Refusal>
     requires { AllAsks faces.now points entries.old }
     ensures { RoundsGives faces.now points (points * points) result }
 {
-    let width = lesser(lesser(ends.len(), counts.len()), 65536);
+    let width = ends.len().min(counts.len()).min(65536);
     rows::clear(counts, 0, width);
     pass(faces, 0, 0, width, ends, buffer, counts);
-    let mut t = halves::start(points);
+    let mut t = halves::start();
     let mut v: u64 = 0;
     while v < points {
-        let s = advance(points, faces, v, width, t, ends, buffer, counts, entries);
+        let s = advance(points, faces, v, width, t, ends, buffer, counts, entries)?;
         v = s.v;
         t = s.t;
-        if t.crowd {
-            return t;
-        }
     }
-    t
+    Ok(t)
 }
 
-// The verdict of all keys, with buffers of 1.75 MB.
-fn large(points: u64, faces: &[u32]) -> Verdict
-    requires { Faces points faces.now }
+// The verdict of all keys, with buffers of 8 * (RUNS + ENTRIES) + 4 * BUFFER bytes. It is not made a part of its caller, so that the buffers are on the stack
+// only where they are used.
+#[inline(never)]
+fn windowed<const RUNS: usize, const BUFFER: usize, const ENTRIES: usize>(
+    points: u64,
+    faces: &[u32],
+) -> Result<(), Refusal>
+    requires accepted { Faces points faces.now }
+    requires entries_fit { 4 < ENTRIES }
+    requires bounded { RUNS + BUFFER + ENTRIES < 2 ^ 32 }
     ensures { Right (halves faces.now points (length faces.now)) points result }
 {
-    let mut ends = [0u32; 32768];
-    let mut counts = [0u32; 32768];
-    let mut buffer = [0u32; 262144];
-    let mut entries = [0u64; 65536];
+    let mut ends = [0u32; RUNS];
+    let mut counts = [0u32; RUNS];
+    let mut buffer = [0u32; BUFFER];
+    let mut entries = [0u64; ENTRIES];
     let t = all(
         points,
         faces,
@@ -260,58 +250,21 @@ fn large(points: u64, faces: &[u32]) -> Verdict
         &mut buffer,
         &mut counts,
         &mut entries,
-    );
-    if t.crowd {
-        return halves::judge(points, t);
-    }
-    // This is never so. A function that calls itself is not made a part of its caller, so that the buffers are on the stack only where they are
-    // used.
-    if points < t.bad {
-        return large(points, faces);
-    }
+    )?;
     halves::judge(points, t)
 }
 
-// The verdict of all keys, with buffers of 672 KB.
-fn middle(points: u64, faces: &[u32]) -> Verdict
-    requires { Faces points faces.now }
-    ensures { Right (halves faces.now points (length faces.now)) points result }
-{
-    let mut ends = [0u32; 16384];
-    let mut counts = [0u32; 16384];
-    let mut buffer = [0u32; 131072];
-    let mut entries = [0u64; 4096];
-    let t = all(
-        points,
-        faces,
-        &mut ends,
-        &mut buffer,
-        &mut counts,
-        &mut entries,
-    );
-    if t.crowd {
-        return halves::judge(points, t);
-    }
-    // This is never so, as in `large`.
-    if points < t.bad {
-        return middle(points, faces);
-    }
-    halves::judge(points, t)
-}
-
-// The verdict of the edge call on 7 and 8: up to 4096 faces with a small buffer, up to 65536 corners of 32768 points with larger
-// ones.
-pub fn decide(points: u64, faces: &[u32]) -> Verdict
+// The verdict of the edge call on 7 and 8: up to 4096 faces with a small buffer, up to 65536 corners of 32768 points with buffers of 672 KB, and else of
+// 1.75 MB.
+pub fn decide(points: u64, faces: &[u32]) -> Result<(), Refusal>
     requires { Faces points faces.now }
     ensures { Right (halves faces.now points (length faces.now)) points result }
 {
     if faces.len() <= 12288 {
         return halves::decide(points, faces);
     }
-    if faces.len() <= 65536 {
-        if points <= 32768 {
-            return middle(points, faces);
-        }
+    if faces.len() <= 65536 && points <= 32768 {
+        return windowed::<16384, 131072, 4096>(points, faces);
     }
-    large(points, faces)
+    windowed::<32768, 262144, 65536>(points, faces)
 }

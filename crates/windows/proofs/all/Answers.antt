@@ -1,49 +1,42 @@
 -- `windows::all` meets its contract. The invariant: the vertices before v are passed, and the corners of those from v on are counted. Assumes nothing.
-use Rattle.std.proofs.Common.{◌-◌, refl, ◌∙◌, arith}
+use Rattle.std.proofs.Common.{refl, ◌∙◌, arith}
+use Rattle.std.proofs.lemmas.Result.{err_from_is_err_and}
 use Rattle.windows.proofs.Advancing.{first_asks, begin, advance_asks, crowd, again, done}
 use Rattle.windows.proofs.all.Goals as goal
 
-pub lesser-requires : goal.lesser-requires
-lesser-requires c = tt
-
-pub lesser-width-requires : goal.lesser-width-requires
-lesser-width-requires c = tt
-
 pub clear-requires : goal.clear-requires
-clear-requires c = omega (arith, c.lesser-width.ensures, c.lesser.ensures)
+clear-requires c = omega (arith, c.min-width.ensures, c.min.ensures)
 
 pub pass-requires : goal.pass-requires
-pass-requires c = first_asks c.requires (omega (arith, c.lesser-width.ensures, c.lesser.ensures)) (omega (arith, c.lesser-width.ensures, c.lesser.ensures)) (omega (arith, c.lesser-width.ensures, c.lesser.ensures, c.clear.auto.work)) c.clear.ensures.filled
-
-pub start-t-requires : goal.start-t-requires
-start-t-requires c = tt
+pass-requires c = first_asks c.requires (omega (arith, c.min-width.ensures, c.min.ensures)) (omega (arith, c.min-width.ensures, c.min.ensures)) (omega (arith, c.min-width.ensures, c.min.ensures, c.clear.auto.work)) c.clear.ensures.filled
 
 pub loop-v-init : goal.loop-v-init
-loop-v-init c = begin c.requires (omega (arith, c.lesser-width.ensures, c.lesser.ensures)) (omega (arith, c.lesser-width.ensures, c.lesser.ensures, c.pass.auto.ends)) (omega (arith, c.lesser-width.ensures, c.lesser.ensures, c.pass.auto.counts, c.clear.auto.work)) refl refl refl c.pass.ensures c.start-t.ensures
+loop-v-init c = begin c.requires (omega (arith, c.min-width.ensures, c.min.ensures)) (omega (arith, c.min-width.ensures, c.min.ensures, c.pass.auto.ends)) (omega (arith, c.min-width.ensures, c.min.ensures, c.pass.auto.counts, c.clear.auto.work)) refl refl refl c.pass.ensures c.start-t.ensures
 
-pub advance-s-requires : goal.advance-s-requires
-advance-s-requires c = advance_asks c.requires c.loop-v.invariant c.loop-v-test.true
+pub advance-requires : goal.advance-requires
+advance-requires c = advance_asks c.requires c.loop-v.invariant c.loop-v-test.true
 
-pub shape_of-ends-then-t : goal.shape_of-ends-then-t
-shape_of-ends-then-t c = c.advance-s.auto.ends ∙ c.loop-v.invariant.ends_long ∙ c.pass.auto.ends
+pub shape_of-ends-in_err-s : goal.shape_of-ends-in_err-s
+shape_of-ends-in_err-s c = c.advance.auto.ends ∙ c.loop-v.invariant.ends_long ∙ c.pass.auto.ends
 
-pub shape_of-buffer-then-t : goal.shape_of-buffer-then-t
-shape_of-buffer-then-t c = c.advance-s.auto.buffer ∙ c.loop-v.invariant.b_long ∙ c.pass.auto.buffer
+pub shape_of-buffer-in_err-s : goal.shape_of-buffer-in_err-s
+shape_of-buffer-in_err-s c = c.advance.auto.buffer ∙ c.loop-v.invariant.b_long ∙ c.pass.auto.buffer
 
-pub shape_of-counts-then-t : goal.shape_of-counts-then-t
-shape_of-counts-then-t c = c.advance-s.auto.counts ∙ c.loop-v.invariant.counts_long ∙ c.pass.auto.counts ∙ c.clear.auto.work
+pub shape_of-counts-in_err-s : goal.shape_of-counts-in_err-s
+shape_of-counts-in_err-s c = c.advance.auto.counts ∙ c.loop-v.invariant.counts_long ∙ c.pass.auto.counts ∙ c.clear.auto.work
 
-pub shape_of-entries-then-t : goal.shape_of-entries-then-t
-shape_of-entries-then-t c = c.advance-s.auto.entries ∙ c.loop-v.invariant.entries_long
+pub shape_of-entries-in_err-s : goal.shape_of-entries-in_err-s
+shape_of-entries-in_err-s c = c.advance.auto.entries ∙ c.loop-v.invariant.entries_long
 
-pub returns-then-t : goal.returns-then-t
-returns-then-t c = crowd c.requires c.loop-v.invariant c.advance-s.ensures.advance_gives c.advance-s.ensures.v_lt_v.1 c.if-t.true
+pub returns-in_err-s : goal.returns-in_err-s
+returns-in_err-s c = let p = err_from_is_err_and c.from_residual.result c.from_residual.ensures.1 in
+    rw (p.1, p.2) (crowd c.in_err-s.ensures)
 
 pub loop-v-smaller : goal.loop-v-smaller
-loop-v-smaller c = let h = c.loop-v-test.true in let q = c.advance-s.ensures.v_lt_v in omega (arith, q.0, q.1)
+loop-v-smaller c = let h = c.loop-v-test.true in omega (arith, c.in_ok-s.ensures.above, c.in_ok-s.ensures.within)
 
 pub loop-v-preserved : goal.loop-v-preserved
-loop-v-preserved c = again c.requires c.loop-v.invariant c.advance-s.ensures.advance_gives c.advance-s.ensures.v_lt_v.1 c.if-t.false c.advance-s.auto.ends c.advance-s.auto.buffer c.advance-s.auto.counts c.advance-s.auto.entries
+loop-v-preserved c = again c.requires c.loop-v.invariant c.in_ok-s.ensures c.advance.auto.ends c.advance.auto.buffer c.advance.auto.counts c.advance.auto.entries
 
 pub shape_of-ends : goal.shape_of-ends
 shape_of-ends c = c.loop-v.invariant.ends_long ∙ c.pass.auto.ends

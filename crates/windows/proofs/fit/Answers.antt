@@ -1,5 +1,5 @@
 -- `windows::fit` meets its contract. The invariant: the first k runs fit, and s is where the next begins. Assumes nothing.
-use Rattle.std.proofs.Common.{◌-◌, arith}
+use Rattle.std.proofs.Common.{◌≡◌, arith}
 use Rattle.windows.proofs.Fitting.{begin, turn, again, done}
 use Rattle.windows.proofs.fit.Goals as goal
 
@@ -27,12 +27,6 @@ returns-then-most-n c = done c.requires c.loop-k.invariant
 pub overflow_sub-room : goal.overflow_sub-room
 overflow_sub-room c = omega (arith, turn c.requires c.loop-k.invariant)
 
-pub shape_of-ends-then-room-s : goal.shape_of-ends-then-room-s
-shape_of-ends-then-room-s c = c.loop-k.invariant.long
-
-pub returns-then-room-s : goal.returns-then-room-s
-returns-then-room-s c = done c.requires c.loop-k.invariant
-
 pub overflow_cast-ends : goal.overflow_cast-ends
 overflow_cast-ends c = omega (arith, turn c.requires c.loop-k.invariant)
 
@@ -52,4 +46,4 @@ pub shape_of-ends : goal.shape_of-ends
 shape_of-ends c = c.loop-k.invariant.long
 
 pub returns : goal.returns
-returns c = done c.requires c.loop-k.invariant
+returns c = let e : c.loop-k.k ≡ c.args.limit = omega (arith, c.loop-k.invariant) in rw e at (done c.requires c.loop-k.invariant)

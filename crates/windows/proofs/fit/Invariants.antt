@@ -1,5 +1,4 @@
 -- `windows::fit` meets its contract. The invariant: the first k runs fit, and s is where the next begins. Assumes nothing.
-use Rattle.std.proofs.Common.{◌-◌}
 use Rattle.windows.proofs.Fitting.{Fitted}
 use Rattle.windows.proofs.fit.Given as goal
 

@@ -1,5 +1,5 @@
 -- `windows::pass` meets its contract. The invariant: of the first i corners those of the window are in their runs, and those after it are counted. Assumes nothing.
-use Rattle.std.proofs.Common.{◌-◌, ⊎_elim, arith}
+use Rattle.std.proofs.Common.{arith}
 use Rattle.windows.proofs.Passing.{begin, bounds, elsewhere, counter_in, counter_small, counting, corner_asks, putting, done}
 use Rattle.windows.proofs.pass.Goals as goal
 use Rattle.windows.proofs.pass.Goals.{then-j-outer+then-j-inner, then-j-outer+else-j-inner, else-j-outer}
@@ -33,9 +33,6 @@ bounds-counts-k c = omega (arith, counter_in c.requires c.loop-i.invariant c.loo
 
 pub overflow_add-counts : goal.overflow_add-counts
 overflow_add-counts c = omega (arith, counter_in c.requires c.loop-i.invariant c.loop-i-test.true c.wrapping_sub_u64-j.ensures.value c.wrapping_sub_u64-j.type_inv c.if-j-outer.true c.if-j-inner.false, counter_small c.requires c.loop-i.invariant c.loop-i-test.true c.wrapping_sub_u64-j.ensures.value c.wrapping_sub_u64-j.type_inv c.if-j-outer.true c.if-j-inner.false)
-
-pub offset_bounds-counts-k-else-j-inner : goal.offset_bounds-counts-k-else-j-inner
-offset_bounds-counts-k-else-j-inner c = omega (arith, counter_in c.requires c.loop-i.invariant c.loop-i-test.true c.wrapping_sub_u64-j.ensures.value c.wrapping_sub_u64-j.type_inv c.if-j-outer.true c.if-j-inner.false, counter_small c.requires c.loop-i.invariant c.loop-i-test.true c.wrapping_sub_u64-j.ensures.value c.wrapping_sub_u64-j.type_inv c.if-j-outer.true c.if-j-inner.false)
 
 pub bounds-counts-k-else-j-inner : goal.bounds-counts-k-else-j-inner
 bounds-counts-k-else-j-inner c = omega (arith, counter_in c.requires c.loop-i.invariant c.loop-i-test.true c.wrapping_sub_u64-j.ensures.value c.wrapping_sub_u64-j.type_inv c.if-j-outer.true c.if-j-inner.false, counter_small c.requires c.loop-i.invariant c.loop-i-test.true c.wrapping_sub_u64-j.ensures.value c.wrapping_sub_u64-j.type_inv c.if-j-outer.true c.if-j-inner.false)

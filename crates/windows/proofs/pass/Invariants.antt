@@ -1,5 +1,4 @@
 -- `windows::pass` meets its contract. The invariant: of the first i corners those of the window are in their runs, and those after it are counted. Assumes nothing.
-use Rattle.std.proofs.Common.{◌-◌, length}
 use Rattle.windows.proofs.Passing.{Passed}
 use Rattle.windows.proofs.pass.Given as goal
 

@@ -1,5 +1,4 @@
 -- `windows::runs` meets its contract. The invariant: the runs before run j are taken in. Assumes nothing.
-use Rattle.std.proofs.Common.{◌-◌}
 use Rattle.windows.proofs.Running.{Ran}
 use Rattle.windows.proofs.runs.Given as goal
 

@@ -10,4 +10,4 @@ pub runs-requires : goal.runs-requires
 runs-requires c = runs_asks c.requires (omega arith) c.pass.ensures c.pass.auto.ends c.pass.auto.buffer
 
 pub returns : goal.returns
-returns c = together_gives c.requires (omega arith) c.pass.ensures c.pass.auto.ends c.pass.auto.buffer c.runs.ensures
+returns c = together_gives c.requires (omega arith) c.pass.ensures c.pass.auto.ends c.pass.auto.buffer _ c.runs.ensures

@@ -1,5 +1,5 @@
 -- `windows::widen` meets its contract. The invariant: the first i entries are copied. Assumes nothing.
-use Rattle.std.proofs.Common.{◌+◌, ◌-◌, arith}
+use Rattle.std.proofs.Common.{◌+◌, arith}
 use Rattle.windows.proofs.Fitting.{widen_none, widen_turn, widen_more, widen_all}
 use Rattle.windows.proofs.widen.Goals as goal
 

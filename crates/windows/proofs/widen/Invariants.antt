@@ -1,5 +1,4 @@
 -- `windows::widen` meets its contract. The invariant: the first i entries are copied. Assumes nothing.
-use Rattle.std.proofs.Common.{◌-◌}
 use Rattle.windows.proofs.Fitting.{Widened}
 use Rattle.windows.proofs.widen.Given as goal
 

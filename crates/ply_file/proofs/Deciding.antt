@@ -2,13 +2,11 @@
 use mathlib.Core.Path.{◌≡◌, sym, ap, ap₂, ◌∙◌}
 use mathlib.Core.List.{List, [], ◌∷◌, ◌++◌}
 use Prim.Native.Nat.{ℕ}
-use Rattle.rules.specs.Refusal.{Check, no, decided, no5, no6}
+use Rattle.rules.specs.Refusal.{Check, ok, no, decided, no5, no6}
 use Rattle.rules.specs.Ply.{vertices_in, faces_in_is, triples_of, no13}
 use Rattle.rules.specs.ReadPlyCall.{read_ply_rooms}
-use Rattle.refuse.specs.Verdicts.{check_of, counts}
-use Rattle.refuse.specs.declared.Verdict.{Verdict}
-use Rattle.refuse.specs.declared.Verdict.TheVariants.{Fine}
-use Rattle.refuse.proofs.Groups.{found_none, stop_at, go_past}
+use Rattle.refuse.specs.Verdicts.{counts}
+use Rattle.refuse.proofs.Groups.{stop_at, go_past}
 use Rattle.refuse.proofs.Singles.{counts_fine}
 use Rattle.ply_file.specs.Files.{Whole, Formless, BodyAsks, opening}
 
@@ -18,14 +16,14 @@ use Rattle.ply_file.specs.Files.{Whole, Formless, BodyAsks, opening}
 pub is_formless : (file : List ℕ) (ys : List Check) → Formless file → no 13 0 ≡ decided (opening file ++ ys)
 is_formless file ys h = stop_at _ _ _ _ h.form
 
-module _ {file : List ℕ} {p f at : ℕ} (w : Whole file p f at) (v : Verdict) (e : check_of v ≡ decided (counts p f)) where
+module _ {file : List ℕ} {p f at : ℕ} (w : Whole file p f at) where
   -- in one that has it 2 decides, of the counts that stand there
-  pub is_opened : check_of v ≡ decided (opening file)
-  is_opened = go_past (no13 file) _ _ (sym w.form) (e ∙ ap₂ (λ (a b : ℕ). decided (counts a b)) (sym w.vertices) (sym w.faces))
+  pub is_opened : {c : Check} → c ≡ decided (counts p f) → c ≡ decided (opening file)
+  is_opened e = go_past (no13 file) _ _ (sym w.form) (e ∙ ap₂ (λ (a b : ℕ). decided (counts a b)) (sym w.vertices) (sym w.faces))
 
   -- and where 2 finds nothing the body can be reckoned
-  pub body_asks : v ≡ Fine → BodyAsks file at p f
-  body_asks t = record { whole = w; limits = counts_fine p f (found_none _ v e t) }
+  pub body_asks : ok ≡ decided (counts p f) → BodyAsks file at p f
+  body_asks e = record { whole = w; limits = counts_fine p f (sym e) }
 
 -- ---- 5 and 6
 

@@ -9,8 +9,7 @@ use lib.Dec.{eqb}
 use lib.ListN.{length, take, drop, length-take, length-drop, take-append-drop}
 use lib.Seq.{take-add}
 use Rattle.rows.specs.Region.{part}
-use Rattle.rules.specs.Line.{digits, plain}
-use Rattle.rules.specs.Refusal.{no}
+use Rattle.rules.specs.Line.{plain}
 use Rattle.rules.specs.Text.{equal, of_decimal}
 use Rattle.rules.specs.Ply.{before_vertices, before_faces, after_counts, header, line_end, vertices_in, faces_in_is}
 use Rattle.rule_laws.proofs.Digits.{digits_of}

@@ -1,15 +1,15 @@
 -- The vertices and faces of a file, and the first at fault. Assumes nothing.
 use mathlib.Core.Path.{◌≡◌, refl, sym, ap, ap₂, ◌∙◌}
-use mathlib.Core.Bool.{Bool, true, false, not, ◌||◌}
+use mathlib.Core.Bool.{Bool, true, false, not, ◌&&◌, ◌||◌}
 use mathlib.Core.List.{List}
 use Prim.Native.Nat.{ℕ, ◌+◌, ◌*◌, ◌≤◌, ◌<◌}
 use native.Mathlib.Omega.{arith}
-use borrow.Author.Tests.{le-leb, lt-leb, eq-eqb, ne_eqb}
+use borrow.Author.Tests.{eq-eqb, ne_eqb}
 use lib.Dec.{leb, eqb}
 use lib.ListN.{length, get_or, length-map}
 use lib.Ieee.{Float}
 use Rattle.rules.specs.Lists.{below, all, any}
-use Rattle.rules.specs.Mesh.{Point, Face, point, face, zero64}
+use Rattle.rules.specs.Mesh.{Point, Face, zero64}
 use Rattle.rules.specs.Refusal.{ok, no, in_domain, no4, no5}
 use Rattle.rules.specs.Bytes.{u32_at}
 use Rattle.rules.specs.Ply.{vertices_in, faces_in_is, header_in, real_at, vertex_at, face_place, triple_at, points_of_bytes, triples_of, no14}
@@ -20,27 +20,17 @@ use Rattle.refuse.specs.Verdicts.{far, astray}
 use Rattle.refuse.proofs.Scans.{Clean}
 use Rattle.ply_file.specs.Files.{point_at, face_at, VerticesAsk, FacesAsk}
 
--- ---- one vertex is far if one of its coordinates is
-module _ (file : List ℕ) (i : ℕ) where
-  -- all three inside
-  pub near : in_domain (real_at file i) ≡ true → in_domain (real_at file (i + 8)) ≡ true → in_domain (real_at file (i + 16)) ≡ true → false ≡ far (point_at file i)
-  unfolding all
-  near a b c = rw (a, b, c) refl
-
-  -- x outside
-  pub far_x : in_domain (real_at file i) ≡ false → true ≡ far (point_at file i)
-  unfolding all
-  far_x a = rw a refl
-
-  -- y outside
-  pub far_y : in_domain (real_at file i) ≡ true → in_domain (real_at file (i + 8)) ≡ false → true ≡ far (point_at file i)
-  unfolding all
-  far_y a b = rw (a, b) refl
-
-  -- z outside
-  pub far_z : in_domain (real_at file i) ≡ true → in_domain (real_at file (i + 8)) ≡ true → in_domain (real_at file (i + 16)) ≡ false → true ≡ far (point_at file i)
-  unfolding all
-  far_z a b c = rw (a, b, c) refl
+-- ---- one vertex is far unless all its coordinates are inside
+pub far_is :
+    (file : List ℕ) (i : ℕ) → not ((in_domain (real_at file i) && in_domain (real_at file (i + 8))) && in_domain (real_at file (i + 16))) ≡ far (point_at file i)
+unfolding all
+far_is file i = ap not (go (in_domain (real_at file i)) (in_domain (real_at file (i + 8))) (in_domain (real_at file (i + 16))))
+  where
+    go : (a b c : Bool) → ((a && b) && c) ≡ (a && (b && (c && true)))
+    go false b c = refl
+    go true false c = refl
+    go true true false = refl
+    go true true true = refl
 
 -- what the test of a coordinate found
 pub inside : {x y : Float} {b : Bool} (t : Bool) → x ≡ y → b ≡ in_domain x → b ≡ t → in_domain y ≡ t
@@ -48,27 +38,17 @@ inside t e q r = ap in_domain (sym e) ∙ sym q ∙ r
 
 -- ---- one face
 
--- the end of the list adds nothing
-or_false : (b : Bool) → b ≡ (b || false)
-or_false true = refl
-or_false false = refl
-
-module _ (P : ℕ) (file : List ℕ) (i : ℕ) {a : ℕ} (ea : a ≡ u32_at file (i + 1)) where
-  -- corner 0
-  pub astray_a : P ≤ a → true ≡ astray P (face_at file i)
-  unfolding any
-  astray_a h = rw (le-leb P (u32_at file (i + 1)) (rw (← ea) h)) refl
-
-  module _ {b : ℕ} (eb : b ≡ u32_at file (i + 5)) where
-    -- corner 1
-    pub astray_b : a < P → P ≤ b → true ≡ astray P (face_at file i)
-    unfolding any
-    astray_b h k = rw (lt-leb P (u32_at file (i + 1)) (rw (← ea) h), le-leb P (u32_at file (i + 5)) (rw (← eb) k)) refl
-
-    -- corner 2 decides
-    pub astray_c : {c : ℕ} → c ≡ u32_at file (i + 9) → a < P → b < P → leb P c ≡ astray P (face_at file i)
-    unfolding any
-    astray_c {c} ec h k = rw (lt-leb P (u32_at file (i + 1)) (rw (← ea) h), lt-leb P (u32_at file (i + 5)) (rw (← eb) k), ← ec) (or_false (leb P c))
+-- it is astray if one of its corners is
+pub astray_is :
+    (P : ℕ) (file : List ℕ) (i : ℕ) → ((leb P (u32_at file (i + 1)) || leb P (u32_at file (i + 5))) || leb P (u32_at file (i + 9))) ≡ astray P (face_at file i)
+unfolding any
+astray_is P file i = go (leb P (u32_at file (i + 1))) (leb P (u32_at file (i + 5))) (leb P (u32_at file (i + 9)))
+  where
+    go : (a b c : Bool) → ((a || b) || c) ≡ (a || (b || (c || false)))
+    go true b c = refl
+    go false true c = refl
+    go false false true = refl
+    go false false false = refl
 
 -- ---- all vertices and all faces
 

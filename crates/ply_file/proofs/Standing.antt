@@ -1,15 +1,18 @@
 -- A text that stands in a file or does not, and the count in a line. Assumes nothing.
-use mathlib.Core.Path.{◌≡◌, sym, ap, ◌∙◌}
-use mathlib.Core.Bool.{true, false}
+use Rattle.std.specs.List.{starts_with}
+use Rattle.std.specs.Cmp.Lexicographic.{pointwise, same_text, other_text}
+use mathlib.Core.Path.{◌≡◌, refl, sym, ap, ◌∙◌}
+use mathlib.Core.Bool.{Bool, true, false}
 use mathlib.Core.Logic.{⊎_elim}
 use mathlib.Core.List.{List, []}
-use Prim.Native.Nat.{ℕ, ◌+◌, ◌-◌, ◌≤◌, ◌<◌}
-use native.Mathlib.Nat.{eq-or-lt_of_le, le_of_suc-le-suc}
+use Prim.Native.Nat.{ℕ, ◌-◌, ◌<◌}
+use native.Mathlib.Nat.{eq-or-lt_of_le}
 use native.Mathlib.Omega.{arith}
-use lib.ListN.{length, get_or, take, drop, length-take, length-drop}
-use lib.Seq.{ext_get_or}
+use lib.Dec.{eqb}
+use lib.ListN.{length, get_or, take, drop, length-drop}
+use lib.Seq.{take_all}
 use Rattle.rows.specs.Region.{part}
-use Rattle.rows.proofs.Regions.{length_part, get_d_part}
+use Rattle.rows.proofs.Regions.{length_part}
 use Rattle.rules.specs.Line.{plain}
 use Rattle.rules.specs.Text.{equal}
 use Rattle.rules.specs.Ply.{line_end}
@@ -19,43 +22,17 @@ use Rattle.ply_file.specs.Files.{LineIs, LineNone}
 
 -- ---- a text
 
--- the file goes on with the first i bytes of the text
-pub record Alike (file : List ℕ) (at : ℕ) (text : List ℕ) (i : ℕ) : Type 0 where
-  pub at_most : i ≤ length text
-  pub same : (j : ℕ) → j < i → get_or file (at + j) 0 ≡ get_or text j 0
+-- what stands in a file at a place, as a slice of it
+rest_of : (at : ℕ) (file : List ℕ) → take (length file - at) (drop at file) ≡ drop at file
+rest_of at file = take_all (length file - at) (drop at file) (omega (arith, length-drop at file))
 
--- before the first turn, with none
-pub alike_begin : {file : List ℕ} {at : ℕ} {text : List ℕ} → Alike file at text 0
-alike_begin = record { at_most = omega arith; same = λ j l. absurd (omega arith) }
-
--- a front is no longer than the list
-short : (n : ℕ) (xs : List ℕ) → length (take n xs) ≤ length xs
-short n xs = simp length-take (omega arith)
-
--- the file ends before
-pub alike_short : (file : List ℕ) (at : ℕ) (text : List ℕ) → at ≤ length file → length file - at < length text → false ≡ equal (part file at (length text)) text
-alike_short file at text p h =
-    sym (equal_not _ _ (λ e. omega (arith, ap length e, length-drop at file, short (length text) (drop at file))))
-
-module _ {file : List ℕ} {at : ℕ} {text : List ℕ} {i : ℕ} (fit : length text ≤ length file - at) (p : at ≤ length file) (v : Alike file at text i) where
-  -- byte i differs
-  pub alike_not : i < length text → (get_or file (at + i) 0 ≡ get_or text i 0 → ⊥) → false ≡ equal (part file at (length text)) text
-  alike_not h n = sym (equal_not _ _ (λ e. n (sym (get_d_part file at (length text) i h) ∙ ap (λ (l : List ℕ). get_or l i 0) e)))
-
-  -- a byte more
-  pub alike_again : i < length text → get_or file (at + i) 0 ≡ get_or text i 0 → Alike file at text (i + 1)
-  alike_again h e =
-      record {
-        at_most = omega arith;
-        same = λ j l. ⊎_elim (λ (q : j ≡ i). rw q e) (λ (q : j < i). v.same j q) (eq-or-lt_of_le (le_of_suc-le-suc (omega arith)));
-      }
-
-  -- all of it stands there
-  pub alike_done : length text ≤ i → true ≡ equal (part file at (length text)) text
-  alike_done h =
-      let n = length_part file at (length text) (omega arith) in
-      let e : part file at (length text) ≡ text = ext_get_or 0 _ text n (λ j l. let q : j < length text = omega arith in get_d_part file at (length text) j q ∙ v.same j (omega arith)) in
-      sym (ap (λ (l : List ℕ). equal l text) e ∙ equal_self text)
+-- it begins with the text, as the rules compare the two
+pub stands_is : (file : List ℕ) (at : ℕ) (text : List ℕ) → starts_with eqb (take (length file - at) (drop at file)) text ≡ equal (part file at (length text)) text
+stands_is file at text = ap (λ l. pointwise eqb text (take (length text) l)) (rest_of at file) ∙ go (part file at (length text)) (pointwise eqb text (part file at (length text))) refl
+  where
+    go : (here : List ℕ) (t : Bool) → pointwise eqb text here ≡ t → pointwise eqb text here ≡ equal here text
+    go here true e = e ∙ sym (ap (λ l. equal l text) (sym (same_text text here (sym e))) ∙ equal_self text)
+    go here false e = e ∙ sym (equal_not here text (λ q. other_text text here (sym e) (sym q)))
 
 -- ---- a line
 

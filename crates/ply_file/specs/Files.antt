@@ -1,5 +1,5 @@
 -- What the checks of a file know of it, and their list with the rooms' lengths for the rooms. Definitions only.
-use Rattle.std.specs.Prelude.{◌≡◌, List, [], ◌∷◌, ◌++◌, ℕ, ◌+◌, ◌*◌, ◌^◌, ◌≤◌, ◌<◌, length, drop}
+use Rattle.std.specs.Prelude.{◌≡◌, Option, Some, None, List, [], ◌∷◌, ◌++◌, ℕ, ◌+◌, ◌*◌, ◌^◌, ◌≤◌, ◌<◌, length, drop}
 use Rattle.rows.specs.Region.{part}
 use Rattle.rules.specs.Mesh.{Point, Face}
 use Rattle.rules.specs.Bytes.{u32_at}
@@ -10,9 +10,7 @@ use Rattle.rules.specs.Ply.{line_end, vertices_in, faces_in_is, header_in, real_
 use Rattle.rules.specs.ReadPlyCall.{read_ply_rooms}
 use Rattle.refuse.specs.Verdicts.{Limits, counts}
 use Rattle.ply_file.specs.declared.Line.{Line}
-use Rattle.ply_file.specs.declared.Line.TheVariants as line
 use Rattle.ply_file.specs.declared.Header.{Header}
-use Rattle.ply_file.specs.declared.Header.TheVariants as head
 
 -- ---- the header
 
@@ -29,9 +27,9 @@ pub record LineNone (file : List ℕ) (from : ℕ) : Type 0 where
   pub none : (n : ℕ) → n < 10 ^ 19 → line_end (drop from file) ≡ plain n → ⊥
 
 -- what is told of a line
-abbrev pub Lines : List ℕ → ℕ → Line → Type 0
-Lines file from (line.Is n end) = LineIs file from n end
-Lines file from line.Other = LineNone file from
+abbrev pub Lines : List ℕ → ℕ → Option Line → Type 0
+Lines file from (Some l) = LineIs file from l.count l.end
+Lines file from None = LineNone file from
 
 -- the file has the form, with p vertices and f faces and a body from `at` on
 pub record Whole (file : List ℕ) (p f at : ℕ) : Type 0 where
@@ -46,9 +44,9 @@ pub record Formless (file : List ℕ) : Type 0 where
   pub form : no 13 0 ≡ no13 file
 
 -- what is told of a header
-abbrev pub Heads : List ℕ → Header → Type 0
-Heads file (head.Is p f at) = Whole file p f at
-Heads file head.Other = Formless file
+abbrev pub Heads : List ℕ → Option Header → Type 0
+Heads file (Some h) = Whole file h.vertices h.faces h.body
+Heads file None = Formless file
 
 -- ---- the body
 

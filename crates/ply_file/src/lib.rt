@@ -1,7 +1,7 @@
 // A binary PLY file in memory: its header, its vertices and faces, and the refusals of a call that reads it.
 #![tactic(auto)]
 
-ghost use Rattle.std.specs.Prelude.{◌≡◌, ◌∷◌, [], ◌+◌, ◌*◌, ◌≤◌, ◌<◌, eqb, length};
+ghost use Rattle.std.specs.Prelude.{◌≡◌, ◌∷◌, [], ◌+◌, ◌*◌, ◌≤◌, ◌<◌, eqb, length, IfOk};
 ghost use Rattle.rows.specs.Region.{part};
 ghost use Rattle.rules.specs.Refusal as refusal;
 ghost use Rattle.rules.specs.Text.{equal};
@@ -10,23 +10,23 @@ ghost use Rattle.rules.specs.ReadPlyCall.{read_ply_rooms};
 ghost use Rattle.refuse.specs.Verdicts as by;
 ghost use Rattle.ply_file.specs.Files as ply;
 
-use refuse::Verdict;
-use text_fields::Plain;
+use refuse::Refusal;
 
 // ---- the header
 
 // The count in a line of the header, and where the line ends.
-#[derive(Drop)]
-enum Line {
-    Is(usize, usize),
-    Other,
+#[derive(Clone, Copy, Debug, PartialEq, Eq)]
+struct Line {
+    count: usize,
+    end: usize,
 }
 
 // The header of a file in the form: the counts of vertices and of faces, and where the body begins.
-#[derive(Drop)]
-pub enum Header {
-    Is(usize, usize, usize),
-    Other,
+#[derive(Clone, Copy, Debug, PartialEq, Eq)]
+pub struct Header {
+    pub vertices: usize,
+    pub faces: usize,
+    pub body: usize,
 }
 
 // Whether the text stands in the file at `at`.
@@ -34,27 +34,17 @@ fn stands(file: &[u8], at: usize, text: &[u8]) -> bool
     requires { at ≤ length file.now }
     ensures { result ≡ equal (part file.now at (length text.now)) text.now }
 {
-    if file.len() - at < text.len() {
-        return false;
-    }
-    for i in 0..text.len() {
-        if file[at + i] != text[i] {
-            return false;
-        }
-    }
-    true
+    file[at..].starts_with(text)
 }
 
 // The count in the line that begins at `from`.
-fn read_line(file: &[u8], from: usize) -> Line
+fn read_line(file: &[u8], from: usize) -> Option<Line>
     requires { from ≤ length file.now }
     ensures { ply.Lines file.now from result }
 {
     let end = text_fields::find(file, from, 10);
-    let Plain::Number(n) = text_fields::read_plain(&file[from..end]) else {
-        return Line::Other;
-    };
-    Line::Is(n as usize, end)
+    let count = text_fields::read_plain(&file[from..end])? as usize;
+    Some(Line { count, end })
 }
 
 // Whether p vertices and f faces are as long as the body.
@@ -72,7 +62,7 @@ fn fills(body: usize, p: usize, f: usize) -> bool
 }
 
 // The header of a file in the form, whose body is as long as the counts tell.
-pub fn head(file: &[u8]) -> Header
+pub fn head(file: &[u8]) -> Option<Header>
     ensures { ply.Heads file.now result }
 {
     if !stands(
@@ -80,47 +70,48 @@ pub fn head(file: &[u8]) -> Header
         0,
         b"ply\nformat binary_little_endian 1.0\nelement vertex ",
     ) {
-        return Header::Other;
+        return None;
     }
-    let Line::Is(p, a) = read_line(file, 51) else {
-        return Header::Other;
-    };
+    let vertices = read_line(file, 51)?;
     if !stands(
         file,
-        a,
+        vertices.end,
         b"\nproperty double x\nproperty double y\nproperty double z\nelement face ",
     ) {
-        return Header::Other;
+        return None;
     }
-    let Line::Is(f, b) = read_line(file, a + 68) else {
-        return Header::Other;
-    };
+    let faces = read_line(file, vertices.end + 68)?;
     if !stands(
         file,
-        b,
+        faces.end,
         b"\nproperty list uchar int vertex_indices\nend_header\n",
     ) {
-        return Header::Other;
+        return None;
     }
-    if fills(file.len() - (b + 51), p, f) {
-        return Header::Is(p, f, b + 51);
+    let body = faces.end + 51;
+    if fills(file.len() - body, vertices.count, faces.count) {
+        return Some(Header {
+            vertices: vertices.count,
+            faces: faces.count,
+            body,
+        });
     }
-    Header::Other
+    None
 }
 
 // ---- the body
 
 // 14: a face whose count is not 3, at the first such face; the faces begin at `at`.
-fn triples(file: &[u8], at: usize, f: usize) -> Verdict
+fn triples(file: &[u8], at: usize, f: usize) -> Result<(), Refusal>
     requires { ply.FacesAsk file.now at f }
     ensures { by.check_of result ≡ rule.no14 file.now }
 {
     for i in 0..f {
         if file[at + 13 * i] != 3 {
-            return Verdict::Refused(14, i);
+            return Err(Refusal::NotATriple(i));
         }
     }
-    Verdict::Fine
+    Ok(())
 }
 
 // Whether the vertex that begins at byte i has a coordinate outside its domain.
@@ -128,29 +119,22 @@ fn far(file: &[u8], i: usize) -> bool
     requires { i + 24 ≤ length file.now }
     ensures { result ≡ by.far (ply.point_at file.now i) }
 {
-    if refuse::in_domain(byte_rows::real_at(file, i)) {
-        if refuse::in_domain(byte_rows::real_at(file, i + 8)) {
-            if refuse::in_domain(byte_rows::real_at(file, i + 16)) {
-                return false;
-            }
-            return true;
-        }
-        return true;
-    }
-    true
+    !(refuse::in_domain(byte_rows::real_at(file, i))
+        && refuse::in_domain(byte_rows::real_at(file, i + 8))
+        && refuse::in_domain(byte_rows::real_at(file, i + 16)))
 }
 
 // 4: a coordinate outside its domain, at the first such vertex; the vertices begin at `at`.
-fn vertices(file: &[u8], at: usize, p: usize) -> Verdict
+fn vertices(file: &[u8], at: usize, p: usize) -> Result<(), Refusal>
     requires { ply.VerticesAsk file.now at p }
     ensures { by.check_of result ≡ refusal.no4 (rule.points_of_bytes file.now) }
 {
     for i in 0..p {
         if far(file, at + 24 * i) {
-            return Verdict::Refused(4, i);
+            return Err(Refusal::BadPoint(i));
         }
     }
-    Verdict::Fine
+    Ok(())
 }
 
 // Whether the face that begins at byte i has a corner >= P.
@@ -158,77 +142,65 @@ fn astray(file: &[u8], p: usize, i: usize) -> bool
     requires { i + 13 ≤ length file.now }
     ensures { result ≡ by.astray p (ply.face_at file.now i) }
 {
-    if p <= byte_rows::u32_at(file, i + 1) as usize {
-        return true;
-    }
-    if p <= byte_rows::u32_at(file, i + 5) as usize {
-        return true;
-    }
-    p <= byte_rows::u32_at(file, i + 9) as usize
+    p <= byte_rows::u32_at(file, i + 1) as usize
+        || p <= byte_rows::u32_at(file, i + 5) as usize
+        || p <= byte_rows::u32_at(file, i + 9) as usize
 }
 
 // 5: a corner >= P, at the first such face.
-fn corners(file: &[u8], at: usize, p: usize, f: usize) -> Verdict
+fn corners(file: &[u8], at: usize, p: usize, f: usize) -> Result<(), Refusal>
     requires { ply.FacesAsk file.now at f }
     ensures { by.check_of result ≡ refusal.no5 p (rule.triples_of file.now) }
 {
     for i in 0..f {
         if astray(file, p, at + 13 * i) {
-            return Verdict::Refused(5, i);
+            return Err(Refusal::BadCorner(i));
         }
     }
-    Verdict::Fine
+    Ok(())
 }
 
 // 14, 4 and 5, of f faces over p vertices whose body begins at `at`.
-fn contents(file: &[u8], at: usize, p: usize, f: usize) -> Verdict
+fn contents(file: &[u8], at: usize, p: usize, f: usize) -> Result<(), Refusal>
     requires { ply.BodyAsks file.now at p f }
     ensures { by.check_of result ≡ refusal.decided (ply.contents file.now) }
 {
-    let found = triples(file, at + 24 * p, f);
-    let Verdict::Fine = found else {
-        return found;
-    };
-    let found = vertices(file, at, p);
-    let Verdict::Fine = found else {
-        return found;
-    };
+    triples(file, at + 24 * p, f)?;
+    vertices(file, at, p)?;
     corners(file, at + 24 * p, p, f)
 }
 
 // ---- the call
 
 // 6: points 3P, faces 3F, work.
-fn short_room(p: usize, f: usize, points: usize, faces: usize, work: usize) -> Verdict
+fn short_room(p: usize, f: usize, points: usize, faces: usize, work: usize) -> Result<(), Refusal>
     requires { by.Limits p f }
     ensures { by.check_of result ≡ refusal.no6 (read_ply_rooms p f) (points ∷ faces ∷ work ∷ []) }
 {
     if points < 3 * p {
-        return Verdict::Refused(6, 0);
+        return Err(Refusal::ShortRoom(0));
     }
     if faces < 3 * f {
-        return Verdict::Refused(6, 1);
+        return Err(Refusal::ShortRoom(1));
     }
     if work < refuse::stated_work(p, f) {
-        return Verdict::Refused(6, 2);
+        return Err(Refusal::ShortRoom(2));
     }
-    Verdict::Fine
+    Ok(())
 }
 
-// The refusals of a call that reads a file, in their order: 13, 2, 14, 4, 5, 6; the rooms by their lengths.
-pub fn ply_check(file: &[u8], points: usize, faces: usize, work: usize) -> Verdict
-    ensures { by.check_of result ≡ refusal.decided (ply.ply_list file.now points faces work) }
+// The refusals of a call that reads a file, in their order: 13, 2, 14, 4, 5, 6; the rooms by their lengths. An accepted file gives its header.
+pub fn ply_check(file: &[u8], points: usize, faces: usize, work: usize) -> Result<Header, Refusal>
+    ensures checks { by.check_of result ≡ refusal.decided (ply.ply_list file.now points faces work) }
+    ensures header { IfOk result (λ h. ply.Whole file.now h.vertices h.faces h.body) }
 {
-    let Header::Is(p, f, at) = head(file) else {
-        return Verdict::Refused(13, 0);
+    let Some(header) = head(file) else {
+        return Err(Refusal::BadPly);
     };
-    let found = refuse::counts(p, f);
-    let Verdict::Fine = found else {
-        return found;
-    };
-    let found = contents(file, at, p, f);
-    let Verdict::Fine = found else {
-        return found;
-    };
-    short_room(p, f, points, faces, work)
+    let p = header.vertices;
+    let f = header.faces;
+    refuse::counts(p, f)?;
+    contents(file, header.body, p, f)?;
+    short_room(p, f, points, faces, work)?;
+    Ok(header)
 }

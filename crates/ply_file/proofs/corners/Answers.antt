@@ -1,6 +1,5 @@
 -- `ply_file::corners` meets its contract: all faces before i are without fault. Assumes nothing.
 use mathlib.Core.Path.{sym, ◌∙◌}
-use Prim.Native.Nat.{◌-◌}
 use native.Mathlib.Omega.{arith}
 use Rattle.refuse.proofs.Scans.{clean_begin, clean_more}
 use Rattle.ply_file.proofs.Scanning.{turn_f, no5_none, no5_at}

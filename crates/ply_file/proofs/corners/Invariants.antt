@@ -1,5 +1,4 @@
 -- `ply_file::corners` meets its contract: all faces before i are without fault. Assumes nothing.
-use Prim.Native.Nat.{◌-◌}
 use Rattle.refuse.proofs.Scans.{Clean}
 use Rattle.ply_file.proofs.Scanning.{astray_at}
 use Rattle.ply_file.proofs.corners.Given as goal

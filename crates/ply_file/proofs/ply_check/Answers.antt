@@ -1,37 +1,31 @@
 -- `ply_file::ply_check` meets its contract: the header, then each group of checks. Assumes nothing.
-use mathlib.Core.Path.{subst}
+use Rattle.std.proofs.lemmas.Result.{err_from_is_err_and}
 use Rattle.refuse.proofs.Groups.{hand_on, go_on, last}
-use Rattle.ply_file.specs.Files.{Heads, Whole}
 use Rattle.ply_file.proofs.Deciding.{is_formless, is_opened, body_asks, six}
 use Rattle.ply_file.proofs.ply_check.Goals as goal
 
-pub returns-in_default : goal.returns-in_default
-returns-in_default c = is_formless _ _ (subst (Heads _) c.in_default.is c.head.ensures)
+pub returns-in_default-clause-checks : goal.returns-in_default-clause-checks
+returns-in_default-clause-checks c = is_formless _ _ c.in_default.ensures
 
-pub returns-in_default-found : goal.returns-in_default-found
-returns-in_default-found c = let file = c.args.file.now in
-    let w : Whole file _ _ _ = subst (Heads file) c.in-Is.is c.head.ensures in
-    hand_on _ _ _ _ _ (is_opened w c.counts-found.result c.counts-found.ensures) c.in_default-found.is
+pub returns-in_err-counts-clause-checks : goal.returns-in_err-counts-clause-checks
+returns-in_err-counts-clause-checks c = let p = err_from_is_err_and c.from_residual.result c.from_residual.ensures.1 in
+    rw (p.1, p.2) (hand_on _ _ _ _ (is_opened c.in-Some.ensures c.in_err-counts.ensures))
 
-pub contents-found-requires : goal.contents-found-requires
-contents-found-requires c = let file = c.args.file.now in
-    let w : Whole file _ _ _ = subst (Heads file) c.in-Is.is c.head.ensures in
-    body_asks w _ c.counts-found.ensures c.in-Fine.is
+pub contents-requires : goal.contents-requires
+contents-requires c = body_asks c.in-Some.ensures c.in_ok-counts.ensures
 
-pub returns-in_default-found-2 : goal.returns-in_default-found-2
-returns-in_default-found-2 c = let file = c.args.file.now in
-    let w : Whole file _ _ _ = subst (Heads file) c.in-Is.is c.head.ensures in
-    go_on _ _ _ _ (is_opened w c.counts-found.result c.counts-found.ensures) c.in-Fine.is
-    (hand_on _ _ _ _ _ c.contents-found.ensures c.in_default-found-2.is)
+pub returns-in_err-contents-clause-checks : goal.returns-in_err-contents-clause-checks
+returns-in_err-contents-clause-checks c = let p = err_from_is_err_and c.from_residual-in_err-contents.result c.from_residual-in_err-contents.ensures.1 in
+    rw (p.1, p.2) (go_on _ _ _ (is_opened c.in-Some.ensures c.in_ok-counts.ensures) (hand_on _ _ _ _ c.in_err-contents.ensures))
 
 pub short_room-requires : goal.short_room-requires
-short_room-requires c = let file = c.args.file.now in
-    let w : Whole file _ _ _ = subst (Heads file) c.in-Is.is c.head.ensures in
-    (body_asks w _ c.counts-found.ensures c.in-Fine.is).limits
+short_room-requires c = (body_asks c.in-Some.ensures c.in_ok-counts.ensures).limits
 
-pub returns : goal.returns
-returns c = let file = c.args.file.now in
-    let w : Whole file _ _ _ = subst (Heads file) c.in-Is.is c.head.ensures in
-    let b = body_asks w _ c.counts-found.ensures c.in-Fine.is in
-    go_on _ _ _ _ (is_opened w c.counts-found.result c.counts-found.ensures) c.in-Fine.is
-    (go_on _ _ _ _ c.contents-found.ensures c.in-Fine-found.is (last _ _ (six b _ _ _ c.short_room.ensures)))
+pub returns-in_err-short_room-clause-checks : goal.returns-in_err-short_room-clause-checks
+returns-in_err-short_room-clause-checks c = let p = err_from_is_err_and c.from_residual-in_err-short_room.result c.from_residual-in_err-short_room.ensures.1 in
+    let b = body_asks c.in-Some.ensures c.in_ok-counts.ensures in
+    rw (p.1, p.2) (go_on _ _ _ (is_opened c.in-Some.ensures c.in_ok-counts.ensures) (go_on _ _ _ c.in_ok-contents.ensures (last _ _ (six b _ _ _ c.in_err-short_room.ensures))))
+
+pub returns-clause-checks : goal.returns-clause-checks
+returns-clause-checks c = let b = body_asks c.in-Some.ensures c.in_ok-counts.ensures in
+    go_on _ _ _ (is_opened c.in-Some.ensures c.in_ok-counts.ensures) (go_on _ _ _ c.in_ok-contents.ensures (last _ _ (six b _ _ _ c.in_ok-short_room.ensures)))

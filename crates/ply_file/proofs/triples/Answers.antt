@@ -1,5 +1,4 @@
 -- `ply_file::triples` meets its contract: all faces before i have the count 3. Assumes nothing.
-use Prim.Native.Nat.{◌-◌}
 use native.Mathlib.Omega.{arith}
 use Rattle.refuse.proofs.Scans.{clean_begin, clean_more}
 use Rattle.ply_file.proofs.Scanning.{is_three, is_other, turn_f, no14_none, no14_at}

@@ -1,5 +1,4 @@
 -- `ply_file::triples` meets its contract: all faces before i have the count 3. Assumes nothing.
-use Prim.Native.Nat.{◌-◌}
 use Rattle.refuse.proofs.Scans.{Clean}
 use Rattle.ply_file.proofs.Scanning.{other_at}
 use Rattle.ply_file.proofs.triples.Given as goal

@@ -1,6 +1,5 @@
 -- `ply_file::vertices` meets its contract: all vertices before i are without fault. Assumes nothing.
 use mathlib.Core.Path.{sym, ◌∙◌}
-use Prim.Native.Nat.{◌-◌}
 use native.Mathlib.Omega.{arith}
 use Rattle.refuse.proofs.Scans.{clean_begin, clean_more}
 use Rattle.ply_file.proofs.Scanning.{turn_v, no4_none, no4_at}

@@ -1,5 +1,4 @@
 -- `ply_file::vertices` meets its contract: all vertices before i are without fault. Assumes nothing.
-use Prim.Native.Nat.{◌-◌}
 use Rattle.refuse.proofs.Scans.{Clean}
 use Rattle.ply_file.proofs.Scanning.{far_at}
 use Rattle.ply_file.proofs.vertices.Given as goal

@@ -9,7 +9,7 @@ use native.Mathlib.Decide.{ℕ_discrete, dec_le}
 use borrow.Author.Tests.{eq-eqb, ne_eqb}
 use lib.ListN.{length}
 use lib.Dec.{eqb}
-use Rattle.rules.specs.Lists.{below, filter, count, each}
+use Rattle.rules.specs.Lists.{filter, count, each}
 use Rattle.rules.specs.Mesh.{faces_of, face}
 use Rattle.rules.specs.Steps.{Step, step, steps, same, edge, users}
 use Rattle.rules.specs.Edges.{begins, ends, boundary}

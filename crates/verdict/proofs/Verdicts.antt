@@ -18,7 +18,8 @@ use Rattle.rule_laws.proofs.Rising.{get_or_below}
 use Rattle.rule_laws.proofs.Firsts.{none_at_fault, at_fault}
 use Rattle.refuse.specs.Accepted.{Faces}
 use Rattle.refuse.specs.Verdicts.{check_of}
-use Rattle.refuse.specs.declared.Verdict.{Verdict}
+use Rattle.std.specs.Prelude.{Result}
+use Rattle.refuse.specs.declared.Refusal.{Refusal}
 use Rattle.halves.specs.Scan.{Fair, beginsTo, endsTo}
 use Rattle.halves.specs.Gather.{halves}
 use Rattle.halves.specs.Right.{Right, Right.edge, Right.vertex, Right.fine}
@@ -69,7 +70,7 @@ module _ (f : List ℕ) (P : ℕ) (q : Faces P f) where
       (fault_at v h ∙ fault_yes (begins (faces_of f) v) (ends (faces_of f) v) (λ g. n (rw (begins_are f P q v h, ends_are f P q v h) at g)))
 
   -- the verdict is the one that the rules give
-  pub verdict_is : (r : Verdict) → Right (halves f P (length f)) P r → check_of r ≡ decided (no7 P (faces_of f) ∷ no8 P (faces_of f) ∷ [])
+  pub verdict_is : (r : Result Unit Refusal) → Right (halves f P (length f)) P r → check_of r ≡ decided (no7 P (faces_of f) ∷ no8 P (faces_of f) ∷ [])
   unfolding decided
   verdict_is r (edge t) = rw (seven_found f P q t)
   verdict_is r (vertex c h t n) = rw (seven_none f P q c, eight_found _ h t n)

@@ -9,7 +9,7 @@ use borrow.Author.Tests.{eq-eqb, ne_eqb}
 use lib.ListN.{length, get_or, take}
 use lib.Seq.{take_all}
 use lib.Dec.{eqb}
-use Rattle.rules.specs.Lists.{below, filter, count, each}
+use Rattle.rules.specs.Lists.{filter, count, each}
 use Rattle.rules.specs.Mesh.{Face, faces_from, faces_of}
 use Rattle.rules.specs.Steps.{Step, step, steps, same, edge, users}
 use Rattle.rule_laws.proofs.Lists.{each_append}

@@ -8,11 +8,11 @@ ghost use Rattle.rules.specs.Edges.{no7, no8};
 ghost use Rattle.refuse.specs.Accepted.{Faces};
 ghost use Rattle.refuse.specs.Verdicts.{check_of};
 
-use refuse::Verdict;
+use refuse::Refusal;
 
 // 7, else 8, else nothing: 7 at the position, among the sorted unique edges, of the first that occurs more than twice; 8 at the lowest vertex at
 // fault.
-pub fn loop_verdict(count: usize, faces: &[u32]) -> Verdict
+pub fn loop_verdict(count: usize, faces: &[u32]) -> Result<(), Refusal>
     requires { Faces count faces.now }
     ensures { check_of result ≡ decided (no7 count (faces_of faces.now) ∷ no8 count (faces_of faces.now) ∷ []) }
 {

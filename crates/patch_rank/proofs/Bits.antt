@@ -1,7 +1,7 @@
 -- The bits of a number that is not negative, as a whole number, rise with it: the order of areas is that of their bits. Assumes nothing.
 use mathlib.Core.Path.{◌≡◌, sym, ap, subst, ◌∙◌}
 use mathlib.Core.Bool.{true, false}
-use mathlib.Core.Logic.{◌⊎◌, ⊎_elim}
+use mathlib.Core.Logic.{⊎_elim}
 use Prim.Native.Nat.{ℕ, ◌+◌, ◌-◌, ◌*◌, ◌/◌, ◌^◌, ◌≤◌, ◌<◌}
 use native.Mathlib.Nat.{le_refl, le_trans, le_of_eq, le_of_lt, eq-or-lt_of_le, lt_of_le_of_lt, lt_of_lt_of_le, lt_irrefl, lt_of_not-le, not-le_of_lt, zero-add, mul-le-mul_right, le-div_iff_mul-le, div-lt_iff_lt-mul, le_of_mul-le-mul_right}
 use native.Mathlib.Omega.{arith}

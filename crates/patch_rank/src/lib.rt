@@ -30,7 +30,7 @@ fn key_at(work: &[u32], k: usize) -> u64
     requires { 2 * k + 2 ≤ length work.now }
     ensures { result ≡ key_at work.now k }
 {
-    work[2 * k] as u64 * HALF + work[2 * k + 1] as u64
+    u64::from(work[2 * k]) * HALF + u64::from(work[2 * k + 1])
 }
 
 // How many keys are t or more.

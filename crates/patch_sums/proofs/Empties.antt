@@ -1,16 +1,15 @@
 -- The loop that writes the empty records. Assumes nothing.
-use mathlib.Core.Path.{◌≡◌, refl, ◌∙◌}
+use mathlib.Core.Path.{◌≡◌, ◌∙◌}
 use mathlib.Core.List.{List}
 use Prim.Native.Nat.{ℕ, ◌+◌, ◌*◌, ◌≤◌, ◌<◌}
 use native.Mathlib.Omega.{arith}
 use native.Mathlib.Decide.{dec_lt}
 use lib.ListN.{length}
-use lib.Ieee.{Float, nan, binary64, of_bits, div, neg}
+use lib.Ieee.{Float, nan}
 use Rattle.rows.specs.Region.{OnlyOf}
 use Rattle.rows.proofs.Regions.{only_none, only_both, only_more}
 use Rattle.rules.specs.Patches as rule
 use Rattle.patch_sums.specs.Sums.{record_at, BeginAsks, BeginGives}
-use Rattle.patch_sums.specs.declared.Patch.{Patch}
 use Rattle.patch_sums.proofs.Seven.{record_kept}
 
 -- the first k records are r
@@ -41,24 +40,3 @@ module _ {xs₀ : List Float} {C : ℕ} (p : BeginAsks xs₀ C) {r : rule.Patch}
     -- all of them
     pub done : C ≤ k → r ≡ rule.empty → BeginGives xs₀ C xs
     done h e = record { only = v.only; empty = λ j l. v.each j (omega arith) ∙ e }
-
--- the code's numbers are those of the empty record
-pub empty_is :
-    record {
-      area = of_bits binary64 0;
-      low =
-          record {
-            x = div binary64 (of_bits binary64 4607182418800017408) (of_bits binary64 0);
-            y = div binary64 (of_bits binary64 4607182418800017408) (of_bits binary64 0);
-            z = div binary64 (of_bits binary64 4607182418800017408) (of_bits binary64 0);
-          };
-      high =
-          record {
-            x = div binary64 (neg (of_bits binary64 4607182418800017408)) (of_bits binary64 0);
-            y = div binary64 (neg (of_bits binary64 4607182418800017408)) (of_bits binary64 0);
-            z = div binary64 (neg (of_bits binary64 4607182418800017408)) (of_bits binary64 0);
-          };
-    }
-    ≡ rule.empty
-unfolding rule.empty of_bits div neg
-empty_is = refl

@@ -7,7 +7,7 @@ use lib.ListN.{get_or}
 use lib.Ieee.{Float, nan}
 use Rattle.rows.specs.Region.{OnlyOf}
 use Rattle.rules.specs.Lists.{through}
-use Rattle.rules.specs.Mesh.{Point, points_of, face, point}
+use Rattle.rules.specs.Mesh.{Point, points_of, point}
 use Rattle.rules.specs.Float.{◌⊕◌}
 use Rattle.rules.specs.Float as float
 use Rattle.rules.specs.Patches as rule

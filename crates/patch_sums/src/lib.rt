@@ -13,7 +13,7 @@ ghost use Rattle.patch_sums.specs.Sums.{patch_of, record_at, BeginAsks, BeginGiv
 use measure::Vector;
 
 // A patch's record: its area and six box numbers.
-#[derive(Clone, Copy)]
+#[derive(Clone, Copy, Debug, PartialEq)]
 pub struct Patch {
     pub area: f64,
     pub min_x: f64,
@@ -60,12 +60,7 @@ fn with_face(points: &[f64], r: Patch, a: u32, b: u32, c: u32) -> Patch
 {
     let more = Patch {
         area: r.area + measure::area(points, a, b, c),
-        min_x: r.min_x,
-        min_y: r.min_y,
-        min_z: r.min_z,
-        max_x: r.max_x,
-        max_y: r.max_y,
-        max_z: r.max_z,
+        ..r
     };
     let one = widened(more, measure::at(points, a));
     let two = widened(one, measure::at(points, b));
@@ -112,12 +107,12 @@ fn begin(numbers: &mut [f64], count: usize)
 {
     let empty = Patch {
         area: 0.0,
-        min_x: 1.0 / 0.0,
-        min_y: 1.0 / 0.0,
-        min_z: 1.0 / 0.0,
-        max_x: -1.0 / 0.0,
-        max_y: -1.0 / 0.0,
-        max_z: -1.0 / 0.0,
+        min_x: f64::INFINITY,
+        min_y: f64::INFINITY,
+        min_z: f64::INFINITY,
+        max_x: f64::NEG_INFINITY,
+        max_y: f64::NEG_INFINITY,
+        max_z: f64::NEG_INFINITY,
     };
     for k in 0..count {
         write(numbers, k, empty);

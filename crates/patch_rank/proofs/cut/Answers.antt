@@ -1,5 +1,4 @@
 -- `patch_rank::cut` meets its contract: the cut is between low and high. Assumes nothing.
-use Prim.Native.Nat.{◌-◌}
 use native.Mathlib.Omega.{arith}
 use Rattle.patch_rank.proofs.Scanning.{cut_begin, cut_up, cut_down, cut_done}
 use Rattle.patch_rank.proofs.cut.Goals as goal

@@ -1,5 +1,4 @@
 -- `patch_rank::lay_keys` meets its contract: the keys before k are there. Assumes nothing.
-use Prim.Native.Nat.{◌-◌}
 use native.Mathlib.Omega.{arith}
 use lib.ListN.{length-set}
 use Rattle.patch_rank.proofs.Laying.{begin, turn, number, again, done}
@@ -46,9 +45,6 @@ offset_bounds-work-k-in-loop-k c = omega (arith, turn c.requires c.loop-k.invari
 
 pub bounds-work-k-in-loop-k : goal.bounds-work-k-in-loop-k
 bounds-work-k-in-loop-k c = simp length-set (omega (arith, turn c.requires c.loop-k.invariant c.loop-k-test.true))
-
-pub overflow_add-k : goal.overflow_add-k
-overflow_add-k c = omega (arith, turn c.requires c.loop-k.invariant c.loop-k-test.true)
 
 pub loop-k-preserved : goal.loop-k-preserved
 loop-k-preserved c = again c.requires c.loop-k.invariant c.loop-k-test.true

@@ -1,5 +1,4 @@
 -- `patch_rank::lay_keys` meets its contract: the keys before k are there. Assumes nothing.
-use Prim.Native.Nat.{◌-◌}
 use Rattle.patch_rank.proofs.Laying.{Laid}
 use Rattle.patch_rank.proofs.lay_keys.Given as goal
 

@@ -1,5 +1,4 @@
 -- `patch_rank::mark` meets its contract: the flags before k, and the place of the next patch at the cut. Assumes nothing.
-use Prim.Native.Nat.{◌-◌}
 use native.Mathlib.Omega.{arith}
 use Rattle.patch_rank.proofs.Scanning.{mark_begin, place_few, mark_fit, mark_at, mark_past, mark_done}
 use Rattle.patch_rank.proofs.mark.Goals as goal

@@ -1,5 +1,4 @@
 -- `patch_rank::mark` meets its contract: the flags before k, and the place of the next patch at the cut. Assumes nothing.
-use Prim.Native.Nat.{◌-◌}
 use Rattle.patch_rank.proofs.Scanning.{Marked}
 use Rattle.patch_rank.proofs.mark.Given as goal
 

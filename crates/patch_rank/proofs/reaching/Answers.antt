@@ -1,5 +1,4 @@
 -- `patch_rank::reaching` meets its contract: n of the keys before k are t or more. Assumes nothing.
-use Prim.Native.Nat.{◌-◌}
 use native.Mathlib.Omega.{arith}
 use Rattle.patch_rank.proofs.Scanning.{reach_begin, reach_few, reach_more, reach_same, reach_done}
 use Rattle.patch_rank.proofs.reaching.Goals as goal

@@ -1,5 +1,4 @@
 -- `patch_rank::reaching` meets its contract: n of the keys before k are t or more. Assumes nothing.
-use Prim.Native.Nat.{◌-◌}
 use Rattle.patch_rank.specs.Rank.{key_at}
 use Rattle.patch_rank.proofs.Scanning.{Reached}
 use Rattle.patch_rank.proofs.reaching.Given as goal

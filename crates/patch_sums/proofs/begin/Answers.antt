@@ -1,7 +1,8 @@
 -- `patch_sums::begin` meets its contract: the records before k are empty. Assumes nothing.
-use Prim.Native.Nat.{◌-◌}
-use native.Mathlib.Omega.{arith}
-use Rattle.patch_sums.proofs.Empties.{begin, turn, again, done, empty_is}
+use mathlib.Core.Path.{refl}
+use lib.Ieee.{of_bits}
+use Rattle.rules.specs.Patches as rule
+use Rattle.patch_sums.proofs.Empties.{begin, turn, again, done}
 use Rattle.patch_sums.proofs.begin.Goals as goal
 
 pub loop-k-init : goal.loop-k-init
@@ -17,4 +18,5 @@ pub shape_of-numbers : goal.shape_of-numbers
 shape_of-numbers c = c.loop-k.invariant.only.long
 
 pub returns : goal.returns
-returns c = done c.requires c.loop-k.invariant c.loop-k-test.false empty_is
+unfolding rule.empty of_bits
+returns c = done c.requires c.loop-k.invariant c.loop-k-test.false refl

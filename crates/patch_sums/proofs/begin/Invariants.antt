@@ -1,5 +1,4 @@
 -- `patch_sums::begin` meets its contract: the records before k are empty. Assumes nothing.
-use Prim.Native.Nat.{◌-◌}
 use Rattle.patch_sums.specs.Sums.{patch_of}
 use Rattle.patch_sums.proofs.Empties.{Begun}
 use Rattle.patch_sums.proofs.begin.Given as goal

@@ -1,6 +1,5 @@
 -- `patch_sums::count_faces` meets its contract: each count is that of the labels passed. Assumes nothing.
 use mathlib.Core.Path.{◌∙◌}
-use Prim.Native.Nat.{◌-◌}
 use native.Mathlib.Omega.{arith}
 use Rattle.patch_sums.proofs.Counting.{begin, turn, counts, skips, done}
 use Rattle.patch_sums.proofs.count_faces.Goals as goal

@@ -1,6 +1,5 @@
 -- `patch_sums::sum_faces` meets its contract: each record is that of the faces passed. Assumes nothing.
 use mathlib.Core.Path.{◌∙◌}
-use Prim.Native.Nat.{◌-◌}
 use native.Mathlib.Omega.{arith}
 use Rattle.patch_sums.proofs.Summing.{begin, label_in, add_asks, adds, skips, done}
 use Rattle.patch_sums.proofs.sum_faces.Goals as goal

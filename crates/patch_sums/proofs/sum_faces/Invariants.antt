@@ -1,6 +1,4 @@
 -- `patch_sums::sum_faces` meets its contract: each record is that of the faces passed. Assumes nothing.
-use Prim.Native.Nat.{◌-◌}
-use lib.ListN.{length}
 use Rattle.patch_sums.proofs.Summing.{Summed}
 use Rattle.patch_sums.proofs.sum_faces.Given as goal
 

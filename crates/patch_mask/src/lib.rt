@@ -2,35 +2,17 @@
 #![tactic(auto)]
 
 ghost use Rattle.std.specs.Prelude.{◌≡◌, ◌<◌};
-ghost use Rattle.patches.specs.Answers.{limit_of, whole_of, filter_of};
+ghost use Rattle.patches.specs.Answers.{limit_of, filter_of};
 ghost use Rattle.patch_mask.specs.Mask.{set, held, masked};
 
-use patches::{Filter, Limit, Whole};
+use patches::Filter;
 
-// Whether the mask sets the limit with this bit.
-fn is_set(limits: u32, bit: u32) -> bool
+// A number, if the mask sets the limit with this bit.
+fn limit<A: Copy>(limits: u32, bit: u32, x: A) -> Option<A>
     requires { 0 < bit }
-    ensures { result ≡ set limits bit }
+    ensures { limit_of result ≡ held (set limits bit) x }
 {
-    limits / bit % 2 == 1
-}
-
-// A float limit, if it is set.
-fn limit(is: bool, x: f64) -> Limit
-    ensures { limit_of result ≡ held is x }
-{
-    if is { Limit::Limit(x) } else { Limit::Absent }
-}
-
-// A limit that is a whole number, if it is set.
-fn whole(is: bool, n: u64) -> Whole
-    ensures { whole_of result ≡ held is n }
-{
-    if is {
-        Whole::Limit(n as usize)
-    } else {
-        Whole::Absent
-    }
+    (limits / bit % 2 == 1).then_some(x)
 }
 
 // The filter: limit k counts where bit k of `limits` is 1; the other bits say nothing.
@@ -45,10 +27,10 @@ pub fn filter(
     ensures { filter_of result ≡ masked limits min_faces min_area min_aabb_diagonal min_area_fraction keep_largest_n }
 {
     Filter {
-        min_faces: whole(is_set(limits, 1), min_faces),
-        min_area: limit(is_set(limits, 2), min_area),
-        min_aabb_diagonal: limit(is_set(limits, 4), min_aabb_diagonal),
-        min_area_fraction: limit(is_set(limits, 8), min_area_fraction),
-        keep_largest_n: whole(is_set(limits, 16), keep_largest_n),
+        min_faces: limit(limits, 1, min_faces as usize),
+        min_area: limit(limits, 2, min_area),
+        min_aabb_diagonal: limit(limits, 4, min_aabb_diagonal),
+        min_area_fraction: limit(limits, 8, min_area_fraction),
+        keep_largest_n: limit(limits, 16, keep_largest_n as usize),
     }
 }

@@ -5,7 +5,6 @@ use mathlib.Core.List.{List, [], ◌∷◌, map, map-append}
 use Prim.Native.Nat.{ℕ, zero, suc, ◌+◌, ◌≤◌, ◌<◌}
 use native.Mathlib.Numerals.{add-one}
 use native.Mathlib.Omega.{arith}
-use lib.Dec.{ltb}
 use lib.Ieee.{Float, binary64, of_bits, lt}
 use Rattle.rules.specs.Lists.{below, through}
 use Rattle.rules.specs.Mesh.{zero64}
@@ -14,32 +13,7 @@ use Rattle.rules.specs.Float as float-rule
 use Rattle.rules.specs.Patches as rule
 use Rattle.rule_laws.proofs.Lists.{through_append}
 use Rattle.patch_rank.specs.Rank.{area_at}
-use Rattle.patches.specs.declared.Limit.{Limit}
-use Rattle.patches.specs.declared.Limit.TheVariants as float
-use Rattle.patches.specs.declared.Whole.{Whole}
-use Rattle.patches.specs.declared.Whole.TheVariants as whole
-use Rattle.patches.specs.Answers.{limit_of, whole_of, largest_in, share_of}
-
--- ---- one limit
-
--- no number is < an absent limit
-pub under_absent : (x : Float) {by : Limit} → by ≡ float.Absent → false ≡ rule.under lt x (limit_of by)
-unfolding rule.under
-under_absent x e = rw e
-
--- a limit is compared
-pub under_limit : (x : Float) {by : Limit} {m : Float} → by ≡ float.Limit m → lt x m ≡ rule.under lt x (limit_of by)
-unfolding rule.under
-under_limit x e = rw e
-
--- the same for whole numbers
-pub few_absent : (n : ℕ) {by : Whole} → by ≡ whole.Absent → false ≡ rule.under ltb n (whole_of by)
-unfolding rule.under
-few_absent n e = rw e
-
-pub few_limit : (n : ℕ) {by : Whole} {m : ℕ} → by ≡ whole.Limit m → ltb n m ≡ rule.under ltb n (whole_of by)
-unfolding rule.under
-few_limit n e = rw e
+use Rattle.patches.specs.Answers.{largest_in}
 
 -- ---- the diagonal
 
@@ -89,16 +63,6 @@ module _ (xs : List Float) (C : ℕ) where
   -- of all
   pub largest_done : {held : Float} {k : ℕ} → Largest xs C held k → C ≤ k → held ≡ largest_in xs C
   largest_done {held} {k} v h = let e : k ≡ C = omega (arith, v.at_most) in rw (← e) v.found
-
-  -- no fraction, no limit
-  pub share_absent : {by : Limit} → by ≡ float.Absent → rule.absent ≡ share_of xs C (limit_of by)
-  unfolding share_of
-  share_absent e = rw e
-
-  -- a fraction of the largest
-  pub share_limit : {by : Limit} {part held : Float} → by ≡ float.Limit part → held ≡ largest_in xs C → rule.limit (held ⊗ part) ≡ share_of xs C (limit_of by)
-  unfolding share_of
-  share_limit e f = rw (e, f)
 
 -- ---- four tests, one after the other
 

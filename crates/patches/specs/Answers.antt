@@ -1,5 +1,5 @@
 -- The words of this crate's contracts: the filter as the rules' own, what its parts give, and the call's answer as the rules' outcome. Definitions only.
-use Rattle.std.specs.Prelude.{◌≡◌, Bool, false, ◌||◌, cond, List, [], ◌∷◌, map, ℕ, ◌*◌, ◌≤◌, ◌<◌, ◌^◌, length, get_or, eqb, leb, ltb, Float}
+use Rattle.std.specs.Prelude.{◌≡◌, Option, Some, None, Result, Ok, Err, Bool, false, ◌||◌, cond, List, [], ◌∷◌, map, ℕ, ◌*◌, ◌≤◌, ◌<◌, ◌^◌, length, get_or, eqb, leb, ltb, Float}
 use Rattle.std.specs.Float.{nan}
 use Rattle.std.specs.Float.Ieee.{lt}
 use Rattle.rows.specs.Region.{Only, OnlyOf, Filled}
@@ -10,37 +10,29 @@ use Rattle.rules.specs.Rank.{outranks}
 use Rattle.rules.specs.Patches as rule
 use Rattle.rules.specs.Rooms.{Answer, accepted, refused, Outcome}
 use Rattle.rules.specs.PatchesCall.{PatchesRooms}
+use Rattle.refuse.specs.Verdicts.{number_of, place_of}
+use Rattle.refuse.specs.declared.Refusal.{Refusal}
 use Rattle.patch_sums.specs.Sums.{record_at}
 use Rattle.patch_rank.specs.Rank.{Area, area_at}
-use Rattle.patches.specs.declared.Limit.{Limit}
-use Rattle.patches.specs.declared.Limit.TheVariants as float
-use Rattle.patches.specs.declared.Whole.{Whole}
-use Rattle.patches.specs.declared.Whole.TheVariants as whole
 use Rattle.patches.specs.declared.Filter.{Filter}
 use Rattle.patches.specs.declared.Patched.{Patched}
-use Rattle.patches.specs.declared.Patched.TheVariants.{Done, Refused}
 
 -- ---- the filter
 
--- a float setting as the rules' own
-abbrev pub limit_of : Limit → rule.Limit Float
-limit_of float.Absent = rule.absent
-limit_of (float.Limit m) = rule.limit m
-
--- a setting that is a whole number
-abbrev pub whole_of : Whole → rule.Limit ℕ
-whole_of whole.Absent = rule.absent
-whole_of (whole.Limit m) = rule.limit m
+-- a setting as the rules' own
+abbrev pub limit_of : {A : Type 0} → Option A → rule.Limit A
+limit_of None = rule.absent
+limit_of (Some m) = rule.limit m
 
 -- the five settings
 abbrev pub filter_of : Filter → rule.Filter
 filter_of by =
     record {
-      min_faces = whole_of by.min_faces;
+      min_faces = limit_of by.min_faces;
       min_area = limit_of by.min_area;
       min_diagonal = limit_of by.min_aabb_diagonal;
       min_fraction = limit_of by.min_area_fraction;
-      keep_largest = whole_of by.keep_largest_n;
+      keep_largest = limit_of by.keep_largest_n;
     }
 
 -- the largest area in the numbers room
@@ -90,16 +82,16 @@ pub record KeepGives (xs : List Float) (C : ℕ) (most : rule.Limit ℕ) (fs w f
 -- ---- the call
 
 -- document 01's answer: how many entries stand in each room, or a number and a place
-abbrev pub answer_of : Patched → Answer
-answer_of (Done face_counts numbers flags) = accepted (face_counts ∷ numbers ∷ flags ∷ [])
-answer_of (Refused n p) = refused n p
+abbrev pub answer_of : Result Patched Refusal → Answer
+answer_of (Ok r) = accepted (r.face_counts ∷ r.numbers ∷ r.flags ∷ [])
+answer_of (Err r) = refused (number_of r) (place_of r)
 
 -- the four rooms
 abbrev pub rooms_of : List ℕ → List Float → List ℕ → List ℕ → PatchesRooms
 rooms_of cs xs fs w = record { face_counts = cs; numbers = xs; flags = fs; work = w }
 
 -- with the rooms as the call leaves them
-abbrev pub outcome_of : Patched → PatchesRooms → Outcome PatchesRooms
+abbrev pub outcome_of : Result Patched Refusal → PatchesRooms → Outcome PatchesRooms
 outcome_of r rooms = record { answer = answer_of r; rooms = rooms }
 
 -- the rooms of an accepted call, entry by entry

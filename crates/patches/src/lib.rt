@@ -10,62 +10,43 @@ ghost use Rattle.rules.specs.Patches as rule;
 ghost use Rattle.rules.specs.PatchesCall as call;
 ghost use Rattle.patches_refusal.specs.Checks.{PatchesAccepted};
 ghost use Rattle.patch_sums.specs.Sums.{patch_of};
-ghost use Rattle.patches.specs.Answers.{limit_of, whole_of, filter_of, largest_in, share_of, small, DropAsks, DropGives, KeepAsks, KeepGives, FillGives, rooms_of, outcome_of};
+ghost use Rattle.patches.specs.Answers.{limit_of, filter_of, largest_in, share_of, small, DropAsks, DropGives, KeepAsks, KeepGives, FillGives, rooms_of, outcome_of};
 
 use measure::Vector;
 use patch_sums::Patch;
 use patches_refusal::Rooms;
-use refuse::Verdict;
+use refuse::Refusal;
 
-// A float setting of the filter: absent, or it holds its number.
-#[derive(Clone, Copy)]
-pub enum Limit {
-    Absent,
-    Limit(f64),
-}
-
-// A setting that is a whole number.
-#[derive(Clone, Copy)]
-pub enum Whole {
-    Absent,
-    Limit(usize),
-}
-
-// The filter's five settings.
-#[derive(Clone, Copy)]
+// The filter's five settings; one that is not set drops nothing.
+#[derive(Clone, Copy, Debug, PartialEq)]
 pub struct Filter {
-    pub min_faces: Whole,
-    pub min_area: Limit,
-    pub min_aabb_diagonal: Limit,
-    pub min_area_fraction: Limit,
-    pub keep_largest_n: Whole,
+    pub min_faces: Option<usize>,
+    pub min_area: Option<f64>,
+    pub min_aabb_diagonal: Option<f64>,
+    pub min_area_fraction: Option<f64>,
+    pub keep_largest_n: Option<usize>,
 }
 
-// What the patch call gives back: how many entries stand in face counts, numbers and flags, or a refusal's number and place.
-#[derive(Drop)]
-pub enum Patched {
-    Done(usize, usize, usize),
-    Refused(u32, usize),
+// What the patch call gives back: how many entries stand in each of these rooms.
+#[derive(Clone, Copy, Debug, PartialEq, Eq)]
+pub struct Patched {
+    pub face_counts: usize,
+    pub numbers: usize,
+    pub flags: usize,
 }
 
 // Whether a number is < its limit. No number is < an absent one, or < NaN.
-fn under(x: f64, by: Limit) -> bool
+fn under(x: f64, by: Option<f64>) -> bool
     ensures { result ≡ rule.under lt x (limit_of by) }
 {
-    match by {
-        Limit::Absent => false,
-        Limit::Limit(least) => x < least,
-    }
+    by.is_some_and(|least| x < least)
 }
 
 // Whether a patch has fewer faces than its limit.
-fn few(n: u32, by: Whole) -> bool
-    ensures { result ≡ rule.under ltb n (whole_of by) }
+fn few(n: u32, by: Option<usize>) -> bool
+    ensures { result ≡ rule.under ltb n (limit_of by) }
 {
-    match by {
-        Whole::Absent => false,
-        Whole::Limit(least) => (n as usize) < least,
-    }
+    by.is_some_and(|least| (n as usize) < least)
 }
 
 // The diagonal of a patch's box: 0 for an empty patch, else root((dx² + dy²) + dz²).
@@ -104,33 +85,22 @@ fn largest(numbers: &[f64], count: usize) -> f64
 }
 
 // The limit that a fraction sets: (largest area of all patches)·fraction.
-fn share(numbers: &[f64], count: usize, fraction: Limit) -> Limit
+fn share(numbers: &[f64], count: usize, fraction: Option<f64>) -> Option<f64>
     requires { 7 * count ≤ length numbers.now }
     ensures { limit_of result ≡ share_of numbers.now count (limit_of fraction) }
 {
-    match fraction {
-        Limit::Absent => Limit::Absent,
-        Limit::Limit(part) => Limit::Limit(largest(numbers, count) * part),
-    }
+    let part = fraction?;
+    Some(largest(numbers, count) * part)
 }
 
 // Whether a patch is dropped by its faces, area or diagonal, or by the share of the largest area.
-fn falls(n: u32, r: Patch, by: Filter, least: Limit) -> bool
+fn falls(n: u32, r: Patch, by: Filter, least: Option<f64>) -> bool
     ensures { result ≡ small (filter_of by) (limit_of least) n (patch_of r) }
 {
-    let min_faces = by.min_faces;
-    if few(n, min_faces) {
-        return true;
-    }
-    let min_area = by.min_area;
-    if under(r.area, min_area) {
-        return true;
-    }
-    let min_diagonal = by.min_aabb_diagonal;
-    if under(diagonal(n, r), min_diagonal) {
-        return true;
-    }
-    under(r.area, least)
+    few(n, by.min_faces)
+        || under(r.area, by.min_area)
+        || under(diagonal(n, r), by.min_aabb_diagonal)
+        || under(r.area, least)
 }
 
 // Clears the flags of the patches that these limits drop.
@@ -139,7 +109,7 @@ fn drop_small(
     numbers: &[f64],
     count: usize,
     by: Filter,
-    least: Limit,
+    least: Option<f64>,
     flags: &mut [u32],
 )
     requires { DropAsks face_counts.now numbers.now count flags.old }
@@ -154,17 +124,13 @@ fn drop_small(
 }
 
 // Flags all patches, or, with the setting, the first n of all patches by area.
-fn keep(numbers: &[f64], count: usize, most: Whole, flags: &mut [u32], work: &mut [u32])
+fn keep(numbers: &[f64], count: usize, most: Option<usize>, flags: &mut [u32], work: &mut [u32])
     requires { KeepAsks numbers.now count flags.old work.old }
-    ensures { KeepGives numbers.now count (whole_of most) flags.old work.old flags.new work.new }
+    ensures { KeepGives numbers.now count (limit_of most) flags.old work.old flags.new work.new }
 {
     match most {
-        Whole::Absent => {
-            rows::fill(flags, 0, count, 1);
-        }
-        Whole::Limit(n) => {
-            patch_rank::keep_largest(numbers, count, n, flags, work);
-        }
+        None => rows::fill(flags, 0, count, 1),
+        Some(n) => patch_rank::keep_largest(numbers, count, n, flags, work),
     }
 }
 
@@ -187,10 +153,8 @@ fn fill_rooms(
 {
     patch_sums::count_faces(labels, face_counts, count);
     patch_sums::sum_faces(points, faces, labels, numbers, count);
-    let most = by.keep_largest_n;
-    keep(numbers, count, most, flags, work);
-    let fraction = by.min_area_fraction;
-    let least = share(numbers, count, fraction);
+    keep(numbers, count, by.keep_largest_n, flags, work);
+    let least = share(numbers, count, by.min_area_fraction);
     drop_small(face_counts, numbers, count, by, least, flags);
     rows::clear(work, 0, 4 * count);
 }
@@ -206,7 +170,7 @@ pub fn find_patches(
     numbers: &mut [f64],
     flags: &mut [u32],
     work: &mut [u32],
-) -> Patched
+) -> Result<Patched, Refusal>
     ensures { let before = rooms_of face_counts.old numbers.old flags.old work.old in
         let after = rooms_of face_counts.new numbers.new flags.new work.new in
         outcome_of result after ≡ call.find_patches points.now faces.now labels.now count (filter_of by) before }
@@ -217,21 +181,21 @@ pub fn find_patches(
         flags: flags.len(),
         work: work.len(),
     };
-    match patches_refusal::patches_refusal(points, faces, labels, count, rooms) {
-        Verdict::Refused(number, place) => Patched::Refused(number, place),
-        Verdict::Fine => {
-            fill_rooms(
-                points,
-                faces,
-                labels,
-                count,
-                by,
-                face_counts,
-                numbers,
-                flags,
-                work,
-            );
-            Patched::Done(count, 7 * count, count)
-        }
-    }
+    patches_refusal::patches_refusal(points, faces, labels, count, rooms)?;
+    fill_rooms(
+        points,
+        faces,
+        labels,
+        count,
+        by,
+        face_counts,
+        numbers,
+        flags,
+        work,
+    );
+    Ok(Patched {
+        face_counts: count,
+        numbers: 7 * count,
+        flags: count,
+    })
 }

@@ -2,7 +2,7 @@
 // has the answer, and then the entries of face counts, flags and work, which all were 7 before the call.
 #![tactic(auto)]
 
-use patches::{Filter, Limit, Patched, Whole};
+use patches::Filter;
 use std::io;
 
 // Writes the entries of a row.
@@ -30,16 +30,16 @@ fn run(rt: &impl Print, labels: &[u32], by: Filter) -> io::Result<()> {
         &mut flags,
         &mut work,
     ) {
-        Patched::Done(a, b, c) => {
+        Ok(filled) => {
             print!(rt; "done ")?;
-            show::number(rt, a as u64)?;
-            show::number(rt, b as u64)?;
-            show::number(rt, c as u64)?;
+            show::number(rt, filled.face_counts as u64)?;
+            show::number(rt, filled.numbers as u64)?;
+            show::number(rt, filled.flags as u64)?;
         }
-        Patched::Refused(number, place) => {
+        Err(refusal) => {
             print!(rt; "refused ")?;
-            show::number(rt, number as u64)?;
-            show::number(rt, place as u64)?;
+            show::number(rt, refusal.number() as u64)?;
+            show::number(rt, refusal.place() as u64)?;
         }
     }
     print!(rt; "| ")?;
@@ -50,47 +50,27 @@ fn run(rt: &impl Print, labels: &[u32], by: Filter) -> io::Result<()> {
 }
 
 // A filter by the two whole numbers and the fraction; the others are absent.
-fn filter(min_faces: Whole, fraction: Limit, keep_largest_n: Whole) -> Filter {
+fn filter(
+    min_faces: Option<usize>,
+    fraction: Option<f64>,
+    keep_largest_n: Option<usize>,
+) -> Filter {
     Filter {
-        min_faces: min_faces,
-        min_area: Limit::Absent,
-        min_aabb_diagonal: Limit::Absent,
+        min_faces,
+        min_area: None,
+        min_aabb_diagonal: None,
         min_area_fraction: fraction,
-        keep_largest_n: keep_largest_n,
+        keep_largest_n,
     }
 }
 
 // Nothing set; the largest; the largest where it has too few faces, which ranks all patches and so keeps none; half of the largest; and refusals.
 fn main(rt: HostRuntime) -> io::Result<()> {
     let labels = [0, 0, 1, 4294967295];
-    run(
-        &rt,
-        &labels,
-        filter(Whole::Absent, Limit::Absent, Whole::Absent),
-    )?;
-    run(
-        &rt,
-        &labels,
-        filter(Whole::Absent, Limit::Absent, Whole::Limit(1)),
-    )?;
-    run(
-        &rt,
-        &labels,
-        filter(Whole::Limit(2), Limit::Absent, Whole::Limit(1)),
-    )?;
-    run(
-        &rt,
-        &labels,
-        filter(Whole::Absent, Limit::Limit(0.5), Whole::Absent),
-    )?;
-    run(
-        &rt,
-        &labels[..3],
-        filter(Whole::Absent, Limit::Absent, Whole::Absent),
-    )?;
-    run(
-        &rt,
-        &[0, 3, 1, 2],
-        filter(Whole::Absent, Limit::Absent, Whole::Absent),
-    )
+    run(&rt, &labels, filter(None, None, None))?;
+    run(&rt, &labels, filter(None, None, Some(1)))?;
+    run(&rt, &labels, filter(Some(2), None, Some(1)))?;
+    run(&rt, &labels, filter(None, Some(0.5), None))?;
+    run(&rt, &labels[..3], filter(None, None, None))?;
+    run(&rt, &[0, 3, 1, 2], filter(None, None, None))
 }

@@ -5,8 +5,4 @@ use Rattle.patch_mask.proofs.filter.Goals as goal
 pub returns : goal.returns
 returns c = let a = c.args in
     masked_is a.limits a.min_faces a.min_area a.min_aabb_diagonal a.min_area_fraction a.keep_largest_n
-    c.is_set.ensures c.whole.ensures
-    c.is_set-2.ensures c.limit.ensures
-    c.is_set-3.ensures c.limit-2.ensures
-    c.is_set-4.ensures c.limit-3.ensures
-    c.is_set-5.ensures c.whole-2.ensures
+    c.limit.ensures c.limit-2.ensures c.limit-3.ensures c.limit-4.ensures c.limit-5.ensures

@@ -1,5 +1,4 @@
 -- `patches::drop_small` meets its contract: the flags before k are decided. Assumes nothing.
-use Prim.Native.Nat.{◌-◌}
 use native.Mathlib.Omega.{arith}
 use Rattle.patches.proofs.Flags.{drop_begin, drop_turn, drop_one, keep_one, drop_done}
 use Rattle.patches.proofs.drop_small.Goals as goal

@@ -1,5 +1,4 @@
 -- `patches::drop_small` meets its contract: the flags before k are decided. Assumes nothing.
-use Prim.Native.Nat.{◌-◌}
 use Rattle.patches.specs.Answers.{filter_of, limit_of}
 use Rattle.patches.proofs.Flags.{Dropped}
 use Rattle.patches.proofs.drop_small.Given as goal

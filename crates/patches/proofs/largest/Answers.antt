@@ -1,5 +1,4 @@
 -- `patches::largest` meets its contract: the largest area of the patches passed. Assumes nothing.
-use Prim.Native.Nat.{◌-◌}
 use native.Mathlib.Omega.{arith}
 use Rattle.patches.proofs.Limits.{largest_begin, largest_more, largest_same, largest_done}
 use Rattle.patches.proofs.largest.Goals as goal

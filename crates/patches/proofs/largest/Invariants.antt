@@ -1,5 +1,4 @@
 -- `patches::largest` meets its contract: the largest area of the patches passed. Assumes nothing.
-use Prim.Native.Nat.{◌-◌}
 use Rattle.patches.proofs.Limits.{Largest}
 use Rattle.patches.proofs.largest.Given as goal
 

@@ -1,9 +1,12 @@
 -- `patches::share` meets its contract: no limit, or the fraction of the largest area. Assumes nothing.
-use Rattle.patches.proofs.Limits.{share_absent, share_limit}
+use Rattle.std.proofs.Common.{rules}
+use Rattle.patches.specs.Answers.{share_of}
 use Rattle.patches.proofs.share.Goals as goal
 
-pub returns-in-Absent : goal.returns-in-Absent
-returns-in-Absent c = share_absent _ _ c.in-Absent.is
+pub returns-in_err-part : goal.returns-in_err-part
+unfolding share_of
+returns-in_err-part c = search rules
 
-pub returns-in-Limit : goal.returns-in-Limit
-returns-in-Limit c = share_limit _ _ c.in-Limit.is c.largest.ensures
+pub returns : goal.returns
+unfolding share_of
+returns c = search rules

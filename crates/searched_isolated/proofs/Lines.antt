@@ -1,17 +1,16 @@
 -- The bytes of the lines of points, point after point, and of those that are kept, face after face. Assumes nothing.
-use mathlib.Core.Path.{◌≡◌, refl, sym, ap, ap₂, ◌∙◌, subst}
-use mathlib.Core.Bool.{Bool, true, false, not, ◌&&◌, ◌||◌, cond}
+use mathlib.Core.Path.{◌≡◌, refl, sym, ap, ◌∙◌, subst}
+use mathlib.Core.Bool.{Bool, true, false, not, ◌&&◌, cond}
 use mathlib.Core.List.{List, [], ◌∷◌}
-use Prim.Native.Nat.{ℕ, zero, suc, ◌+◌, ◌*◌, ◌/◌, ◌≤◌, ◌<◌}
+use Prim.Native.Nat.{ℕ, suc, ◌+◌, ◌*◌, ◌/◌, ◌≤◌, ◌<◌}
 use native.Mathlib.Omega.{arith}
 use native.Mathlib.Numerals.{add-one}
-use lib.Dec.{T, eqb}
-use lib.Ieee.Bits.{is_true}
-use lib.ListN.{length, get_or}
+use lib.Dec.{T}
+use lib.ListN.{length}
 use Rattle.rules.specs.Lists.{below, filter, count}
-use Rattle.rules.specs.Mesh.{Face, face}
+use Rattle.rules.specs.Mesh.{face}
 use Rattle.rules.specs.Line.{decimal}
-use Rattle.rule_laws.proofs.Counting.{count_next, count_stay, count_below_le}
+use Rattle.rule_laws.proofs.Counting.{count_next, count_stay}
 use Rattle.rule_laws.proofs.Digits.{decimal_short}
 use Rattle.splitting.specs.Corners.{corner_at}
 use Rattle.fan_laws.specs.Sums.{sum_of, field}
@@ -22,7 +21,7 @@ use Rattle.face_words.proofs.Places.{viewed_face, viewed_length}
 use Rattle.searched_fans.proofs.Settling.{field_most}
 use Rattle.searched_splits.specs.Splits.{pick_of, met_at}
 use Rattle.searched_splits.proofs.Flags.{pick_read, met_read}
-use Rattle.searched_isolated.specs.Points.{line_of, first_at, first_length, face_length, kept_length, CornerAsks, FaceAsks, KeptAsks}
+use Rattle.searched_isolated.specs.Points.{line_of, first_at, first_length, face_length, kept_length, CornerAsks, FaceAsks}
 
 -- ---- all points
 
@@ -46,7 +45,7 @@ size : (n k : ℕ) → k ≡ length (decimal n) → field n ≡ 1 + k
 size n k e = unfold field in (omega (arith, e))
 
 -- one point more
-pub again : {P bytes v k : ℕ} → Told P bytes v → v < P → k ≡ length (decimal v) → Told P (bytes + 3 + k) (v + 1)
+pub again : {P bytes v k : ℕ} → Told P bytes v → v < P → k ≡ length (decimal v) → Told P (bytes + (3 + k)) (v + 1)
 again {P} {bytes} {v} {k} t h e =
     record {
       most = omega arith;
@@ -54,7 +53,7 @@ again {P} {bytes} {v} {k} t h e =
       few = omega (arith, t.few, e, decimal_short v);
     }
   where
-    parts : bytes + 3 + k ≡ sum_of (λ u. 2 + field u) (below v) + (2 + field v)
+    parts : bytes + (3 + k) ≡ sum_of (λ u. 2 + field u) (below v) + (2 + field v)
     parts = omega (arith, t.sum, size v k e)
 
 -- all

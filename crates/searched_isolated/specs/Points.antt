@@ -1,5 +1,5 @@
 -- The bytes of the lines of points, by their first corners. Definitions only.
-use Rattle.std.specs.Prelude.{Bool, not, ◌&&◌, cond, List, ℕ, ◌+◌, ◌*◌, ◌<◌, T, length}
+use Rattle.std.specs.Prelude.{cond, List, ℕ, ◌+◌, ◌*◌, ◌<◌, T, length}
 use Rattle.rules.specs.Lists.{below, filter}
 use Rattle.rules.specs.Mesh.{face}
 use Rattle.splitting.specs.Corners.{corner_at}

@@ -9,8 +9,8 @@ ghost use Rattle.face_index.specs.Index.{Indexed};
 ghost use Rattle.searched_isolated.specs.Points as by;
 
 use byte_rows::number_length;
-use face_words::{stands, view};
-use searched_splits::{met_at, pick, same};
+use face_words::{corner, stands, view};
+use searched_splits::{met_at, same};
 
 // The bytes of a line for each of the points.
 pub fn all_length(points: usize) -> usize
@@ -19,7 +19,7 @@ pub fn all_length(points: usize) -> usize
 {
     let mut bytes = 0;
     for v in 0..points {
-        bytes = bytes + 3 + number_length(v as u32);
+        bytes += 3 + number_length(v as u32);
     }
     bytes
 }
@@ -30,8 +30,7 @@ fn kept_corner(faces: &[u32], index: &[u32], words: &[u32], f: usize, k: usize) 
     requires indexed { Indexed faces.now index.now }
     ensures { result ≡ by.first_length faces.now words.now f k }
 {
-    let c = view(faces, words, f);
-    let v = pick(c.a, c.b, c.c, k);
+    let v = corner(faces, words, f, k);
     if met_at(faces, index, words, f, k, v) {
         return 0;
     }
@@ -62,7 +61,7 @@ pub fn kept_length(faces: &[u32], index: &[u32], words: &[u32]) -> usize
     let mut bytes = 0;
     for f in 0..words.len() {
         if stands(words, f) {
-            bytes = bytes + kept_face(faces, index, words, f);
+            bytes += kept_face(faces, index, words, f);
         }
     }
     bytes

@@ -7,24 +7,22 @@ use native.Mathlib.Omega.{arith}
 use borrow.Author.Tests.{eq-eqb, ne_eqb, eqb-true}
 use lib.Dec.{T, eqb}
 use lib.ListN.{length, get_or}
-use Rattle.rules.specs.Lists.{below, count}
 use Rattle.rules.specs.Mesh.{Face, face}
 use Rattle.rules.specs.Line.{decimal}
 use Rattle.rule_laws.proofs.Digits.{decimal_short}
 use Rattle.rule_laws.proofs.Counting.{count_below_le}
-use Rattle.splitting.specs.Corners.{corner_at}
 use Rattle.fan_laws.specs.Sums.{field}
 use Rattle.fan_laws.specs.Opening.{opens, single, giver, lost, rank, before}
 use Rattle.fan_laws.proofs.Ranks.{rank_count}
 use Rattle.face_words.specs.Words.{stands, view, viewed, place}
-use Rattle.face_words.specs.Views.{Worded, ViewAsks}
+use Rattle.face_words.specs.Views.{Worded}
 use Rattle.face_words.proofs.Places.{viewed_face, viewed_length, place_in}
 use Rattle.searched_fans.proofs.Meeting.{view_alike}
-use Rattle.searched_splits.specs.Splits.{pick_of, gives_in, id_of}
+use Rattle.searched_splits.specs.Splits.{bit_of, pick_of, gives_in, id_of}
 use Rattle.searched_splits.proofs.Flags.{by_three, stage_alike, pick_read}
-use Rattle.searched_ranks.specs.Ranks.{marked_in, rank_by, RankAsks}
+use Rattle.searched_ranks.specs.Ranks.{marked_in, rank_by}
 use Rattle.searched_ranks.proofs.Ranking.{mark_is, rank_found}
-use Rattle.searched_lost.specs.Lost.{lost_line, lost_face, LostAsks, FaceAsks, CornerAsks}
+use Rattle.searched_lost.specs.Lost.{lost_line, CornerAsks}
 
 -- a line has at most 13 bytes
 pub line_most : (xs w : List ℕ) (P id : ℕ) → lost_line xs w P id ≤ 13
@@ -78,7 +76,7 @@ module _ {xs w : List ℕ} {P f k : ℕ} (q : CornerAsks xs w P f k) where
 
       first_mark : eqb (get_or w f 0 / 128 % 2) 1 ≡ opens fs (3 * place base f)
       first_mark =
-          let m : eqb (get_or w f 0 / 128 % 2) 1 ≡ opens fs (3 * place base f + 0) = unfold marked_in in (mark_is q.face.all.split.plain q.face.all.stage f 0 q.face.here q.face.standing (omega arith)) in
+          let m : eqb (get_or w f 0 / 128 % 2) 1 ≡ opens fs (3 * place base f + 0) = unfold bit_of marked_in in (mark_is q.face.all.split.plain q.face.all.stage f 0 q.face.here q.face.standing (omega arith)) in
           m ∙ ap (opens fs) z
 
       zeroth : opens fs (id_of base f 0) ≡ true → gives_in (get_or w f 0) 0 ≡ eqb (id_of base f 0) (giver fs (place base f))

@@ -1,9 +1,9 @@
 -- The lines of the points that pass 5 splits off and no face takes, corner after corner in face order. Definitions only.
-use Rattle.std.specs.Prelude.{◌≡◌, ◌&&◌, cond, List, ℕ, ◌+◌, ◌*◌, ◌<◌, T, length}
+use Rattle.std.specs.Prelude.{◌&&◌, cond, List, ℕ, ◌+◌, ◌*◌, ◌<◌, T, length}
 use Rattle.rules.specs.Lists.{below}
 use Rattle.fan_laws.specs.Sums.{sum_of, field}
 use Rattle.fan_laws.specs.Opening.{opens, lost, rank}
-use Rattle.face_words.specs.Words.{stands, viewed, place}
+use Rattle.face_words.specs.Words.{stands, viewed}
 use Rattle.searched_splits.specs.Splits.{SplitAsks, Stage, id_of}
 
 -- the line for corner id, over P points and the words w before pass 5

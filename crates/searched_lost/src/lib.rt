@@ -8,7 +8,7 @@ ghost use Rattle.searched_splits.specs.Splits.{id_of};
 ghost use Rattle.searched_lost.specs.Lost as by;
 
 use byte_rows::number_length;
-use face_words::{stands, view};
+use face_words::{corner, stands, view};
 
 // The bytes of the line of the point that is split off for corner k of face f, if no face takes it.
 fn lost_corner(faces: &[u32], words: &[u32], points: usize, f: usize, k: usize) -> usize
@@ -26,7 +26,7 @@ fn lost_corner(faces: &[u32], words: &[u32], points: usize, f: usize, k: usize) 
     if searched_splits::gives(word, k) {
         return 0;
     }
-    let v = searched_splits::pick(c.a, c.b, c.c, k);
+    let v = corner(faces, words, f, k);
     let rank = searched_ranks::rank(faces, words, v, 3 * f + k);
     3 + number_length((points + rank) as u32)
 }
@@ -50,7 +50,7 @@ pub fn lost_length(faces: &[u32], words: &[u32], points: usize) -> usize
     let mut bytes = 0;
     for f in 0..words.len() {
         if stands(words, f) {
-            bytes = bytes + lost_face(faces, words, points, f);
+            bytes += lost_face(faces, words, points, f);
         }
     }
     bytes

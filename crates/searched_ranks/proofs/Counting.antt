@@ -1,12 +1,12 @@
 -- Marked corners that come before another, counted face after face. Assumes nothing.
 use mathlib.Core.Path.{◌≡◌, refl, sym, ap, ap₂, ◌∙◌}
-use mathlib.Core.Bool.{Bool, true, false, not, ◌&&◌, ◌||◌, cond}
+use mathlib.Core.Bool.{Bool, true, false, ◌&&◌, cond}
 use mathlib.Core.List.{List}
-use Prim.Native.Nat.{ℕ, suc, ◌+◌, ◌*◌, ◌≤◌, ◌<◌}
+use Prim.Native.Nat.{ℕ, ◌+◌, ◌*◌, ◌≤◌, ◌<◌}
 use native.Mathlib.Omega.{arith}
 use native.Mathlib.Numerals.{add-one}
 use borrow.Author.Tests.{eq-eqb, ne_eqb, lt-ltb, le-ltb}
-use lib.Dec.{eqb, ltb}
+use lib.Dec.{ltb}
 use lib.ListN.{length, get_or}
 use Rattle.rules.specs.Lists.{below, filter}
 use Rattle.fan_laws.specs.Sums.{sum_of}
@@ -14,7 +14,7 @@ use Rattle.fan_laws.proofs.Sums.{sum_below}
 use Rattle.face_words.specs.Words.{stands, view}
 use Rattle.searched_splits.specs.Splits.{one, pick_of}
 use Rattle.searched_splits.proofs.Flags.{one_most}
-use Rattle.searched_ranks.specs.Ranks.{marked_in, before_in, count_at, face_count, rank_by, CornerAsks}
+use Rattle.searched_ranks.specs.Ranks.{marked_in, before_in, count_at, face_count, rank_by}
 
 -- ---- the order
 
@@ -69,7 +69,7 @@ module _ {xs w : List ℕ} {v id count g : ℕ} (i : Counted xs w v id count g) 
   next b e = ap (λ k. sum_of (face_count xs w v id) (filter (stands w) (below k))) (add-one g) ∙ sum_below (face_count xs w v id) (stands w) g ∙ ap₂ (λ (n : ℕ) (t : Bool). n + cond t (face_count xs w v id g) 0) (sym i.sum) e
 
   -- it stands
-  pub more : {a b c : ℕ} → stands w g ≡ true → a ≡ count_at xs w v id g 0 → b ≡ count_at xs w v id g 1 → c ≡ count_at xs w v id g 2 → Counted xs w v id (count + a + b + c) (g + 1)
+  pub more : {a b c : ℕ} → stands w g ≡ true → a ≡ count_at xs w v id g 0 → b ≡ count_at xs w v id g 1 → c ≡ count_at xs w v id g 2 → Counted xs w v id (count + (a + b + c)) (g + 1)
   unfolding face_count
   more {a} {b} {c} e ea eb ec =
       record {

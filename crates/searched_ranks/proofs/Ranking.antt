@@ -1,28 +1,27 @@
 -- When every corner has been gone through, the count of the marked corners before one is its rank. Assumes nothing.
-use mathlib.Core.Path.{◌≡◌, refl, sym, ap, ap₂, ◌∙◌, subst}
+use mathlib.Core.Path.{◌≡◌, refl, sym, ap, ◌∙◌, subst}
 use mathlib.Core.Bool.{Bool, true, false, ◌&&◌, ◌||◌, cond}
 use mathlib.Core.List.{List}
-use Prim.Native.Nat.{ℕ, zero, suc, ◌+◌, ◌*◌, ◌/◌, ◌%◌, ◌≤◌, ◌<◌}
+use Prim.Native.Nat.{ℕ, zero, suc, ◌+◌, ◌*◌, ◌≤◌, ◌<◌}
 use native.Mathlib.Omega.{arith}
-use native.Mathlib.Decide.{dec_lt, ℕ_discrete}
+use native.Mathlib.Decide.{dec_lt}
 use borrow.Author.Tests.{lt-ltb, le-ltb}
 use lib.Dec.{T, eqb, ltb}
 use lib.ListN.{length, get_or}
 use Rattle.rules.specs.Lists.{below, filter, count}
 use Rattle.rules.specs.Mesh.{Face}
 use Rattle.rule_laws.proofs.Lists.{count_below}
-use Rattle.rule_laws.proofs.Rising.{all_imp, all_filter, below_all}
 use Rattle.rule_laws.proofs.Counting.{count_strict, count_next, count_stay}
 use Rattle.splitting.specs.Corners.{corner_at}
 use Rattle.splitting.proofs.Agreeing.{filter_agree, on_below}
 use Rattle.fan_laws.specs.Sums.{sum_of}
 use Rattle.fan_laws.specs.Opening.{opens, before, rank}
-use Rattle.fan_laws.proofs.Sums.{sum_agree, sum_below}
+use Rattle.fan_laws.proofs.Sums.{sum_below}
 use Rattle.fan_laws.proofs.Ranks.{rank_count}
 use Rattle.face_words.specs.Words.{stands, view, viewed, place}
 use Rattle.face_words.proofs.Places.{viewed_length, place_in}
-use Rattle.searched_fans.proofs.Meeting.{Alike, stands_alike, view_alike}
-use Rattle.searched_splits.specs.Splits.{one, open_to, pick_of, id_of, Stage}
+use Rattle.searched_fans.proofs.Meeting.{stands_alike, view_alike}
+use Rattle.searched_splits.specs.Splits.{one, bit_of, open_to, pick_of, id_of, Stage}
 use Rattle.searched_splits.proofs.Flags.{one_test, by_three, stage_alike, mark_bits, pick_read}
 use Rattle.searched_ranks.specs.Ranks.{marked_in, before_in, count_at, face_count, rank_by}
 
@@ -35,7 +34,7 @@ module _ {xs w₀ : List ℕ} (plain : (g : ℕ) → g < length w₀ → get_or 
 
   -- a mark says that the corner opens a group
   pub mark_is : (g j : ℕ) → g < length w₀ → T (stands w₀ g) → j < 3 → marked_in (get_or w g 0) j ≡ opens fs (id_of w₀ g j)
-  unfolding marked_in
+  unfolding bit_of marked_in
   mark_is g j h t l =
       let b = mark_bits plain s g h t in
       let p = place w₀ g in

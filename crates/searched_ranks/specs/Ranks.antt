@@ -1,14 +1,14 @@
 -- Marked corners that come before another, by faces. Definitions only.
-use Rattle.std.specs.Prelude.{Bool, ◌&&◌, ◌||◌, cond, List, ℕ, ◌+◌, ◌*◌, ◌/◌, ◌%◌, ◌<◌, eqb, ltb, length, get_or}
+use Rattle.std.specs.Prelude.{Bool, ◌&&◌, ◌||◌, List, ℕ, ◌+◌, ◌*◌, ◌/◌, ◌%◌, ◌<◌, eqb, ltb, length, get_or}
 use Rattle.rules.specs.Lists.{below, filter}
 use Rattle.fan_laws.specs.Sums.{sum_of}
 use Rattle.face_words.specs.Words.{stands, view}
 use Rattle.face_words.specs.Views.{Worded}
-use Rattle.searched_splits.specs.Splits.{one, pick_of}
+use Rattle.searched_splits.specs.Splits.{one, bit_of, pick_of}
 
 -- corner k is marked in a word
 unfoldable pub marked_in : ℕ → ℕ → Bool
-marked_in x k = cond (eqb k 0) (eqb (x / 128 % 2) 1) (cond (eqb k 1) (eqb (x / 256 % 2) 1) (eqb (x / 512 % 2) 1))
+marked_in x k = eqb (x / (8 * bit_of k) % 2) 1
 
 -- x is below v, or is v and corner y comes before corner id
 unfoldable pub before_in : ℕ → ℕ → ℕ → ℕ → Bool

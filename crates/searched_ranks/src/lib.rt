@@ -5,33 +5,22 @@
 ghost use Rattle.std.specs.Prelude.{◌≡◌};
 ghost use Rattle.searched_ranks.specs.Ranks as by;
 
-use face_words::{stands, view};
-use searched_splits::pick;
+use face_words::{corner, stands};
+use searched_splits::bit;
 
 // Whether corner k is marked in a word.
 pub fn marked(word: u32, k: usize) -> bool
     ensures { result ≡ by.marked_in word k }
 {
-    if k == 0 {
-        return word / 128 % 2 == 1;
-    }
-    if k == 1 {
-        return word / 256 % 2 == 1;
-    }
-    word / 512 % 2 == 1
+    word / (8 * bit(k)) % 2 == 1
 }
 
 // Whether x is below v, or is v and corner y comes before corner id.
+#[tactic(auto, unfolding(crate::specs::Ranks::before_in))]
 fn comes_before(x: u32, v: u32, y: usize, id: usize) -> bool
     ensures { result ≡ by.before_in x v y id }
 {
-    if x < v {
-        return true;
-    }
-    if x == v {
-        return y < id;
-    }
-    false
+    x < v || x == v && y < id
 }
 
 // 1 if corner j of face g is marked and comes before corner k of face f, which is v.
@@ -42,8 +31,7 @@ fn rank_corner(faces: &[u32], words: &[u32], g: usize, j: usize, v: u32, id: usi
     if !marked(words[g], j) {
         return 0;
     }
-    let c = view(faces, words, g);
-    if comes_before(pick(c.a, c.b, c.c, j), v, 3 * g + j, id) {
+    if comes_before(corner(faces, words, g, j), v, 3 * g + j, id) {
         return 1;
     }
     0
@@ -57,8 +45,7 @@ pub fn rank(faces: &[u32], words: &[u32], v: u32, id: usize) -> usize
     let mut count = 0;
     for g in 0..words.len() {
         if stands(words, g) {
-            count = count
-                + rank_corner(faces, words, g, 0, v, id)
+            count += rank_corner(faces, words, g, 0, v, id)
                 + rank_corner(faces, words, g, 1, v, id)
                 + rank_corner(faces, words, g, 2, v, id);
         }

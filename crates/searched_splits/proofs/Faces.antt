@@ -1,12 +1,12 @@
 -- Face after face: its three corners, and what is told when all faces have been gone through. Assumes nothing.
 use mathlib.Core.Path.{◌≡◌, refl, sym, ap, ap₂, ◌∙◌, subst}
 use mathlib.Core.Bool.{Bool, true, false, ◌&&◌, cond}
-use mathlib.Core.List.{List, []}
-use Prim.Native.Nat.{ℕ, zero, suc, ◌+◌, ◌-◌, ◌*◌, ◌/◌, ◌≤◌, ◌<◌}
+use mathlib.Core.List.{List}
+use Prim.Native.Nat.{ℕ, suc, ◌+◌, ◌*◌, ◌≤◌, ◌<◌}
 use native.Mathlib.Omega.{arith}
 use native.Mathlib.Numerals.{add-one}
 use borrow.Author.Tests.{le-ltb}
-use lib.Dec.{T, eqb, ltb}
+use lib.Dec.{T}
 use lib.ListN.{length, get_or}
 use Rattle.rules.specs.Lists.{below, filter, count, any, each}
 use Rattle.rules.specs.Mesh.{Face}
@@ -14,16 +14,15 @@ use Rattle.rules.specs.State.{State}
 use Rattle.rules.specs.Pass5.{pass5}
 use Rattle.rules.specs.Mending.{line_text, lines5}
 use Rattle.rule_laws.proofs.Once.{Inside}
-use Rattle.rule_laws.proofs.Counting.{count_next, count_stay, count_below_le}
-use Rattle.split_laws.proofs.Lines.{splits}
+use Rattle.rule_laws.proofs.Counting.{count_next, count_stay}
 use Rattle.fan_laws.specs.Sums.{sum_of, field}
 use Rattle.fan_laws.specs.Opening.{opens, weight}
 use Rattle.fan_laws.proofs.Lengths.{splits_open, split_length}
 use Rattle.splitting.proofs.Goals.{points_many, base_least}
-use Rattle.face_words.specs.Words.{stands, view, viewed, place}
+use Rattle.face_words.specs.Words.{stands, viewed, place}
 use Rattle.face_words.proofs.Places.{viewed_length}
-use Rattle.searched_fans.proofs.Meeting.{Alike, stands_alike}
-use Rattle.searched_splits.specs.Splits.{one, done_to, open_to, three_of, word_to, id_of, Stage, Counted, SplitAsks, SplitGives, CornerAsks, CornerGives, FaceAsks, FaceGives}
+use Rattle.searched_fans.proofs.Meeting.{stands_alike}
+use Rattle.searched_splits.specs.Splits.{done_to, open_to, word_to, Stage, Counted, SplitAsks, SplitGives, CornerAsks, CornerGives, FaceAsks, FaceGives}
 use Rattle.searched_splits.proofs.Flags.{three_none, stage_alike}
 
 -- ---- the three corners of a face

@@ -1,18 +1,17 @@
 -- The words when the corners before E have been gone through: they show the faces that they showed, and which corners are flagged. Assumes nothing.
-use mathlib.Core.Path.{◌≡◌, refl, sym, ap, ap₂, ◌∙◌, subst}
-use mathlib.Core.Logic.{◌≢◌, ◌⊎◌, inl, inr}
+use mathlib.Core.Path.{◌≡◌, refl, sym, ap, ◌∙◌, subst}
+use mathlib.Core.Logic.{◌⊎◌, inl, inr}
 use mathlib.Core.Bool.{Bool, true, false, ◌&&◌, ◌||◌, cond}
 use mathlib.Core.List.{List, map, Memᴰ}
-use Prim.Native.Nat.{ℕ, suc, ◌+◌, ◌-◌, ◌*◌, ◌/◌, ◌%◌, ◌≤◌, ◌<◌}
+use Prim.Native.Nat.{ℕ, ◌+◌, ◌-◌, ◌*◌, ◌/◌, ◌%◌, ◌≤◌, ◌<◌}
 use native.Mathlib.Omega.{arith}
-use native.Mathlib.Numerals.{add-one}
 use native.Mathlib.Decide.{ℕ_discrete, dec_lt}
-use borrow.Author.Tests.{eq-eqb, ne_eqb, lt-ltb, le-ltb}
-use lib.Dec.{T, eqb, ltb, eqb→eq, eqb_refl}
+use borrow.Author.Tests.{eq-eqb, ne_eqb}
+use lib.Dec.{T, eqb, eqb→eq}
 use lib.Ieee.Fits.{and_i}
 use lib.Ieee.Bits.{is_true}
 use lib.ListN.{length, get_or}
-use Rattle.rules.specs.Lists.{below, filter, count, any, has}
+use Rattle.rules.specs.Lists.{below, has}
 use Rattle.rules.specs.Mesh.{Face, face, corners}
 use Rattle.rule_laws.proofs.Tests.{and_elim, both_ways, or_elim, or_left, or_right}
 use Rattle.rule_laws.proofs.Rising.{all_imp, all_filter, below_all, map_same}
@@ -21,14 +20,13 @@ use Rattle.rule_laws.proofs.Counting.{count_below_agree, count_mono, count_stric
 use Rattle.splitting.specs.Corners.{corner_at}
 use Rattle.splitting.proofs.Agreeing.{filter_agree, on_below}
 use Rattle.splitting.proofs.Entries.{three_at}
-use Rattle.fan_laws.specs.Opening.{met, opens, single, giver, is_in_group}
+use Rattle.fan_laws.specs.Opening.{met}
 use Rattle.fan_laws.proofs.Takers.{corner_number, number_corner}
 use Rattle.face_words.specs.Words.{stands, view, viewed, place, there}
-use Rattle.face_words.proofs.Places.{viewed_length, viewed_face, place_in}
-use Rattle.searched_fans.specs.Reaching.{flags_of, flags_at}
+use Rattle.face_words.proofs.Places.{viewed_face, place_in}
 use Rattle.searched_fans.proofs.Meeting.{Alike, stands_alike, view_alike}
 use Rattle.searched_fans.proofs.Grouping.{at_place}
-use Rattle.searched_splits.specs.Splits.{one, same_group, done_to, open_to, three_of, word_to, bit_of, flagged_in, pick_of, earlier_in, has_point, met_before, Stage}
+use Rattle.searched_splits.specs.Splits.{one, done_to, open_to, three_of, word_to, bit_of, flagged_in, pick_of, earlier_in, has_point, met_before, Stage}
 
 -- ---- words that show the same faces
 
@@ -198,7 +196,7 @@ module _ {xs w₀ : List ℕ} (plain : (g : ℕ) → g < length w₀ → get_or 
 
   -- which corners are flagged
   pub flag_read : (f k : ℕ) → f < length w₀ → T (stands w₀ f) → k < 3 → flagged_in (get_or w f 0) k ≡ done_to fs E (3 * place w₀ f + k)
-  unfolding word_to three_of flagged_in
+  unfolding word_to three_of bit_of flagged_in
   flag_read f k h t l =
       let p = place w₀ f in
       let z : 3 * p + 0 ≡ 3 * p = omega arith in

@@ -1,31 +1,30 @@
 -- The corners gone through in face order: one that is in no group of an earlier leader leads, and its group has none that was flagged. Assumes nothing.
 use mathlib.Core.Path.{◌≡◌, refl, sym, ap, ◌∙◌, subst}
-use mathlib.Core.Logic.{◌≢◌}
-use mathlib.Core.Bool.{Bool, true, false, ◌&&◌, ◌||◌, cond}
+use mathlib.Core.Bool.{Bool, true, false, ◌&&◌, ◌||◌}
 use mathlib.Core.List.{List, Memᴰ}
 use Prim.Native.Nat.{ℕ, suc, ◌+◌, ◌*◌, ◌/◌, ◌≤◌, ◌<◌}
 use native.Mathlib.Omega.{arith}
 use native.Mathlib.Decide.{ℕ_discrete, dec_lt}
 use borrow.Author.Tests.{eq-eqb, ne_eqb, lt-ltb, le-ltb}
-use lib.Dec.{T, eqb, ltb, eqb→eq, eqb_refl, not_T}
+use lib.Dec.{T, eqb, ltb, eqb→eq, eqb_refl}
 use lib.Ieee.Fits.{and_i}
-use lib.Ieee.Bits.{is_true, is_false}
+use lib.Ieee.Bits.{is_true}
 use lib.ListN.{length}
-use Rattle.rules.specs.Lists.{below, any, has}
-use Rattle.rules.specs.Mesh.{Face, face, corners}
+use Rattle.rules.specs.Lists.{below, has}
+use Rattle.rules.specs.Mesh.{Face, face}
 use Rattle.rules.specs.Groups.{group, leads}
 use Rattle.rules.specs.Pass5.{share}
 use Rattle.rule_laws.proofs.Tests.{and_elim, both_ways}
 use Rattle.rule_laws.proofs.Members.{any_intro, any_mem, mem_below, below_mem, mem_has, has_mem}
-use Rattle.rule_laws.proofs.Groups.{Chain, Chain.stay, Chain.link, covered, group_within, group_chain, group_self, group_closed}
+use Rattle.rule_laws.proofs.Groups.{Chain, Chain.stay, Chain.link, covered, group_chain, group_self, group_closed}
 use Rattle.rule_laws.proofs.Leaders.{leads_le, group_sym, group_meet, follows}
 use Rattle.rule_laws.proofs.Fans.{share_intro}
 use Rattle.splitting.specs.Corners.{corner_at, joined_at}
-use Rattle.splitting.proofs.Entries.{joined_turns, one_point, three_at}
-use Rattle.fan_laws.specs.Opening.{met, opens, single, giver, is_in_group}
-use Rattle.fan_laws.proofs.Takers.{another, number_corner}
+use Rattle.splitting.proofs.Entries.{joined_turns, one_point}
+use Rattle.fan_laws.specs.Opening.{met, opens, single, is_in_group}
+use Rattle.fan_laws.proofs.Takers.{another}
 use Rattle.fan_laws.proofs.Weights.{in_group, group_in, group_alone}
-use Rattle.searched_splits.specs.Splits.{one, same_group, done_to, open_to, three_of, word_to, bit_of}
+use Rattle.searched_splits.specs.Splits.{one, same_group, done_to, open_to}
 use Rattle.searched_splits.proofs.Reading.{any_last}
 
 module _ (fs : List Face) where

@@ -2,56 +2,39 @@
 use mathlib.Core.Path.{◌≡◌, refl, sym, ap, ◌∙◌, subst}
 use mathlib.Core.Bool.{Bool, true, false, ◌&&◌, ◌||◌, cond}
 use mathlib.Core.List.{List, [], ◌∷◌, ◌++◌}
-use Prim.Native.Nat.{ℕ, suc, ◌+◌, ◌≤◌, ◌<◌}
+use Prim.Native.Nat.{ℕ, zero, suc, ◌+◌, ◌≤◌, ◌<◌}
 use native.Mathlib.Omega.{arith}
 use native.Mathlib.Decide.{dec_lt, ℕ_discrete}
-use borrow.Author.Tests.{eq-eqb, ne_eqb}
 use lib.Dec.{T, eqb}
 use lib.Ieee.Bits.{is_true}
-use lib.ListN.{length}
+use lib.ListN.{get_or}
 use Rattle.rules.specs.Lists.{below, any, has}
-use Rattle.rules.specs.Mesh.{face, faces_of, corners}
+use Rattle.rules.specs.Mesh.{Face, face, faces_of, corners}
 use Rattle.rule_laws.proofs.Members.{any_intro, any_mem, mem_below, below_mem}
 use Rattle.face_words.specs.Words.{stands, view}
 use Rattle.face_index.specs.Index.{joins, CandidateAsks, CandidateGives}
 use Rattle.entry_search.proofs.Entries.{view_has}
-use Rattle.searched_splits.specs.Splits.{has_point, met_before, earlier_in, HasAsks}
+use Rattle.searched_splits.specs.Splits.{has_point, met_before, bit_of, pick_of, HasAsks}
 
 -- ---- one of three by its number
 
--- the first
-pub first : {A : Type 0} (k : ℕ) (x y z : A) → k ≡ 0 → x ≡ cond (eqb k 0) x (cond (eqb k 1) y z)
-first k x y z e = rw (eq-eqb k 0 e)
+-- corner k of a face
+pub corner_picked : (g : Face) (k : ℕ) → k < 3 → get_or (corners g) k 0 ≡ pick_of g.a g.b g.c k
+unfolding pick_of
+corner_picked g zero h = refl
+corner_picked g (suc zero) h = refl
+corner_picked g (suc (suc zero)) h = refl
+corner_picked g (suc (suc (suc k))) h = absurd (omega arith)
 
--- the second
-pub second : {A : Type 0} (k : ℕ) (x y z : A) → (k ≡ 0 → ⊥) → k ≡ 1 → y ≡ cond (eqb k 0) x (cond (eqb k 1) y z)
-second k x y z n e = rw (ne_eqb k 0 n, eq-eqb k 1 e)
-
--- the third
-pub third : {A : Type 0} (k : ℕ) (x y z : A) → (k ≡ 0 → ⊥) → (k ≡ 1 → ⊥) → z ≡ cond (eqb k 0) x (cond (eqb k 1) y z)
-third k x y z n m = rw (ne_eqb k 0 n, ne_eqb k 1 m)
-
--- ---- a point before
-
--- none is before corner 0
-pub none_earlier : (a b k v : ℕ) → k ≡ 0 → false ≡ earlier_in a b k v
-unfolding earlier_in
-none_earlier a b k v e = rw (eq-eqb k 0 e)
-
--- corner 0
-pub zero_earlier : (a b k v : ℕ) → (k ≡ 0 → ⊥) → a ≡ v → true ≡ earlier_in a b k v
-unfolding earlier_in
-zero_earlier a b k v n e = rw (ne_eqb k 0 n, eq-eqb a v e)
-
--- or not, before corner 1
-pub one_earlier : (a b k v : ℕ) → (k ≡ 0 → ⊥) → (a ≡ v → ⊥) → k ≡ 1 → false ≡ earlier_in a b k v
-unfolding earlier_in
-one_earlier a b k v n m e = rw (ne_eqb k 0 n, ne_eqb a v m, eq-eqb k 1 e)
-
--- before corner 2 it may be corner 1
-pub two_earlier : (a b k v : ℕ) → (k ≡ 0 → ⊥) → (a ≡ v → ⊥) → (k ≡ 1 → ⊥) → eqb b v ≡ earlier_in a b k v
-unfolding earlier_in
-two_earlier a b k v n m e = rw (ne_eqb k 0 n, ne_eqb a v m, ne_eqb k 1 e)
+-- a flag is no zero
+pub bit_some : (k : ℕ) → 0 < bit_of k
+unfolding bit_of
+bit_some k = go (eqb k 0) (eqb k 1)
+  where
+    go : (a b : Bool) → 0 < cond a 16 (cond b 32 64)
+    go true b = omega arith
+    go false true = omega arith
+    go false false = omega arith
 
 -- ---- a face that has the point
 

@@ -1,34 +1,33 @@
 -- One corner is gone through: the words, and what is told, are those before the next corner. Assumes nothing.
 use mathlib.Core.Path.{◌≡◌, refl, sym, ap, ap₂, ◌∙◌, subst}
 use mathlib.Core.Logic.{◌≢◌}
-use mathlib.Core.Bool.{Bool, true, false, not, ◌&&◌, ◌||◌, cond}
-use mathlib.Core.List.{List, [], ◌∷◌, ◌++◌}
-use Prim.Native.Nat.{ℕ, zero, suc, ◌+◌, ◌*◌, ◌/◌, ◌%◌, ◌≤◌, ◌<◌}
+use mathlib.Core.Bool.{Bool, true, false, not, ◌&&◌, cond}
+use mathlib.Core.List.{List, [], ◌∷◌}
+use Prim.Native.Nat.{ℕ, suc, ◌+◌, ◌*◌, ◌/◌, ◌%◌, ◌≤◌, ◌<◌}
 use native.Mathlib.Omega.{arith}
 use native.Mathlib.Numerals.{add-one}
 use native.Mathlib.Decide.{ℕ_discrete}
 use borrow.Author.Tests.{eq-eqb, ne_eqb, lt-ltb}
-use lib.Dec.{T, eqb, ltb, eqb→eq}
+use lib.Dec.{T, eqb}
 use lib.Ieee.Bits.{is_true}
 use lib.ListN.{length, get_or, set, length-set}
 use lib.Seq.{get_or-set_same, get_or-set_other}
-use Rattle.rules.specs.Lists.{below, filter, count}
-use Rattle.rules.specs.Mesh.{Face, face}
+use Rattle.rules.specs.Lists.{below, filter}
+use Rattle.rules.specs.Mesh.{Face}
 use Rattle.rules.specs.Line.{decimal}
 use Rattle.rule_laws.proofs.Digits.{decimal_short}
 use Rattle.rule_laws.proofs.Counting.{count_next, count_stay, count_injective, count_below_le}
 use Rattle.splitting.specs.Corners.{corner_at}
 use Rattle.fan_laws.specs.Sums.{sum_of, field}
-use Rattle.fan_laws.specs.Opening.{met, opens, single, giver, weight}
+use Rattle.fan_laws.specs.Opening.{met, opens, giver, weight}
 use Rattle.fan_laws.proofs.Sums.{sum_append, sum_below}
 use Rattle.face_words.specs.Words.{stands, view, viewed, place}
 use Rattle.face_words.proofs.Places.{viewed_length, place_in}
 use Rattle.searched_fans.specs.Reaching.{state}
-use Rattle.searched_fans.proofs.Meeting.{Alike, stands_alike, view_alike}
-use Rattle.searched_splits.specs.Splits.{one, same_group, done_to, open_to, three_of, word_to, bit_of, flagged_in, pick_of, met_at, gives_in, id_of, Stage, Counted, CloseAsks, CloseGives, CornerAsks, CornerGives}
+use Rattle.searched_fans.proofs.Meeting.{Alike, stands_alike}
+use Rattle.searched_splits.specs.Splits.{same_group, done_to, open_to, three_of, word_to, bit_of, flagged_in, pick_of, met_at, gives_in, id_of, Stage, Counted, CloseAsks, CloseGives, CornerAsks, CornerGives}
 use Rattle.searched_splits.proofs.Leading.{done_same, done_more, done_shut, fresh_opens, open_next}
 use Rattle.searched_splits.proofs.Flags.{viewed_same, place_same, one_most, by_three, three_plus, three_same, three_own, three_none, stage_alike, stage_fresh, stage_small, flag_read, lead_read, pick_read, met_read}
-use Rattle.searched_splits.proofs.Closing.{bit_most}
 
 -- three flags are at most 112
 three_most : (t : ℕ → Bool) (p : ℕ) → three_of t p ≤ 112

@@ -1,7 +1,7 @@
 -- Corner after corner in face order: which are flagged, which lead a group that is not the first of its point, and what is told so far. Definitions only.
-use Rattle.std.specs.Prelude.{◌≡◌, Bool, true, false, not, ◌&&◌, ◌||◌, cond, List, ℕ, zero, suc, ◌+◌, ◌-◌, ◌*◌, ◌/◌, ◌%◌, ◌≤◌, ◌<◌, T, eqb, ltb, length, get_or}
+use Rattle.std.specs.Prelude.{◌≡◌, Bool, true, false, ◌&&◌, ◌||◌, cond, List, ℕ, suc, ◌+◌, ◌*◌, ◌/◌, ◌%◌, ◌≤◌, ◌<◌, T, eqb, ltb, length, get_or}
 use Rattle.rules.specs.Lists.{below, filter, count, any, each, has}
-use Rattle.rules.specs.Mesh.{Face, face, corners}
+use Rattle.rules.specs.Mesh.{Face, corners}
 use Rattle.rules.specs.State.{State}
 use Rattle.rules.specs.Groups.{group, leads}
 use Rattle.rules.specs.Pass5.{pass5}
@@ -9,7 +9,7 @@ use Rattle.rules.specs.Mending.{line_text, lines5}
 use Rattle.rule_laws.proofs.Once.{Inside}
 use Rattle.splitting.specs.Corners.{corner_at, joined_at}
 use Rattle.fan_laws.specs.Sums.{sum_of, field}
-use Rattle.fan_laws.specs.Opening.{opens, single, giver, takes, weight}
+use Rattle.fan_laws.specs.Opening.{opens, single, giver, weight}
 use Rattle.face_words.specs.Words.{stands, view, viewed, place}
 use Rattle.face_words.specs.Views.{Worded}
 use Rattle.searched_fans.specs.Reaching.{state}
@@ -20,7 +20,7 @@ bit_of k = cond (eqb k 0) 16 (cond (eqb k 1) 32 64)
 
 -- corner k is flagged in a word
 unfoldable pub flagged_in : ℕ → ℕ → Bool
-flagged_in x k = cond (eqb k 0) (eqb (x / 16 % 2) 1) (cond (eqb k 1) (eqb (x / 32 % 2) 1) (eqb (x / 64 % 2) 1))
+flagged_in x k = eqb (x / bit_of k % 2) 1
 
 -- corner k of three
 unfoldable pub pick_of : ℕ → ℕ → ℕ → ℕ → ℕ

@@ -8,69 +8,46 @@ ghost use Rattle.face_index.specs.Index.{Indexed};
 ghost use Rattle.searched_splits.specs.Splits as by;
 
 use byte_rows::number_length;
-use face_words::{stands, view};
+use face_index::among;
+use face_words::{corner, stands, view};
 use searched_fans::reach;
 
 // How many points are split off, and the bytes of the lines that tell them.
-#[derive(Drop)]
+#[derive(Clone, Copy, Debug, PartialEq, Eq)]
 pub struct Told {
     pub splits: usize,
     pub bytes: usize,
 }
 
 // The flag of corner k.
-fn bit(k: usize) -> u32
+#[tactic(auto, unfolding(crate::specs::Splits::bit_of))]
+pub fn bit(k: usize) -> u32
     ensures { result ≡ by.bit_of k }
 {
-    if k == 0 {
-        return 16;
+    match k {
+        0 => 16,
+        1 => 32,
+        _ => 64,
     }
-    if k == 1 {
-        return 32;
-    }
-    64
 }
 
 // Whether corner k is flagged in a word.
 fn flagged(word: u32, k: usize) -> bool
     ensures { result ≡ by.flagged_in word k }
 {
-    if k == 0 {
-        return word / 16 % 2 == 1;
-    }
-    if k == 1 {
-        return word / 32 % 2 == 1;
-    }
-    word / 64 % 2 == 1
-}
-
-// Corner k of three.
-pub fn pick(a: u32, b: u32, c: u32, k: usize) -> u32
-    ensures { result ≡ by.pick_of a b c k }
-{
-    if k == 0 {
-        return a;
-    }
-    if k == 1 {
-        return b;
-    }
-    c
+    word / bit(k) % 2 == 1
 }
 
 // Whether one of the corners before corner k is v.
+#[tactic(auto, unfolding(crate::specs::Splits::earlier_in))]
 fn earlier(a: u32, b: u32, k: usize, v: u32) -> bool
     ensures { result ≡ by.earlier_in a b k v }
 {
-    if k == 0 {
-        return false;
+    match k {
+        0 => false,
+        1 => a == v,
+        _ => a == v || b == v,
     }
-    if a == v {
-        return true;
-    }
-    if k == 1 {
-        return false;
-    }
-    b == v
 }
 
 // Whether face g stands and has v.
@@ -82,13 +59,7 @@ fn has_point(faces: &[u32], words: &[u32], g: usize, v: u32) -> bool
         return false;
     }
     let c = view(faces, words, g);
-    if v == c.a {
-        return true;
-    }
-    if v == c.b {
-        return true;
-    }
-    v == c.c
+    among(v, c.a, c.b, c.c)
 }
 
 // Whether a face before f stands and has v.
@@ -124,20 +95,19 @@ pub fn met_at(faces: &[u32], index: &[u32], words: &[u32], f: usize, k: usize, v
 pub fn same(a: u32, b: u32, c: u32) -> bool
     ensures { result ≡ (eqb a b && eqb b c) }
 {
-    if a == b { b == c } else { false }
+    a == b && b == c
 }
 
 // Whether a face with three equal corners, of this word, takes the point that is split off for its corner k.
+#[tactic(auto, unfolding(crate::specs::Splits::gives_in))]
 pub fn gives(word: u32, k: usize) -> bool
     ensures { result ≡ by.gives_in word k }
 {
-    if k == 0 {
-        return true;
+    match k {
+        0 => true,
+        1 => word / 128 % 2 == 0,
+        _ => false,
     }
-    if k == 1 {
-        return word / 128 % 2 == 0;
-    }
-    false
 }
 
 // Flags the group of corner k of face f, which is v. Returns the bytes of the numbers of the faces that take a point split off for it, each after a tab.
@@ -166,35 +136,27 @@ fn split_corner(
     f: usize,
     k: usize,
     points: usize,
-    splits: usize,
-    bytes: usize,
+    told: Told,
 ) -> Told
-    requires corner_asks { by.CornerAsks faces.now words.old f k points splits bytes }
+    requires corner_asks { by.CornerAsks faces.now words.old f k points told.splits told.bytes }
     requires indexed { Indexed faces.now index.now }
-    ensures { (q : by.CornerAsks faces.now words.old f k points splits bytes) → by.CornerGives q words.new result.splits result.bytes }
+    ensures { (q : by.CornerAsks faces.now words.old f k points told.splits told.bytes) → by.CornerGives q words.new result.splits result.bytes }
 {
     if flagged(words[f], k) {
-        return Told {
-            splits: splits,
-            bytes: bytes,
-        };
+        return told;
     }
-    let c = view(faces, words, f);
-    let v = pick(c.a, c.b, c.c, k);
+    let v = corner(faces, words, f, k);
     let extra = met_at(faces, index, words, f, k, v);
     let taken = close(faces, index, words, f, k, v);
     if !extra {
-        return Told {
-            splits: splits,
-            bytes: bytes,
-        };
+        return told;
     }
     words[f] = words[f] + 8 * bit(k);
     let old = number_length(v);
-    let new = number_length((points + splits) as u32);
+    let new = number_length((points + told.splits) as u32);
     Told {
-        splits: splits + 1,
-        bytes: bytes + 4 + old + new + taken,
+        splits: told.splits + 1,
+        bytes: told.bytes + 4 + old + new + taken,
     }
 }
 
@@ -205,25 +167,15 @@ fn split_face(
     words: &mut [u32],
     f: usize,
     points: usize,
-    splits: usize,
-    bytes: usize,
+    told: Told,
 ) -> Told
-    requires face_asks { by.FaceAsks faces.now words.old f points splits bytes }
+    requires face_asks { by.FaceAsks faces.now words.old f points told.splits told.bytes }
     requires indexed { Indexed faces.now index.now }
-    ensures { (q : by.FaceAsks faces.now words.old f points splits bytes) → by.FaceGives q words.new result.splits result.bytes }
+    ensures { (q : by.FaceAsks faces.now words.old f points told.splits told.bytes) → by.FaceGives q words.new result.splits result.bytes }
 {
-    let first = split_corner(faces, index, words, f, 0, points, splits, bytes);
-    let second = split_corner(faces, index, words, f, 1, points, first.splits, first.bytes);
-    split_corner(
-        faces,
-        index,
-        words,
-        f,
-        2,
-        points,
-        second.splits,
-        second.bytes,
-    )
+    let first = split_corner(faces, index, words, f, 0, points, told);
+    let second = split_corner(faces, index, words, f, 1, points, first);
+    split_corner(faces, index, words, f, 2, points, second)
 }
 
 // How many points pass 5 splits off, and how long the lines are that tell it. Flags every corner that stands, and marks those that lead a group which is not the
@@ -233,17 +185,14 @@ pub fn split_length(faces: &[u32], index: &[u32], words: &mut [u32], points: usi
     requires indexed { Indexed faces.now index.now }
     ensures { by.SplitGives faces.now words.old points words.new result.splits result.bytes }
 {
-    let mut splits = 0;
-    let mut bytes = 0;
+    let mut told = Told {
+        splits: 0,
+        bytes: 0,
+    };
     for f in 0..words.len() {
         if stands(words, f) {
-            let told = split_face(faces, index, words, f, points, splits, bytes);
-            splits = told.splits;
-            bytes = told.bytes;
+            told = split_face(faces, index, words, f, points, told);
         }
     }
-    Told {
-        splits: splits,
-        bytes: bytes,
-    }
+    told
 }

@@ -1,10 +1,7 @@
 -- `searched_isolated::all_length` meets its contract: point after point. Assumes nothing.
-use Prim.Native.Nat.{◌-◌}
 use native.Mathlib.Omega.{arith}
 use Rattle.rule_laws.proofs.Digits.{decimal_short}
 use Rattle.searched_isolated.proofs.Lines.{begin, again, done}
-use Rattle.searched_isolated.proofs.all_length.Reads as reads
-use Rattle.searched_isolated.proofs.all_length.Lts as lts
 use Rattle.searched_isolated.proofs.all_length.Goals as goal
 
 -- src/lib.rt:22:5
@@ -13,7 +10,7 @@ loop-v-init c = begin c.args.points
 
 -- src/lib.rt:23:17
 pub overflow_add-bytes : goal.overflow_add-bytes
-overflow_add-bytes c = omega (arith, c.requires, c.loop-v.invariant, c.loop-v-test.true)
+overflow_add-bytes c = omega (arith, c.number_length.ensures, decimal_short c.loop-v.v)
 
 -- src/lib.rt:23:43
 pub overflow_cast-v : goal.overflow_cast-v

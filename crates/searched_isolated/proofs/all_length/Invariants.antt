@@ -1,8 +1,5 @@
 -- `searched_isolated::all_length` meets its contract: point after point. Assumes nothing.
-use Prim.Native.Nat.{◌-◌}
 use Rattle.searched_isolated.proofs.Lines.{Told}
-use Rattle.searched_isolated.proofs.all_length.Reads as reads
-use Rattle.searched_isolated.proofs.all_length.Lts as lts
 use Rattle.searched_isolated.proofs.all_length.Given as goal
 
 abbrev pub invariant-loop-v : goal.invariant-loop-v

@@ -6,11 +6,6 @@ use lib.Dec.{eqb}
 use Rattle.rules.specs.Mesh.{Face}
 use Rattle.fan_laws.specs.Opening.{single}
 use Rattle.searched_isolated.proofs.Lines.{first_most, face_single, face_several}
-use Rattle.searched_isolated.proofs.kept_face.Reads as reads
-use Rattle.searched_isolated.proofs.kept_face.Lts as lts
-use Rattle.face_words.proofs.view.Reads as view-reads
-use Rattle.searched_isolated.proofs.kept_corner.Reads as kept-corner-reads
-use Rattle.searched_splits.proofs.same.Reads as same_Reads
 use Rattle.searched_isolated.proofs.kept_face.Goals as goal
 
 -- what the test says of the face

@@ -1,13 +1,8 @@
 -- `searched_isolated::kept_length` meets its contract: face after face. Assumes nothing.
 use mathlib.Core.Path.{sym, ◌∙◌, subst}
-use Prim.Native.Nat.{◌-◌}
 use native.Mathlib.Omega.{arith}
 use lib.Dec.{T}
 use Rattle.searched_isolated.proofs.Lines.{kept_begin, kept_more, kept_same, kept_done, face_most}
-use Rattle.searched_isolated.proofs.kept_length.Reads as reads
-use Rattle.searched_isolated.proofs.kept_length.Lts as lts
-use Rattle.face_words.proofs.stands.Reads as stands-reads
-use Rattle.searched_isolated.proofs.kept_face.Reads as kept-face-reads
 use Rattle.searched_isolated.proofs.kept_length.Goals as goal
 use Rattle.searched_isolated.proofs.kept_length.Goals.{else-stands, then-stands}
 

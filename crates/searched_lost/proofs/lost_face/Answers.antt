@@ -3,9 +3,6 @@ use native.Mathlib.Omega.{arith}
 use Rattle.searched_splits.specs.Splits.{id_of}
 use Rattle.searched_lost.proofs.Losing.{line_most}
 use Rattle.searched_lost.proofs.Adding.{corner_ask, face_sum}
-use Rattle.searched_lost.proofs.lost_face.Reads as reads
-use Rattle.searched_lost.proofs.lost_face.Lts as lts
-use Rattle.searched_lost.proofs.lost_corner.Reads as lost-corner-reads
 use Rattle.searched_lost.proofs.lost_face.Goals as goal
 
 pub overflow_add-result : goal.overflow_add-result

@@ -1,11 +1,6 @@
 -- `searched_lost::lost_length` meets its contract: face after face. The measure is the number of faces to come. Assumes nothing.
-use Prim.Native.Nat.{◌-◌}
 use native.Mathlib.Omega.{arith}
 use Rattle.searched_lost.proofs.Adding.{face_most, gone_begin, face-ask, gone_more, gone_same, gone_done}
-use Rattle.searched_lost.proofs.lost_length.Reads as reads
-use Rattle.searched_lost.proofs.lost_length.Lts as lts
-use Rattle.face_words.proofs.stands.Reads as stands-reads
-use Rattle.searched_lost.proofs.lost_face.Reads as lost-face-reads
 use Rattle.searched_lost.proofs.lost_length.Goals as goal
 use Rattle.searched_lost.proofs.lost_length.Goals.{else-stands, then-stands}
 

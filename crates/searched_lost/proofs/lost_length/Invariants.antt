@@ -1,12 +1,6 @@
 -- `searched_lost::lost_length` meets its contract: face after face. The measure is the number of faces to come. Assumes nothing.
-use Prim.Native.Nat.{◌-◌}
-use lib.ListN.{length}
 use Rattle.searched_lost.specs.Lost.{LostAsks}
 use Rattle.searched_lost.proofs.Adding.{Gone}
-use Rattle.searched_lost.proofs.lost_length.Reads as reads
-use Rattle.searched_lost.proofs.lost_length.Lts as lts
-use Rattle.face_words.proofs.stands.Reads as stands-reads
-use Rattle.searched_lost.proofs.lost_face.Reads as lost-face-reads
 use Rattle.searched_lost.proofs.lost_length.Given as goal
 
 abbrev pub invariant-loop-f : goal.invariant-loop-f

@@ -1,12 +1,7 @@
 -- `searched_ranks::rank` meets its contract: face after face. Assumes nothing.
 use mathlib.Core.Path.{sym, ◌∙◌}
-use Prim.Native.Nat.{◌-◌}
 use native.Mathlib.Omega.{arith}
 use Rattle.searched_ranks.proofs.Counting.{begin, more, same, done, count_most}
-use Rattle.searched_ranks.proofs.rank.Reads as reads
-use Rattle.searched_ranks.proofs.rank.Lts as lts
-use Rattle.face_words.proofs.stands.Reads as stands-reads
-use Rattle.searched_ranks.proofs.rank_corner.Reads as rank-corner-reads
 use Rattle.searched_ranks.proofs.rank.Goals as goal
 use Rattle.searched_ranks.proofs.rank.Goals.{else-stands, then-stands}
 
@@ -24,7 +19,10 @@ rank_corner-requires c = record { worded = c.requires.worded; here = c.loop-g-te
 
 -- src/lib.rt:65:21
 pub overflow_add-count : goal.overflow_add-count
-overflow_add-count c = omega (arith, c.requires.worded.few, c.loop-g.invariant.few, c.loop-g-test.true, c.rank_corner.ensures, count_most c.args.faces.now c.args.words.now c.args.v c.args.id c.loop-g.g 0)
+overflow_add-count c =
+    let p = c.args in
+    let most = count_most p.faces.now p.words.now p.v p.id c.loop-g.g in
+    omega (arith, c.requires.worded.few, c.loop-g.invariant.few, c.loop-g-test.true, c.rank_corner.ensures, c.rank_corner-then-stands.ensures, most 0, most 1, most 2)
 
 -- src/lib.rt:65:70
 pub rank_corner-requires-then-stands : goal.rank_corner-requires-then-stands
@@ -32,7 +30,10 @@ rank_corner-requires-then-stands c = record { worded = c.requires.worded; here =
 
 -- src/lib.rt:65:21
 pub overflow_add-count-then-stands : goal.overflow_add-count-then-stands
-overflow_add-count-then-stands c = omega (arith, c.requires.worded.few, c.loop-g.invariant.few, c.loop-g-test.true, c.rank_corner.ensures, c.rank_corner-then-stands.ensures, count_most c.args.faces.now c.args.words.now c.args.v c.args.id c.loop-g.g 0, count_most c.args.faces.now c.args.words.now c.args.v c.args.id c.loop-g.g 1)
+overflow_add-count-then-stands c =
+    let p = c.args in
+    let most = count_most p.faces.now p.words.now p.v p.id c.loop-g.g in
+    omega (arith, c.requires.worded.few, c.loop-g.invariant.few, c.loop-g-test.true, c.rank_corner.ensures, c.rank_corner-then-stands.ensures, c.rank_corner-then-stands-2.ensures, most 0, most 1, most 2)
 
 -- src/lib.rt:66:19
 pub rank_corner-requires-then-stands-2 : goal.rank_corner-requires-then-stands-2
@@ -40,7 +41,10 @@ rank_corner-requires-then-stands-2 c = record { worded = c.requires.worded; here
 
 -- src/lib.rt:65:21
 pub overflow_add-count-then-stands-2 : goal.overflow_add-count-then-stands-2
-overflow_add-count-then-stands-2 c = omega (arith, c.requires.worded.few, c.loop-g.invariant.few, c.loop-g-test.true, c.rank_corner.ensures, c.rank_corner-then-stands.ensures, c.rank_corner-then-stands-2.ensures, count_most c.args.faces.now c.args.words.now c.args.v c.args.id c.loop-g.g 0, count_most c.args.faces.now c.args.words.now c.args.v c.args.id c.loop-g.g 1, count_most c.args.faces.now c.args.words.now c.args.v c.args.id c.loop-g.g 2)
+overflow_add-count-then-stands-2 c =
+    let p = c.args in
+    let most = count_most p.faces.now p.words.now p.v p.id c.loop-g.g in
+    omega (arith, c.requires.worded.few, c.loop-g.invariant.few, c.loop-g-test.true, c.rank_corner.ensures, c.rank_corner-then-stands.ensures, c.rank_corner-then-stands-2.ensures, most 0, most 1, most 2)
 
 -- src/lib.rt:63:5
 pub loop-g-preserved : goal.loop-g-preserved

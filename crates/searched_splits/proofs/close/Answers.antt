@@ -1,19 +1,12 @@
 -- `searched_splits::close` meets its contract: by a search, or the corner alone. Assumes nothing.
 use mathlib.Core.Path.{◌≡◌, sym, ap, ◌∙◌, subst}
-use mathlib.Core.Bool.{Bool, true, false, ◌&&◌}
+use mathlib.Core.Bool.{Bool, ◌&&◌}
 use native.Mathlib.Omega.{arith}
 use lib.Dec.{T, eqb}
 use Rattle.rules.specs.Mesh.{Face}
 use Rattle.rule_laws.proofs.Digits.{decimal_short}
 use Rattle.fan_laws.specs.Opening.{single}
 use Rattle.searched_splits.proofs.Closing.{bit_most, reach_ask, reached, given, kept}
-use Rattle.searched_splits.proofs.close.Reads as reads
-use Rattle.searched_splits.proofs.close.Lts as lts
-use Rattle.face_words.proofs.view.Reads as view-reads
-use Rattle.searched_fans.proofs.reach.Reads as reach-reads
-use Rattle.searched_splits.proofs.bit.Reads as bit-reads
-use Rattle.searched_splits.proofs.gives.Reads as gives-reads
-use Rattle.searched_splits.proofs.same.Reads as same_Reads
 use Rattle.searched_splits.proofs.close.Goals as goal
 
 -- what the test says of the face

@@ -1,6 +1,6 @@
 -- `searched_splits::met` meets its contract. The invariant: none of the faces that were passed has the point. Assumes nothing.
 use mathlib.Core.Path.{sym, ◌∙◌}
-use Prim.Native.Nat.{◌+◌, ◌-◌}
+use Prim.Native.Nat.{◌+◌}
 use native.Mathlib.Omega.{arith}
 use Rattle.searched_splits.proofs.Reading.{begin, ask, next_ask, again, hit, done}
 use Rattle.searched_splits.proofs.met.Goals as goal

@@ -3,11 +3,6 @@ use mathlib.Core.Path.{sym, ap, ◌∙◌}
 use mathlib.Core.Bool.{Bool, ◌||◌}
 use Rattle.face_words.specs.Words.{view}
 use Rattle.searched_splits.specs.Splits.{earlier_in, met_at}
-use Rattle.searched_splits.proofs.met_at.Reads as reads
-use Rattle.searched_splits.proofs.met_at.Lts as lts
-use Rattle.face_words.proofs.view.Reads as view-reads
-use Rattle.searched_splits.proofs.earlier.Reads as earlier-reads
-use Rattle.searched_splits.proofs.met.Reads as met-reads
 use Rattle.searched_splits.proofs.met_at.Goals as goal
 
 -- src/lib.rt:111:9

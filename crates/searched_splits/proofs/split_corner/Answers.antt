@@ -4,17 +4,10 @@ use mathlib.Core.Bool.{not}
 use Prim.Native.Nat.{◌+◌}
 use native.Mathlib.Omega.{arith}
 use Rattle.rule_laws.proofs.Digits.{decimal_short}
-use Rattle.searched_splits.specs.Splits.{pick_of}
+use Rattle.face_words.specs.Words.{view}
+use Rattle.searched_splits.proofs.Reading.{corner_picked}
 use Rattle.searched_splits.proofs.Closing.{bit_most}
 use Rattle.searched_splits.proofs.Stepping.{passed, bounds, close_ask, closed, opened, mark_small}
-use Rattle.searched_splits.proofs.split_corner.Reads as reads
-use Rattle.searched_splits.proofs.split_corner.Lts as lts
-use Rattle.face_words.proofs.view.Reads as view-reads
-use Rattle.searched_splits.proofs.bit.Reads as bit-reads
-use Rattle.searched_splits.proofs.close.Reads as close-reads
-use Rattle.searched_splits.proofs.flagged.Reads as flagged-reads
-use Rattle.searched_splits.proofs.met_at.Reads as met-at-reads
-use Rattle.searched_splits.proofs.pick.Reads as pick-reads
 use Rattle.searched_splits.proofs.split_corner.Goals as goal
 
 -- src/lib.rt:168:9
@@ -23,12 +16,12 @@ returns-then-flagged c = λ q. passed q c.flagged.ensures c.if-flagged.true
 
 -- src/lib.rt:173:9
 pub close-taken-requires : goal.close-taken-requires
-close-taken-requires c = let pe = c.pick-v.ensures ∙ ap (λ g. pick_of g.a g.b g.c c.args.k) c.view-c.ensures in
+close-taken-requires c = let pe = c.corner-v.ensures ∙ corner_picked (view c.args.faces.now c.args.words.now c.args.f) c.args.k c.requires.corner_asks.corner in
     record { close_asks = close_ask c.requires.corner_asks c.flagged.ensures c.if-flagged.false pe; indexed = c.requires.indexed }
 
 -- src/lib.rt:175:9
 pub returns-then-not-extra : goal.returns-then-not-extra
-returns-then-not-extra c = let pe = c.pick-v.ensures ∙ ap (λ g. pick_of g.a g.b g.c c.args.k) c.view-c.ensures in
+returns-then-not-extra c = let pe = c.corner-v.ensures ∙ corner_picked (view c.args.faces.now c.args.words.now c.args.f) c.args.k c.requires.corner_asks.corner in
     λ q. closed q c.flagged.ensures c.if-flagged.false pe c.close-taken.ensures c.met_at-extra.ensures (ap not c.if-not-extra.true)
 
 -- src/lib.rt:177:27
@@ -37,7 +30,7 @@ overflow_mul-words c = omega (arith, c.bit.ensures, bit_most c.args.k)
 
 -- src/lib.rt:177:16
 pub overflow_add-words : goal.overflow_add-words
-overflow_add-words c = let pe = c.pick-v.ensures ∙ ap (λ g. pick_of g.a g.b g.c c.args.k) c.view-c.ensures in
+overflow_add-words c = let pe = c.corner-v.ensures ∙ corner_picked (view c.args.faces.now c.args.words.now c.args.f) c.args.k c.requires.corner_asks.corner in
     omega (arith, c.bit.ensures, bit_most c.args.k, mark_small c.requires.corner_asks c.flagged.ensures c.if-flagged.false pe c.close-taken.ensures)
 
 -- src/lib.rt:177:5
@@ -54,25 +47,25 @@ overflow_cast-points c = omega (arith, bounds c.requires.corner_asks)
 
 -- src/lib.rt:180:20
 pub overflow_add-result : goal.overflow_add-result
-overflow_add-result c = omega (arith, bounds c.requires.corner_asks, c.number_length-old.ensures, c.number_length-new.ensures, c.close-taken.ensures.most, decimal_short c.pick-v.result, decimal_short (c.args.points + c.args.splits))
+overflow_add-result c = omega (arith, bounds c.requires.corner_asks, c.number_length-old.ensures, c.number_length-new.ensures, c.close-taken.ensures.most, decimal_short c.corner-v.result, decimal_short (c.args.points + c.args.told.splits))
 
 -- src/lib.rt:180:39
 pub overflow_add-result-2 : goal.overflow_add-result-2
-overflow_add-result-2 c = omega (arith, bounds c.requires.corner_asks, c.number_length-old.ensures, c.number_length-new.ensures, c.close-taken.ensures.most, decimal_short c.pick-v.result, decimal_short (c.args.points + c.args.splits))
+overflow_add-result-2 c = omega (arith, bounds c.requires.corner_asks, c.number_length-old.ensures, c.number_length-new.ensures, c.close-taken.ensures.most, decimal_short c.corner-v.result, decimal_short (c.args.points + c.args.told.splits))
 
 -- src/lib.rt:180:39
 pub overflow_add-result-3 : goal.overflow_add-result-3
-overflow_add-result-3 c = omega (arith, bounds c.requires.corner_asks, c.number_length-old.ensures, c.number_length-new.ensures, c.close-taken.ensures.most, decimal_short c.pick-v.result, decimal_short (c.args.points + c.args.splits))
+overflow_add-result-3 c = omega (arith, bounds c.requires.corner_asks, c.number_length-old.ensures, c.number_length-new.ensures, c.close-taken.ensures.most, decimal_short c.corner-v.result, decimal_short (c.args.points + c.args.told.splits))
 
 -- src/lib.rt:180:39
 pub overflow_add-result-4 : goal.overflow_add-result-4
-overflow_add-result-4 c = omega (arith, bounds c.requires.corner_asks, c.number_length-old.ensures, c.number_length-new.ensures, c.close-taken.ensures.most, decimal_short c.pick-v.result, decimal_short (c.args.points + c.args.splits))
+overflow_add-result-4 c = omega (arith, bounds c.requires.corner_asks, c.number_length-old.ensures, c.number_length-new.ensures, c.close-taken.ensures.most, decimal_short c.corner-v.result, decimal_short (c.args.points + c.args.told.splits))
 
 -- src/lib.rt:180:39
 pub overflow_add-result-5 : goal.overflow_add-result-5
-overflow_add-result-5 c = omega (arith, bounds c.requires.corner_asks, c.number_length-old.ensures, c.number_length-new.ensures, c.close-taken.ensures.most, decimal_short c.pick-v.result, decimal_short (c.args.points + c.args.splits))
+overflow_add-result-5 c = omega (arith, bounds c.requires.corner_asks, c.number_length-old.ensures, c.number_length-new.ensures, c.close-taken.ensures.most, decimal_short c.corner-v.result, decimal_short (c.args.points + c.args.told.splits))
 
 -- src/lib.rt:155:1
 pub returns : goal.returns
-returns c = let pe = c.pick-v.ensures ∙ ap (λ g. pick_of g.a g.b g.c c.args.k) c.view-c.ensures in
+returns c = let pe = c.corner-v.ensures ∙ corner_picked (view c.args.faces.now c.args.words.now c.args.f) c.args.k c.requires.corner_asks.corner in
     λ q. opened q c.flagged.ensures c.if-flagged.false pe c.close-taken.ensures c.met_at-extra.ensures (ap not c.if-not-extra.false) c.bit.ensures c.number_length-old.ensures c.number_length-new.ensures

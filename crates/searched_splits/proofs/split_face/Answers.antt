@@ -1,8 +1,5 @@
 -- `searched_splits::split_face` meets its contract: three corners, one after the other. Assumes nothing.
 use Rattle.searched_splits.proofs.Faces.{corner_zero, corner_one, corner_two, face_done}
-use Rattle.searched_splits.proofs.split_face.Reads as reads
-use Rattle.searched_splits.proofs.split_face.Lts as lts
-use Rattle.searched_splits.proofs.split_corner.Reads as split-corner-reads
 use Rattle.searched_splits.proofs.split_face.Goals as goal
 
 -- src/lib.rt:195:9

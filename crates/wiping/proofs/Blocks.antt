@@ -12,7 +12,7 @@ use Rattle.std.proofs.lemmas.List.{get_or_read}
 use lib.Bits.{bit_or, or_zero_l, or_add_and, and_le_l, and_le_r}
 use Rattle.rows.specs.Region.{OnlyOf, HoldsOf, Apart.before}
 use Rattle.rows.proofs.Regions.{only_none, only_both, only_more, holds_none, holds_kept}
-use Rattle.wiping.specs.Blocks.{BlockGives, Tells, AnyGives, SomeGives}
+use Rattle.wiping.specs.Blocks.{Tells, AnyGives, SomeGives}
 
 -- ---- the bits of a region
 
@@ -129,23 +129,23 @@ pub record Wiped {A : Type 0} (d z : A) (w₀ : List A) (from n : ℕ) (w : List
 pub begin : {A : Type 0} {d z : A} (w : List A) (from n : ℕ) → Wiped d z w from n w 0
 begin w from n = record { at_most = omega arith; only = only_none _ _ _; zeros = holds_none }
 
-module _ {A : Type 0} {d z : A} {w₀ : List A} {from n : ℕ} {w : List A} {i m : ℕ} (v : Wiped d z w₀ from n w i) (b : BlockGives (n - i) m) (h : i < n) where
-  -- the block is within the region, and the next one is nearer to its end
-  pub fits : from + n ≤ length w₀ → from + i + m ≤ length w
-  fits p = omega (arith, b.within, v.only.long)
+module _ {A : Type 0} {d z : A} {w₀ : List A} {from n : ℕ} {w : List A} {i m : ℕ} (v : Wiped d z w₀ from n w i) (b : i + m ≤ n) where
+  -- a block of zeros is passed
+  pub passes : HoldsOf d (from + i) m (λ j. z) w → Wiped d z w₀ from n w (i + m)
+  passes f = record { at_most = omega arith; only = only_more (omega arith) (omega arith) v.only; zeros = holds_add v.zeros f }
 
-  pub nearer : n - (i + m) < n - i
-  nearer = omega (arith, b.within, b.some (omega arith))
-
-  -- a block of zeros is left
-  pub leaves : HoldsOf d (from + i) m (λ j. z) w → Wiped d z w₀ from n w (i + m)
-  leaves f = record { at_most = omega (arith, b.within); only = only_more (omega arith) (omega arith) v.only; zeros = holds_add v.zeros f }
-
-  -- any other is cleared
+  -- any block is made zero
   pub clears : {w' : List A} → OnlyOf d (from + i) m w w' → HoldsOf d (from + i) m (λ j. z) w' → Wiped d z w₀ from n w' (i + m)
   clears o f =
       record {
-        at_most = omega (arith, b.within);
+        at_most = omega arith;
         only = only_both (only_more (omega arith) (omega arith) v.only) (only_more (omega arith) (omega arith) o);
         zeros = holds_add (holds_kept o (before (omega arith)) v.zeros) f;
       }
+
+-- after the last block the whole region is zero
+pub wiped_only : {A : Type 0} {d z : A} {w₀ : List A} {from n : ℕ} {w : List A} {i : ℕ} → Wiped d z w₀ from n w i → n ≤ i → OnlyOf d from n w₀ w
+wiped_only {i = i} v l = only_more (omega arith) (omega (arith, v.at_most)) v.only
+
+pub wiped_zeros : {A : Type 0} {d z : A} {w₀ : List A} {from n : ℕ} {w : List A} {i : ℕ} → Wiped d z w₀ from n w i → n ≤ i → HoldsOf d from n (λ j. z) w
+wiped_zeros v l = record { each = λ k q. v.zeros.each k (omega arith) }

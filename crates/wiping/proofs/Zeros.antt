@@ -2,7 +2,7 @@
 use mathlib.Core.Path.{◌≡◌, refl, sym, ap, ◌∙◌, subst}
 use mathlib.Core.Bool.{Bool, true, false}
 use mathlib.Core.List.{List}
-use Prim.Native.Nat.{ℕ, ◌+◌, ◌-◌, ◌≤◌, ◌<◌}
+use Prim.Native.Nat.{ℕ, ◌+◌, ◌≤◌, ◌<◌}
 use native.Mathlib.Nat.{zero-add}
 use native.Mathlib.Omega.{arith}
 use native.Mathlib.Decide.{dec_lt}
@@ -14,8 +14,8 @@ use Rattle.rows.specs.Region.{Only, Filled, Out.above}
 use Rattle.rules.specs.Lists.{all}
 use Rattle.rule_laws.proofs.Rising.{all_at, all_from}
 use Rattle.rule_laws.proofs.Members.{all_elim, all_intro}
-use Rattle.wiping.specs.Blocks.{BlockGives, SomeGives}
-use Rattle.wiping.proofs.Blocks.{Wiped, leaves}
+use Rattle.wiping.specs.Blocks.{SomeGives}
+use Rattle.wiping.proofs.Blocks.{Wiped, passes}
 
 module _ (w : List ℕ) (n : ℕ) (h : n ≤ length w) where
   -- of a room of zeros each entry is 0
@@ -38,8 +38,8 @@ module _ (w : List ℕ) (n : ℕ) (h : n ≤ length w) where
   all_zero v l = sym (each_zero (λ j k. ap (λ a. get_or w a 0) (sym (zero-add j)) ∙ v.zeros.each j (omega arith)))
 
   -- one block more of zeros
-  pub still : {i m : ℕ} {b : Bool} → Wiped 0 0 w 0 n w i → BlockGives (n - i) m → i < n → SomeGives 0 0 w i m b → b ≡ false → Wiped 0 0 w 0 n w (i + m)
-  still {i} {m} v b l a e = leaves v b l (subst (λ k. Filled k m 0 w) (sym (zero-add i)) (a.clean e))
+  pub still : {i m : ℕ} {b : Bool} → Wiped 0 0 w 0 n w i → i + m ≤ n → SomeGives 0 0 w i m b → b ≡ false → Wiped 0 0 w 0 n w (i + m)
+  still {i} {m} v b a e = passes v b (subst (λ k. Filled k m 0 w) (sym (zero-add i)) (a.clean e))
 
   -- any other block is in none
   pub not_zero : {i m : ℕ} {b : Bool} → SomeGives 0 0 w i m b → i + m ≤ n → b ≡ true → false ≡ all (eqb 0) (take n w)

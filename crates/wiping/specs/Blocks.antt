@@ -1,11 +1,6 @@
--- Blocks of a region, and what bits say of them: those of numbers, where z is 0, or of floats, where it is +0.
-use Rattle.std.specs.Prelude.{◌≡◌, Bool, true, false, List, ℕ, ◌≤◌, ◌<◌}
+-- What bits say of the entries of a region: of numbers, where z is 0, or of floats, where it is +0.
+use Rattle.std.specs.Prelude.{◌≡◌, Bool, true, false, List, ℕ}
 use Rattle.rows.specs.Region.{HoldsOf}
-
--- the next block of `rest` entries is no longer than they are, and is not empty unless they are none
-pub record BlockGives (rest r : ℕ) : Type 0 where
-  pub within : r ≤ rest
-  pub some : 0 < rest → 0 < r
 
 -- no bit is set in r where x is z, and nowhere else
 pub record Tells {A : Type 0} (z x : A) (r : ℕ) : Type 0 where

@@ -5,22 +5,12 @@
 ghost use Rattle.std.specs.Prelude.{◌≡◌, ℕ, ◌+◌, ◌*◌, ◌≤◌, eqb, not, bit_or, length, take};
 ghost use Rattle.rows.specs.Region.{OnlyOf, HoldsOf};
 ghost use Rattle.rules.specs.Lists.{all};
-ghost use Rattle.wiping.specs.Blocks.{BlockGives, Tells, AnyGives, SomeGives};
+ghost use Rattle.wiping.specs.Blocks.{Tells, AnyGives, SomeGives};
 
 use rows::Entry;
 
 // The entries of a block.
 const BLOCK: usize = 8192;
-
-// How many of the `rest` entries the next block takes.
-fn block(rest: usize) -> usize
-    ensures { BlockGives rest result }
-{
-    if rest < BLOCK {
-        return rest;
-    }
-    BLOCK
-}
 
 // An entry whose bits tell whether it is zero.
 pub trait Marked: Entry {
@@ -145,15 +135,23 @@ pub fn is_zero(work: &[u32], n: usize) -> bool
     requires { n ≤ length work.now }
     ensures { result ≡ all (eqb 0) (take n work.now) }
 {
-    let mut i = 0;
-    while i < n {
-        let m = block(n - i);
-        if any(work, i, m) {
+    for i in (0..n).step_by(BLOCK) {
+        if any(work, i, BLOCK.min(n - i)) {
             return false;
         }
-        i += m;
     }
     true
+}
+
+// Makes each of the n entries from `from` on 0, or +0: they are read first, and written only where one is not.
+fn wipe_block<T: Marked>(work: &mut [T], from: usize, n: usize)
+    requires { from + n ≤ length work.old }
+    ensures only { OnlyOf T.blank from n work.old work.new }
+    ensures filled { HoldsOf T.blank from n (λ (i : ℕ). T.zero) work.new }
+{
+    if any(work, from, n) {
+        rows::clear(work, from, n);
+    }
 }
 
 // Makes each of the n entries from `from` on 0, or +0.
@@ -162,13 +160,7 @@ pub fn wipe<T: Marked>(work: &mut [T], from: usize, n: usize)
     ensures only { OnlyOf T.blank from n work.old work.new }
     ensures filled { HoldsOf T.blank from n (λ (i : ℕ). T.zero) work.new }
 {
-    let mut i = 0;
-    while i < n {
-        let at = from + i;
-        let m = block(n - i);
-        if any(work, at, m) {
-            rows::clear(work, at, m);
-        }
-        i += m;
+    for i in (0..n).step_by(BLOCK) {
+        wipe_block(work, from + i, BLOCK.min(n - i));
     }
 }

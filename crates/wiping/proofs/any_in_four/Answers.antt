@@ -1,6 +1,5 @@
 -- `wiping::any_in_four` meets its contract. The invariant: x, y, z and u have the bits of the first i entries of each quarter.
 -- Assumes nothing.
-use Prim.Native.Nat.{◌-◌}
 use native.Mathlib.Omega.{arith}
 use Rattle.wiping.proofs.Blocks.{read_tells, four_none, four_more, four_done}
 use Rattle.wiping.proofs.any_in_four.Goals as goal

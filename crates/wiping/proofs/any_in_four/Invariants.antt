@@ -1,6 +1,5 @@
 -- `wiping::any_in_four` meets its contract. The invariant: x, y, z and u have the bits of the first i entries of each quarter.
 -- Assumes nothing.
-use Prim.Native.Nat.{◌-◌}
 use Rattle.wiping.proofs.Blocks.{Four}
 use Rattle.wiping.proofs.any_in_four.Given as goal
 

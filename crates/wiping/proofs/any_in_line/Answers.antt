@@ -1,7 +1,6 @@
 -- `wiping::any_in_line` meets its contract. The invariant: x has the bits of the first i entries of the region.
 -- Assumes nothing.
 use mathlib.Core.Path.{◌≡◌}
-use Prim.Native.Nat.{◌-◌}
 use native.Mathlib.Omega.{arith}
 use Rattle.wiping.proofs.Blocks.{any_none, any_more, read_tells}
 use Rattle.wiping.proofs.any_in_line.Goals as goal

@@ -1,6 +1,6 @@
 -- `wiping::any_in_line` meets its contract. The invariant: x has the bits of the first i entries of the region.
 -- Assumes nothing.
-use Prim.Native.Nat.{◌-◌, ◌≤◌}
+use Prim.Native.Nat.{◌≤◌}
 use Rattle.wiping.specs.Blocks.{AnyGives}
 use Rattle.wiping.proofs.any_in_line.Given as goal
 

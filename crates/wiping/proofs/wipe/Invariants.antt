@@ -1,11 +1,7 @@
--- `wiping::wipe` meets its contract. The invariant: only the first i entries of the region are changed, and those are 0.
+-- `wiping::wipe` meets its contract. The invariant: only the first i entries of the region are changed, and those are zero.
 -- Assumes nothing.
-use Prim.Native.Nat.{◌-◌}
 use Rattle.wiping.proofs.Blocks.{Wiped}
 use Rattle.wiping.proofs.wipe.Given as goal
 
 abbrev pub invariant-loop-i : goal.invariant-loop-i
 invariant-loop-i g l = Wiped g.T.Entry.blank g.T.Entry.zero l.initial.work l.from l.n l.work l.i
-
-abbrev pub decreases-loop-i : goal.decreases-loop-i
-decreases-loop-i g l = l.n - l.i

@@ -1,8 +1,8 @@
 -- What the kinds of lines make of the bench and of the rows. Assumes nothing.
-use mathlib.Core.Path.{◌≡◌, refl, sym, ap, ◌∙◌, subst}
+use mathlib.Core.Path.{◌≡◌, refl, sym, ap, ◌∙◌}
 use mathlib.Core.Bool.{Bool, true, false, not, cond, ◌&&◌, ◌||◌}
-use mathlib.Core.List.{List, [], ◌∷◌, ◌++◌, map}
-use Prim.Native.Nat.{ℕ, zero, suc, ◌+◌, ◌*◌, ◌/◌, ◌%◌, ◌≤◌, ◌<◌}
+use mathlib.Core.List.{List, [], ◌∷◌}
+use Prim.Native.Nat.{ℕ, suc, ◌+◌, ◌/◌, ◌%◌, ◌≤◌, ◌<◌}
 use native.Mathlib.Decide.{ℕ_discrete}
 use native.Mathlib.Omega.{arith}
 use borrow.Author.Tests.{eq-eqb, ne_eqb}
@@ -11,18 +11,18 @@ use lib.Ieee.Bits.{is_true}
 use lib.ListN.{length, get_or, set, length-append}
 use lib.Seq.{get_or-set_same, get_or-set_other}
 use Rattle.rules.specs.Lists.{any, all, has, filter}
-use Rattle.rules.specs.Mesh.{Face, point, corners, exchanged, renamed}
+use Rattle.rules.specs.Mesh.{Face, corners, exchanged, renamed}
 use Rattle.rules.specs.Pass6.{used}
-use Rattle.rules.specs.Mending.{Reason, dropped_face, exchange, split_point, isolated_point}
+use Rattle.rules.specs.Mending.{Reason, dropped_face, exchange, split_point}
 use Rattle.rules.specs.Applying.{Bench, present, present_with, change}
 use Rattle.rule_laws.proofs.Rising.{All, all_imp, all_map, all_filter}
 use Rattle.rule_laws.proofs.Members.{any_intro, any_mem, all_elim}
 use Rattle.rule_laws.proofs.Tests.{and_elim}
 use Rattle.rule_laws.proofs.Once.{Inside, CornersBelow}
 use Rattle.point_bits.specs.Bits.{bit}
-use Rattle.face_marks.specs.Marks.{here, free, keeps, Small, TakeAllGives}
+use Rattle.face_marks.specs.Marks.{here, keeps, Small, TakeAllGives}
 use Rattle.list_check.specs.Standing.{Stands, names_one}
-use Rattle.list_check.proofs.Anys.{any_filter, any_when, any_same, any_none, any_map, and_true, and_false, at_number, has_exchanged, has_renamed, has_none}
+use Rattle.list_check.proofs.Anys.{any_filter, any_when, any_same, any_map, and_true, and_false, at_number, has_exchanged, has_renamed, has_none}
 
 -- what a filter leaves keeps every property
 all_kept : (Q : Face → Type 0) (p : Face → Bool) (fs : List Face) → All Q fs → All Q (filter p fs)

@@ -2,23 +2,19 @@
 use mathlib.Core.Path.{◌≡◌, refl, sym, ap, ◌∙◌}
 use mathlib.Core.Bool.{Bool, true, false}
 use mathlib.Core.Option.{Option, none, some}
-use mathlib.Core.List.{List, [], ◌∷◌, ◌++◌, append-nil, append_assoc}
-use Prim.Native.Nat.{ℕ, zero, suc, ◌+◌, ◌≤◌, ◌<◌}
+use mathlib.Core.List.{List, [], ◌∷◌, ◌++◌, append-nil}
+use Prim.Native.Nat.{ℕ, suc, ◌+◌, ◌<◌}
 use native.Mathlib.Omega.{arith}
-use native.Mathlib.Numerals.{add-one}
-use lib.ListN.{length, get_or, take, drop, length-append, take-append-drop}
-use lib.Seq.{take-append-le, take-append-add, take_all, drop-length}
+use lib.ListN.{length, take, drop, length-append, take-append-drop}
+use lib.Seq.{take-append-le, take-append-add}
 use Rattle.rules.specs.Lists.{below, through}
-use Rattle.rules.specs.Mesh.{Point, Face, faces_of}
+use Rattle.rules.specs.Mesh.{Point, Face}
 use Rattle.rules.specs.Mending as list
-use Rattle.rules.specs.Refusal.{Check, ok, no, at_first}
+use Rattle.rules.specs.Refusal.{ok, no}
 use Rattle.rules.specs.Applying.{Bench, bench_of, with_list_line, lines_read, after_lines, is_none, no15}
 use Rattle.rule_laws.proofs.Lists.{through_append, length_below}
 use Rattle.rule_laws.proofs.Rising.{get_or_below}
 use Rattle.rule_laws.proofs.Firsts.{none_at_fault, at_fault}
-use Rattle.list_lines.specs.Lines.{Says}
-use Rattle.list_lines.proofs.Letters.{lines_end}
-use Rattle.list_check.specs.Steps.{Run}
 
 -- after a bad line nothing stands
 pub none_stays : (P F : ℕ) (ls : List (Option list.Line)) → through (with_list_line P F) none ls ≡ none

@@ -1,10 +1,11 @@
 -- The lines up to the first `u` line, one after the other. Assumes nothing.
-use mathlib.Core.Path.{◌≡◌, refl, sym, ap, ◌∙◌, subst}
+use mathlib.Core.Path.{◌≡◌, refl, sym, ap, ◌∙◌}
 use mathlib.Core.Option.{Option, none, some}
 use mathlib.Core.List.{List, [], ◌∷◌, ◌++◌, append-nil, append_assoc}
-use Prim.Native.Nat.{ℕ, zero, suc, ◌+◌, ◌*◌, ◌/◌, ◌≤◌, ◌<◌}
+use Prim.Native.Nat.{ℕ, ◌+◌, ◌*◌, ◌/◌, ◌≤◌, ◌<◌}
 use native.Mathlib.Omega.{arith}
-use lib.ListN.{length, get_or, drop, replicate, length-replicate, length-append}
+use lib.ListN.{length, drop, replicate, length-replicate, length-append}
+use Rattle.refuse.specs.declared.Refusal.TheVariants.{BadList}
 use Rattle.rules.specs.Mesh.{Point, zero64, faces_of}
 use Rattle.rules.specs.Mending as list
 use Rattle.rules.specs.Refusal.{ok, no}
@@ -13,8 +14,8 @@ use Rattle.rules.specs.Lists.{through}
 use Rattle.rule_laws.proofs.Flat.{length_faces}
 use Rattle.list_lines.specs.Lines.{Says}
 use Rattle.list_lines.proofs.Letters.{lines_end}
-use Rattle.list_check.specs.Standing.{room, Standing}
-use Rattle.list_check.specs.Steps.{Rows, Ready, changed_by, Applies, LineOn, LineBad, StepBad, StepUnused, Untouched, StepOn, StepAsks, Run, Running, Begins, FirstBad, NoneBad, ToUnused}
+use Rattle.list_check.specs.Standing.{room}
+use Rattle.list_check.specs.Steps.{Ready, changed_by, StepBad, Untouched, StepOn, StepAsks, Run, Running, Begins, FirstBad, NoneBad, ToUnused}
 use Rattle.list_check.proofs.Order.{room_most}
 use Rattle.list_check.proofs.Firsts.{one_more, bad_at, none_bad}
 use Rattle.list_check.proofs.Starting.{standing_begin}
@@ -90,7 +91,7 @@ module _ {P : ℕ} {xs text m₀ u₀ m u : List ℕ} {at line s f g k : ℕ} (i
   going_asks h = record { left = h; ready = i.ready }
 
   -- a bad line
-  pub going_bad : StepBad P xs text at m u s f g k → FirstBad P xs text line
+  pub going_bad : StepBad P xs text at m u s f g k → FirstBad P xs text (BadList line)
   going_bad y =
       record {
         is = λ ps n. let r = i.each ps n in run_bad r.run P n y.lines (y.line.bad r.bench r.standing);

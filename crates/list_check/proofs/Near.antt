@@ -2,16 +2,16 @@
 use mathlib.Core.Path.{◌≡◌, refl, sym, ap, ◌∙◌, subst}
 use mathlib.Core.Bool.{Bool, true, false, not, cond, ◌&&◌, ◌||◌, true≢false}
 use mathlib.Core.Option.{Option, none, some}
-use mathlib.Core.List.{List, [], ◌∷◌, ◌++◌, map}
+use mathlib.Core.List.{List, [], ◌∷◌, map}
 use Prim.Native.Nat.{ℕ, zero, suc, ◌+◌, ◌*◌, ◌/◌, ◌≤◌, ◌<◌}
 use native.Mathlib.Omega.{arith}
-use borrow.Author.Tests.{ltb-true, le-ltb, ne_eqb, eqb-true}
+use borrow.Author.Tests.{ltb-true}
 use lib.Dec.{T, eqb, ltb, eqb→eq}
-use lib.ListN.{length, get_or, take, length-append, length-take}
-use Rattle.rules.specs.Lists.{any, has, filter, through, below}
-use Rattle.rules.specs.Mesh.{Point, Face, face, faces_of, exchanged, renamed}
+use lib.ListN.{length, take, length-append, length-take}
+use Rattle.rules.specs.Lists.{has, filter, through, below}
+use Rattle.rules.specs.Mesh.{Point, Face, faces_of, exchanged, renamed}
 use Rattle.rules.specs.Mending.{Line, Reason, dropped_face, exchange, split_point, isolated_point, for_repeated, for_thin, for_duplicate, for_edge, for_direction}
-use Rattle.rules.specs.Refusal.{ok, no, at_first}
+use Rattle.rules.specs.Refusal.{no}
 use Rattle.rules.specs.Applying.{Bench, bench_of, present, applies, change, section, numbers, precedes, with_list_line, lines_read, after_lines, is_none, no15}
 use Rattle.rule_laws.proofs.Rising.{All, all_imp, all_map, all_filter, get_or_below}
 use Rattle.rule_laws.proofs.Members.{any_elim}
@@ -19,7 +19,8 @@ use Rattle.rule_laws.proofs.Lists.{length_below}
 use Rattle.rule_laws.proofs.Firsts.{FirstFault, fault_exactly}
 use Rattle.rule_laws.proofs.Flat.{numbered, length_faces}
 use Rattle.list_lines.specs.Lines.{reason}
-use Rattle.list_check.specs.Standing.{behind, section_of, last_of, room}
+use Rattle.list_lines.specs.declared.Reason.TheVariants as word
+use Rattle.list_check.specs.Standing.{section_of, last_of, room}
 use Rattle.list_check.proofs.Order.{precedes_is, section_low, Behind, behind_true, room_rises, room_splits, room_most}
 use Rattle.list_check.proofs.Single.{Numbered, numbered_dropped, numbered_exchange, numbered_split}
 use Rattle.list_check.proofs.Firsts.{none_stays}
@@ -157,11 +158,11 @@ renamed_origin r g = refl
 -- a dropped face, whatever the reason
 numbered_why : (f : ℕ) (why : Reason) → (s : ℕ) × Numbered (dropped_face f why) s f 0 × (s < 6)
 unfolding reason
-numbered_why f for_repeated = (section_of 1, numbered_dropped f 1, (section_low 1).before_splits)
-numbered_why f for_thin = (section_of 2, numbered_dropped f 2, (section_low 2).before_splits)
-numbered_why f for_duplicate = (section_of 3, numbered_dropped f 3, (section_low 3).before_splits)
-numbered_why f for_edge = (section_of 4, numbered_dropped f 4, (section_low 4).before_splits)
-numbered_why f for_direction = (section_of 5, numbered_dropped f 5, (section_low 5).before_splits)
+numbered_why f for_repeated = (section_of word.Repeated, numbered_dropped f word.Repeated, (section_low word.Repeated).before_splits)
+numbered_why f for_thin = (section_of word.Thin, numbered_dropped f word.Thin, (section_low word.Thin).before_splits)
+numbered_why f for_duplicate = (section_of word.Duplicate, numbered_dropped f word.Duplicate, (section_low word.Duplicate).before_splits)
+numbered_why f for_edge = (section_of word.Edge, numbered_dropped f word.Edge, (section_low word.Edge).before_splits)
+numbered_why f for_direction = (section_of word.Direction, numbered_dropped f word.Direction, (section_low word.Direction).before_splits)
 
 -- a line more
 counted_line : {P F : ℕ} {b : Bench} {n : ℕ} → Counted P F b n → (l : Line) → precedes b.last (section l ∷ numbers l) ≡ true → applies P F b l ≡ true → Counted P F (change b l (section l ∷ numbers l)) (n + 1)

@@ -1,16 +1,22 @@
 -- The order of lines by section and numbers, and how many lines there are at most up to one. Assumes nothing.
 use mathlib.Core.Path.{◌≡◌, refl, sym, ap, ◌∙◌}
-use mathlib.Core.Bool.{Bool, true, false, cond, ◌&&◌, ◌||◌}
-use mathlib.Core.List.{List, [], ◌∷◌}
+use mathlib.Core.Bool.{Bool, true, false, not, ◌&&◌, ◌||◌, true≢false}
+use mathlib.Core.List.{List, ◌∷◌}
 use Prim.Native.Nat.{ℕ, zero, suc, ◌+◌, ◌-◌, ◌*◌, ◌≤◌, ◌<◌}
 use native.Mathlib.Decide.{ℕ_discrete}
 use native.Mathlib.Omega.{arith}
-use borrow.Author.Tests.{eq-eqb, ne_eqb, lt-ltb, le-ltb, ltb-true, ltb-false, eqb-true}
+use borrow.Author.Tests.{ne_eqb, lt-ltb, ltb-true, ltb-false, eqb-true}
 use lib.Dec.{eqb, ltb}
-use lib.ListN.{length, drop}
-use Rattle.rules.specs.Mending.{Line, dropped_face, exchange, split_point, isolated_point, pass_of}
+use lib.ListN.{drop}
+use Rattle.rules.specs.Mending.{dropped_face, exchange, split_point, pass_of}
 use Rattle.rules.specs.Applying.{section, numbers, precedes}
+use Rattle.std.specs.Ordering.{partial_ge}
+use Rattle.std.proofs.lemmas.Bool.Decides.{nat_tests}
 use Rattle.list_lines.specs.Lines.{reason}
+use Rattle.list_lines.specs.declared.Reason as read
+use Rattle.list_lines.specs.declared.Reason.TheVariants as word
+use Rattle.list_check.specs.declared.Place.{Place}
+use Rattle.list_check.specs.contracts.PlacePartialOrd.TheImpl.{partial_cmp-value}
 use Rattle.list_check.specs.Standing.{behind, section_of, last_of, room}
 
 -- ---- section and numbers
@@ -71,15 +77,13 @@ module _ (f g f' g' : ℕ) where
 -- ---- the lines
 
 -- a dropped face
-pub dropped_at : (f w : ℕ) → section (dropped_face f (reason w)) ∷ numbers (dropped_face f (reason w)) ≡ last_of (section_of w) f 0
+pub dropped_at : (f : ℕ) (w : read.Reason) → section (dropped_face f (reason w)) ∷ numbers (dropped_face f (reason w)) ≡ last_of (section_of w) f 0
 unfolding section numbers reason section_of last_of pass_of
-dropped_at f zero = refl
-dropped_at f (suc zero) = refl
-dropped_at f (suc (suc zero)) = refl
-dropped_at f (suc (suc (suc zero))) = refl
-dropped_at f (suc (suc (suc (suc zero)))) = refl
-dropped_at f (suc (suc (suc (suc (suc k))))) =
-    rw (le-ltb (suc (suc (suc (suc (suc k))))) 3 (omega arith), le-ltb (suc (suc (suc (suc (suc k))))) 4 (omega arith), le-ltb (suc (suc (suc (suc (suc k))))) 5 (omega arith)) refl
+dropped_at f word.Repeated = refl
+dropped_at f word.Thin = refl
+dropped_at f word.Duplicate = refl
+dropped_at f word.Edge = refl
+dropped_at f word.Direction = refl
 
 -- an exchange
 pub exchange_at : (f : ℕ) → section (exchange f) ∷ numbers (exchange f) ≡ last_of 4 f 0
@@ -96,15 +100,35 @@ pub record Dropping (s : ℕ) : Type 0 where
   pub some_section : 0 < s
   pub before_splits : s < 6
 
-pub section_low : (w : ℕ) → Dropping (section_of w)
+pub section_low : (w : read.Reason) → Dropping (section_of w)
 unfolding section_of
-section_low w = go (ltb w 3) (ltb w 4) (ltb w 5)
-  where
-    go : (a b c : Bool) → Dropping (cond a 1 (cond b 2 (cond c 3 5)))
-    go true b c = record { some_section = omega arith; before_splits = omega arith }
-    go false true c = record { some_section = omega arith; before_splits = omega arith }
-    go false false true = record { some_section = omega arith; before_splits = omega arith }
-    go false false false = record { some_section = omega arith; before_splits = omega arith }
+section_low word.Repeated = record { some_section = omega arith; before_splits = omega arith }
+section_low word.Thin = record { some_section = omega arith; before_splits = omega arith }
+section_low word.Duplicate = record { some_section = omega arith; before_splits = omega arith }
+section_low word.Edge = record { some_section = omega arith; before_splits = omega arith }
+section_low word.Direction = record { some_section = omega arith; before_splits = omega arith }
+
+-- ---- the order of places
+
+-- a place that is not below another
+ge_behind : (a b : Place) → partial_ge partial_cmp-value.it a b ≡ not (behind a.section a.first a.second b.section b.first b.second)
+unfolding behind
+ge_behind a b = grind (arith, nat_tests)
+
+module _ (a b : Place) {r : Bool} (e : r ≡ partial_ge partial_cmp-value.it a b) where
+  pub not_behind : r ≡ true → false ≡ behind a.section a.first a.second b.section b.first b.second
+  not_behind h = go (behind a.section a.first a.second b.section b.first b.second) (sym h ∙ e ∙ ge_behind a b)
+    where
+      go : (t : Bool) → true ≡ not t → false ≡ t
+      go true q = absurd (true≢false q)
+      go false q = refl
+
+  pub is_behind : r ≡ false → true ≡ behind a.section a.first a.second b.section b.first b.second
+  is_behind h = go (behind a.section a.first a.second b.section b.first b.second) (sym h ∙ e ∙ ge_behind a b)
+    where
+      go : (t : Bool) → false ≡ not t → true ≡ t
+      go true q = refl
+      go false q = absurd (true≢false (sym q))
 
 -- ---- what is behind
 

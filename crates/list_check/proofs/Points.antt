@@ -1,30 +1,28 @@
 -- The faces of a split take the new point, and a line that was read is a step. Assumes nothing.
 use mathlib.Core.Path.{◌≡◌, refl, sym, ap, ◌∙◌}
-use mathlib.Core.Bool.{Bool, true, false, cond, ◌&&◌, ◌||◌}
+use mathlib.Core.Bool.{Bool, true, false, ◌&&◌, ◌||◌}
 use mathlib.Core.Option.{Option, none, some}
 use mathlib.Core.List.{List, [], ◌∷◌}
-use Prim.Native.Nat.{ℕ, zero, suc, ◌+◌, ◌-◌, ◌*◌, ◌/◌, ◌≤◌, ◌<◌}
+use Prim.Native.Nat.{ℕ, ◌+◌, ◌-◌, ◌*◌, ◌/◌, ◌≤◌, ◌<◌}
 use native.Mathlib.Omega.{arith}
 use lib.Dec.{T, eqb, ltb}
-use lib.ListN.{length, get_or, drop}
+use lib.ListN.{length, drop}
 use Rattle.rows.specs.Region.{part}
 use Rattle.rules.specs.Lists.{all}
-use Rattle.rules.specs.Text.{parted, whole}
+use Rattle.rules.specs.Text.{whole}
 use Rattle.rules.specs.Mending as list
-use Rattle.rules.specs.Applying.{Bench, with_list_line, lines_read, wholes}
-use Rattle.rule_laws.proofs.Rising.{All, all_imp}
+use Rattle.rules.specs.Applying.{with_list_line, lines_read, wholes}
+use Rattle.rule_laws.proofs.Rising.{all_imp}
 use Rattle.rule_laws.proofs.Members.{all_elim}
-use Rattle.mending_laws.proofs.Parting.{Some, parted_some}
+use Rattle.mending_laws.proofs.Parting.{parted_some}
 use Rattle.list_lines.specs.Lines.{tabbed, fields_in, Faces, faces_from_row, Says, SaysNothing}
 use Rattle.list_lines.proofs.Fields.{part_cons}
 use Rattle.list_lines.proofs.Telling.{before, wholes_none, wholes_some, faces_end}
 use Rattle.point_bits.specs.Bits.{bit, SetGives}
-use Rattle.face_marks.specs.Marks.{here, keeps, has_face, FaceAsks, Sized, TakeAllAsks, TakeAllGives}
+use Rattle.face_marks.specs.Marks.{here, keeps, has_face, FaceAsks, Sized, TakeAllGives}
 use Rattle.face_marks.proofs.Faces.{here_face}
-use Rattle.list_check.specs.Standing.{names_one, Standing}
-use Rattle.list_check.specs.Steps.{Rows, Ready, LineOn, EndsOn, LineBad, LineGives, PointAsks, PointGives, SplitAsks, StepBad, StepUnused, Untouched, StepOn, StepGives}
-use Rattle.list_check.specs.declared.Step.{Step}
-use Rattle.list_check.specs.declared.Step.TheVariants as step
+use Rattle.list_check.specs.Standing.{names_one}
+use Rattle.list_check.specs.Steps.{EndsOn, LineBad, PointAsks, PointGives, SplitAsks, StepBad, StepOn}
 use Rattle.list_check.proofs.Anys.{and_true, and_false}
 
 -- ---- whether a face is named
@@ -118,10 +116,12 @@ pub step_nothing : (P : ℕ) (xs text : List ℕ) (at : ℕ) (m u : List ℕ) (s
 step_nothing P xs text at m u s f g k n =
     record { head = none; others = n.others; lines = n.lines; line = record { bad = λ b st. unfold with_list_line in refl } }
 
--- it is one
-pub step_of :
-    (P : ℕ) (xs text : List ℕ) (at : ℕ) (l : list.Line) (end : ℕ) (m u : List ℕ) (s f g k : ℕ) (m' u' : List ℕ) → Says text at l end
-    → (r : Step) → LineGives P xs l end m u s f g k m' u' r → StepGives P xs text at m u s f g k m' u' r
-step_of P xs text at l end m u s f g k m' u' y step.Bad i = record { head = some l; others = lines_read (drop (end + 1) text); lines = y.lines; line = i }
-step_of P xs text at l end m u s f g k m' u' y step.Unused i = absurd i
-step_of P xs text at l end m u s f g k m' u' y (step.On e s' f' g' k') i = let q = i.ends in record { line = l; says = rw q y; on = i.on }
+-- it is one that does not apply
+pub step_bad : {P : ℕ} {xs text : List ℕ} {at : ℕ} {l : list.Line} {end : ℕ} {m u : List ℕ} {s f g k : ℕ} → Says text at l end → LineBad P xs (some l) m u s f g k → StepBad P xs text at m u s f g k
+step_bad {P} {xs} {text} {at} {l} {end} y i = record { head = some l; others = lines_read (drop (end + 1) text); lines = y.lines; line = i }
+
+-- it is one that does
+pub step_on :
+    {P : ℕ} {xs text : List ℕ} {at : ℕ} {l : list.Line} {end : ℕ} {m u : List ℕ} {s f g k : ℕ} {m' u' : List ℕ} {e s' f' g' k' : ℕ}
+    → Says text at l end → EndsOn P xs l end m u s f g k m' u' e s' f' g' k' → StepOn P xs text at m u s f g k m' u' e s' f' g' k'
+step_on {l = l} y i = let q = i.ends in record { line = l; says = rw q y; on = i.on }

@@ -1,27 +1,24 @@
 -- One line, whatever stands: it does not apply, or it does and the rows then say what stands. Assumes nothing.
 use mathlib.Core.Path.{◌≡◌, refl, sym, ap, ◌∙◌, subst}
-use mathlib.Core.Bool.{Bool, true, false, not, cond, ◌&&◌, ◌||◌}
-use mathlib.Core.Option.{Option, none, some}
+use mathlib.Core.Bool.{Bool, true, false, cond, ◌&&◌}
+use mathlib.Core.Option.{none, some}
 use mathlib.Core.List.{List, [], ◌∷◌}
-use Prim.Native.Nat.{ℕ, zero, suc, ◌+◌, ◌*◌, ◌/◌, ◌≤◌, ◌<◌}
+use Prim.Native.Nat.{ℕ, suc, ◌+◌, ◌*◌, ◌/◌, ◌≤◌, ◌<◌}
 use native.Mathlib.Omega.{arith}
 use native.Mathlib.Numerals.{add-one}
 use borrow.Author.Tests.{ltb-true, lt-ltb, le-ltb, eq-eqb, ne_eqb}
 use lib.Dec.{T, eqb, ltb}
-use lib.Ieee.Bits.{is_true}
-use lib.ListN.{length, get_or, set, length-set}
-use lib.Seq.{get_or-set_same, get_or-set_other}
+use lib.ListN.{length, set, length-set}
 use Rattle.rules.specs.Lists.{all}
-use Rattle.rules.specs.Mending.{Line, Reason, dropped_face, exchange, split_point}
-use Rattle.rules.specs.Applying.{Bench, present, present_with, applies, change, section, numbers, precedes, with_list_line}
-use Rattle.rule_laws.proofs.Rising.{All}
+use Rattle.rules.specs.Mending.{Line, dropped_face, exchange, split_point}
+use Rattle.rules.specs.Applying.{Bench, present_with, applies, change, section, numbers, precedes, with_list_line}
 use Rattle.list_lines.specs.Lines.{reason}
-use Rattle.point_bits.specs.Bits.{bit}
-use Rattle.face_marks.specs.Marks.{here, keeps, has_face, Small, TakeAllGives}
-use Rattle.list_check.specs.Standing.{behind, section_of, last_of, room, Stands, Standing, names_one}
-use Rattle.list_check.specs.Steps.{Rows, Ready, changed_by, Applies, LineOn, LineBad, PointGives}
+use Rattle.list_lines.specs.declared.Reason as read
+use Rattle.face_marks.specs.Marks.{here, has_face}
+use Rattle.list_check.specs.Standing.{behind, section_of, last_of, Standing}
+use Rattle.list_check.specs.Steps.{Ready, changed_by, LineOn, LineBad, PointGives}
 use Rattle.list_check.proofs.Anys.{and_false}
-use Rattle.list_check.proofs.Order.{precedes_is, dropped_at, exchange_at, split_at, Dropping, section_low, Behind, Behind.later, Behind.first, Behind.second, behind_true, room_rises, room_splits}
+use Rattle.list_check.proofs.Order.{precedes_is, dropped_at, exchange_at, split_at, section_low, Behind, behind_true, room_rises, room_splits}
 use Rattle.list_check.proofs.Changes.{stands_dropped, stands_exchanged, stands_split, small_dropped}
 
 -- a line by order and by what stands
@@ -36,7 +33,7 @@ pub record Numbered (l : Line) (s f g : ℕ) : Type 0 where
   pub before_unused : s ≤ 6
   pub alone : s < 6 → g ≡ 0
 
-pub numbered_dropped : (f w : ℕ) → Numbered (dropped_face f (reason w)) (section_of w) f 0
+pub numbered_dropped : (f : ℕ) (w : read.Reason) → Numbered (dropped_face f (reason w)) (section_of w) f 0
 numbered_dropped f w =
     let d = section_low w in
     record { at = dropped_at f w; some_section = d.some_section; before_unused = omega (arith, d.before_splits); alone = λ h. refl }
@@ -114,7 +111,7 @@ module _ {P : ℕ} {xs m u : List ℕ} {s f g k : ℕ} where
   bad_order n h = record { bad = λ b st. not_behind st n h }
 
   -- a face that is not there
-  pub bad_dropped : (face w : ℕ) → false ≡ (ltb face (length xs / 3) && here m face) → LineBad P xs (some (dropped_face face (reason w))) m u s f g k
+  pub bad_dropped : (face : ℕ) (w : read.Reason) → false ≡ (ltb face (length xs / 3) && here m face) → LineBad P xs (some (dropped_face face (reason w))) m u s f g k
   bad_dropped face w h =
       record { bad = λ b st. not_applies st (numbered_dropped face w) (unfold applies in (st.stands.here_is face ∙ sym h)) }
 
@@ -123,7 +120,7 @@ module _ {P : ℕ} {xs m u : List ℕ} {s f g k : ℕ} where
       record { bad = λ b st. not_applies st (numbered_exchange face) (unfold applies in (st.stands.here_is face ∙ sym h)) }
 
   -- a dropped face
-  pub on_dropped : (face w : ℕ) → Ready P xs m u k → true ≡ behind s f g (section_of w) face 0 → true ≡ (ltb face (length xs / 3) && here m face)
+  pub on_dropped : (face : ℕ) (w : read.Reason) → Ready P xs m u k → true ≡ behind s f g (section_of w) face 0 → true ≡ (ltb face (length xs / 3) && here m face)
       → LineOn P xs (dropped_face face (reason w)) m u s f g k (set m face 1) u (section_of w) face 0 k
   on_dropped face w r h p =
       let t = there xs m face p in

@@ -1,9 +1,9 @@
 -- Rows of zeros say what stands before the first line: the input. Assumes nothing.
 use mathlib.Core.Path.{◌≡◌, refl, sym, ap, ◌∙◌, subst}
-use mathlib.Core.Bool.{Bool, true, false, cond, ◌&&◌, ◌||◌}
+use mathlib.Core.Bool.{Bool, true, false, ◌&&◌, ◌||◌}
 use mathlib.Core.Logic.{◌⊎◌, inl, inr}
-use mathlib.Core.List.{List, [], ◌∷◌}
-use Prim.Native.Nat.{ℕ, zero, suc, ◌+◌, ◌*◌, ◌/◌, ◌%◌, ◌^◌, ◌≤◌, ◌<◌}
+use mathlib.Core.List.{List}
+use Prim.Native.Nat.{ℕ, ◌+◌, ◌*◌, ◌/◌, ◌%◌, ◌^◌, ◌<◌}
 use native.Mathlib.Omega.{arith}
 use borrow.Author.Tests.{lt-ltb, eq-eqb}
 use lib.Dec.{T, eqb, ltb, ltb→lt, eqb→eq}
@@ -12,17 +12,16 @@ use lib.ListN.{length, get_or}
 use lib.Pow.{shr_le}
 use Rattle.rules.specs.Lists.{any, has}
 use Rattle.rules.specs.Mesh.{Point, Face, face, faces_of, corners}
-use Rattle.rules.specs.Applying.{Bench, bench_of, present, present_with}
+use Rattle.rules.specs.Applying.{bench_of, present, present_with}
 use Rattle.rule_laws.proofs.Rising.{All, all_from}
 use Rattle.rule_laws.proofs.Members.{any_intro, any_mem, mem_at, mem_index}
 use Rattle.rule_laws.proofs.Tests.{and_elim, both_ways}
 use Rattle.rule_laws.proofs.Flat.{face_in, length_faces, numbered}
-use Rattle.rule_laws.proofs.Once.{Inside, CornersBelow}
-use Rattle.refuse.specs.Accepted as input
+use Rattle.rule_laws.proofs.Once.{CornersBelow}
 use Rattle.point_bits.specs.Bits.{bit}
-use Rattle.face_marks.specs.Marks.{here, free, keeps, Small}
-use Rattle.list_check.specs.Standing.{last_of, Stands, Standing}
-use Rattle.list_check.specs.Steps.{Rows, Begins}
+use Rattle.face_marks.specs.Marks.{here, free, keeps}
+use Rattle.list_check.specs.Standing.{last_of, Standing}
+use Rattle.list_check.specs.Steps.{Begins}
 use Rattle.list_check.proofs.Anys.{any_same, and_true}
 
 -- no face

@@ -2,25 +2,24 @@
 use mathlib.Core.Path.{◌≡◌, refl, sym, ap, ◌∙◌, subst}
 use mathlib.Core.Bool.{Bool, true, false, not, cond, ◌&&◌, ◌||◌}
 use mathlib.Core.Option.{Option, none, some}
-use mathlib.Core.List.{List, [], ◌∷◌, ◌++◌}
-use Prim.Native.Nat.{ℕ, zero, suc, ◌+◌, ◌*◌, ◌/◌, ◌≤◌, ◌<◌}
-use native.Mathlib.Decide.{ℕ_discrete}
+use mathlib.Core.List.{List, [], ◌∷◌}
+use Prim.Native.Nat.{ℕ, ◌+◌, ◌/◌, ◌≤◌, ◌<◌}
 use native.Mathlib.Omega.{arith}
 use native.Mathlib.Numerals.{add-one}
-use borrow.Author.Tests.{le-leb, lt-leb, lt-ltb, le-ltb, eq-eqb, ne_eqb}
+use borrow.Author.Tests.{le-leb, lt-leb, lt-ltb, le-ltb, ne_eqb}
 use lib.Dec.{eqb, ltb, leb}
-use lib.ListN.{length, get_or, drop}
+use lib.ListN.{length, drop}
 use Rattle.rules.specs.Mesh.{Point, faces_of}
 use Rattle.rules.specs.Mending as list
 use Rattle.rules.specs.Mending.{Reason, for_repeated, for_thin, for_duplicate, for_edge, for_direction}
-use Rattle.rules.specs.Refusal.{ok, no}
+use Rattle.rules.specs.Refusal.{no}
 use Rattle.rules.specs.Pass6.{used}
 use Rattle.rules.specs.Applying.{Bench, applies, change, section, numbers, precedes, with_list_line, lines_read, no15}
-use Rattle.refuse.specs.declared.Verdict.{Verdict}
-use Rattle.refuse.specs.declared.Verdict.TheVariants.{Fine, Refused}
+use Rattle.std.specs.Prelude.{Ok, Err}
+use Rattle.refuse.specs.declared.Refusal.TheVariants.{BadList}
 use Rattle.list_lines.specs.Lines.{Says, SaysNothing, SaysSplit, faces_from_row}
 use Rattle.point_bits.specs.Bits.{bit}
-use Rattle.list_check.specs.Steps.{changed_by, StepUnused, Run, OtherLine, UnusedAsks, Before, UnusedGives}
+use Rattle.list_check.specs.Steps.{changed_by, Run, OtherLine, UnusedAsks, Before, UnusedGives}
 use Rattle.list_check.proofs.Anys.{and_false}
 use Rattle.list_check.proofs.Looping.{run_more, run_bad, run_done}
 
@@ -126,11 +125,11 @@ module _ {text : List ℕ} {from number bound : ℕ} {u : List ℕ} (p : UnusedA
   placed = omega (arith, i.counted, i.low)
 
   -- what the loop's bad lines give
-  gives : ((ps : List Point) (xs : List ℕ) → UnusedRun ps xs text at line bound u least → no15 ps (faces_of xs) text ≡ no 15 line) → UnusedGives text from number bound u (Refused 15 line)
+  gives : ((ps : List Point) (xs : List ℕ) → UnusedRun ps xs text at line bound u least → no15 ps (faces_of xs) text ≡ no 15 line) → UnusedGives text from number bound u (Err (BadList line))
   gives h = record { placed = placed; is = λ ps xs b q. sym (h ps xs (i.each ps xs b q)) }
 
   -- another line
-  pub unusing_other : OtherLine text at → UnusedGives text from number bound u (Refused 15 line)
+  pub unusing_other : OtherLine text at → UnusedGives text from number bound u (Err (BadList line))
   unusing_other y = gives (λ ps xs r. run_bad r.run (length ps) refl y.lines (go ps xs r y.head refl))
     where
       go : (ps : List Point) (xs : List ℕ) (r : UnusedRun ps xs text at line bound u least) (o : Option list.Line) → y.head ≡ o → with_list_line (length ps) (length xs / 3) (some r.bench) y.head ≡ none
@@ -139,12 +138,12 @@ module _ {text : List ℕ} {from number bound : ℕ} {u : List ℕ} (p : UnusedA
 
   module _ {v end : ℕ} (y : Says text at (list.isolated_point v) end) where
     -- a point that does not rise
-    pub unusing_low : v < least → UnusedGives text from number bound u (Refused 15 line)
+    pub unusing_low : v < least → UnusedGives text from number bound u (Err (BadList line))
     unusing_low h =
         gives (λ ps xs r. run_bad r.run (length ps) refl y.lines (with_unused (length ps) (length xs / 3) r.bench v ∙ rw (r.order v, lt-leb least v h) refl))
 
     -- one that is not there
-    pub unusing_absent : bound ≤ v → UnusedGives text from number bound u (Refused 15 line)
+    pub unusing_absent : bound ≤ v → UnusedGives text from number bound u (Err (BadList line))
     unusing_absent h =
         gives
         (λ ps xs r.
@@ -152,7 +151,7 @@ module _ {text : List ℕ} {from number bound : ℕ} {u : List ℕ} (p : UnusedA
         (with_unused (length ps) (length xs / 3) r.bench v ∙ rw (r.points, le-ltb v bound h, and_false (precedes r.bench.last (7 ∷ v ∷ []))) refl))
 
     -- one that a face has
-    pub unusing_used : v < bound → true ≡ bit u v → UnusedGives text from number bound u (Refused 15 line)
+    pub unusing_used : v < bound → true ≡ bit u v → UnusedGives text from number bound u (Err (BadList line))
     unusing_used h e =
         gives
         (λ ps xs r.
@@ -211,5 +210,5 @@ module _ {text : List ℕ} {from number bound : ℕ} {u : List ℕ} (p : UnusedA
   few_lines = placed
 
   -- no line is left
-  pub unusing_done : length text ≤ at → UnusedGives text from number bound u Fine
+  pub unusing_done : length text ≤ at → UnusedGives text from number bound u (Ok tt)
   unusing_done h = record { placed = tt; is = λ ps xs b q. sym (run_done (i.each ps xs b q).run (length ps) refl (omega (arith, i.at_most))) }

@@ -1,28 +1,27 @@
 -- All lines together: the bits say which points are used when the `u` lines begin. Assumes nothing.
 use mathlib.Core.Path.{◌≡◌, refl, sym, ap, ◌∙◌, subst}
-use mathlib.Core.Bool.{Bool, true, false, cond, ◌&&◌, ◌||◌}
+use mathlib.Core.Bool.{Bool, true, false, ◌&&◌, ◌||◌}
 use mathlib.Core.List.{List, [], ◌∷◌}
-use Prim.Native.Nat.{ℕ, zero, suc, ◌+◌, ◌*◌, ◌/◌, ◌%◌, ◌^◌, ◌≤◌, ◌<◌}
+use Prim.Native.Nat.{ℕ, zero, suc, ◌+◌, ◌*◌, ◌/◌, ◌≤◌, ◌<◌}
 use native.Mathlib.Omega.{arith}
-use borrow.Author.Tests.{ltb-true, ltb-false, lt-ltb, le-ltb, eq-eqb, ne_eqb}
-use lib.Dec.{T, eqb, ltb, leb}
+use borrow.Author.Tests.{ltb-true, ltb-false, lt-ltb, eq-eqb, ne_eqb}
+use lib.Dec.{T, eqb, ltb}
 use lib.Ieee.Fits.{and_i}
-use lib.ListN.{length, get_or, drop, replicate, length-replicate, get_or-replicate, get_or-eq_default}
+use lib.ListN.{length, get_or, replicate, length-replicate, get_or-replicate, get_or-eq_default}
 use Rattle.rules.specs.Lists.{below, any, has}
-use Rattle.rules.specs.Mesh.{Point, Face, corners, faces_of}
-use Rattle.rules.specs.Refusal.{ok, no}
+use Rattle.rules.specs.Mesh.{Point, corners}
 use Rattle.rules.specs.Pass6.{used}
 use Rattle.rules.specs.Applying.{Bench, present_with, precedes}
 use Rattle.rule_laws.proofs.Members.{any_intro, any_mem, all_in, mem_below, below_mem}
 use Rattle.rule_laws.proofs.Tests.{and_elim, both_ways}
 use Rattle.refuse.specs.Accepted as input
-use Rattle.refuse.specs.Verdicts.{check_of}
-use Rattle.refuse.specs.declared.Verdict.{Verdict}
-use Rattle.refuse.specs.declared.Verdict.TheVariants.{Fine, Refused}
+use Rattle.std.specs.Prelude.{Result, Ok, Err, ⊤}
+use Rattle.refuse.specs.Verdicts.{place_of}
+use Rattle.refuse.specs.declared.Refusal.{Refusal}
 use Rattle.point_bits.specs.Bits.{bit}
 use Rattle.face_marks.specs.Marks.{here, free, keeps, UsedAsks, UsedGives}
-use Rattle.list_check.specs.Standing.{last_of, Stands, Standing}
-use Rattle.list_check.specs.Steps.{Rows, Running, Begins, FirstBad, NoneBad, ToUnused, UnusedAsks, Before, Placed, UnusedGives, BadList}
+use Rattle.list_check.specs.Standing.{last_of, Stands}
+use Rattle.list_check.specs.Steps.{Running, Begins, FirstBad, NoneBad, ToUnused, UnusedAsks, Before, Placed, UnusedGives, BadList}
 
 -- ---- the points that are used
 
@@ -125,17 +124,17 @@ earlier (suc (suc (suc (suc (suc (suc k)))))) f g v h = refl
 -- ---- together
 
 -- a place within a wider bound
-wider : (m n : ℕ) → m ≤ n → (r : Verdict) → Placed m r → Placed n r
-wider m n h Fine q = tt
-wider m n h (Refused a p) q = omega arith
+wider : (m n : ℕ) → m ≤ n → (r : Result ⊤ Refusal) → Placed m r → Placed n r
+wider m n h (Ok _) q = tt
+wider m n h (Err r) q = let l : place_of r ≤ m = q in omega arith
 
 module _ {P : ℕ} {xs text m₀ u₀ : List ℕ} (p : Begins P xs m₀ u₀) where
   -- a bad line before the `u` lines
-  pub whole_bad : {line : ℕ} → FirstBad P xs text line → BadList P xs text (Refused 15 line)
+  pub whole_bad : {r : Refusal} → FirstBad P xs text r → BadList P xs text (Err r)
   whole_bad y = record { is = λ ps n. sym (y.is ps n); placed = omega (arith, y.early) }
 
   -- no bad line, and no `u` line
-  pub whole_none : NoneBad P xs text → BadList P xs text Fine
+  pub whole_none : NoneBad P xs text → BadList P xs text (Ok tt)
   whole_none y = record { is = λ ps n. sym (y.is ps n); placed = tt }
 
   module _ {at line k : ℕ} {m u : List ℕ} (y : ToUnused P xs text m₀ u₀ at line k m u) where
@@ -184,7 +183,7 @@ module _ {P : ℕ} {xs text m₀ u₀ : List ℕ} (p : Begins P xs m₀ u₀) wh
           }
 
       -- the whole
-      pub whole_unused : {r : Verdict} → UnusedGives text at line (P + k) u' r → BadList P xs text r
+      pub whole_unused : {r : Result ⊤ Refusal} → UnusedGives text at line (P + k) u' r → BadList P xs text r
       whole_unused {r} q =
           record {
             is = λ ps n. let w = y.each ps n in q.is ps xs w.bench (before ps n w);

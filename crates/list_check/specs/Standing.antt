@@ -1,10 +1,11 @@
 -- What the rows say of the bench of a mending list: which faces are there, which points they have, and what the last line was. Definitions only.
-use Rattle.std.specs.Prelude.{◌≡◌, Bool, true, false, ◌&&◌, ◌||◌, cond, List, [], ◌∷◌, ℕ, zero, suc, ◌+◌, ◌*◌, ◌/◌, ◌≤◌, ◌<◌, eqb, ltb, length}
-use Rattle.rules.specs.Mesh.{Face}
+use Rattle.std.specs.Prelude.{◌≡◌, Bool, true, false, ◌&&◌, ◌||◌, List, [], ◌∷◌, ℕ, zero, suc, ◌+◌, ◌*◌, ◌/◌, ◌≤◌, ◌<◌, eqb, ltb, length}
 use Rattle.rules.specs.Pass6.{used}
 use Rattle.rules.specs.Applying.{Bench, present, present_with}
 use Rattle.rule_laws.proofs.Rising.{All}
 use Rattle.rule_laws.proofs.Once.{Inside}
+use Rattle.list_lines.specs.declared.Reason as read
+use Rattle.list_lines.specs.declared.Reason.TheVariants as word
 use Rattle.point_bits.specs.Bits.{bit}
 use Rattle.face_marks.specs.Marks.{here, keeps, Small}
 
@@ -14,9 +15,13 @@ use Rattle.face_marks.specs.Marks.{here, keeps, Small}
 unfoldable pub behind : ℕ → ℕ → ℕ → ℕ → ℕ → ℕ → Bool
 behind section first second s f g = ltb section s || (eqb section s && (ltb first f || (eqb first f && ltb second g)))
 
--- the section of a dropped face, by the number of its reason
-unfoldable pub section_of : ℕ → ℕ
-section_of w = cond (ltb w 3) 1 (cond (ltb w 4) 2 (cond (ltb w 5) 3 5))
+-- the section of a dropped face, by its reason
+unfoldable pub section_of : read.Reason → ℕ
+section_of word.Repeated = 1
+section_of word.Thin = 1
+section_of word.Duplicate = 2
+section_of word.Edge = 3
+section_of word.Direction = 5
 
 -- section and numbers as the rules have them, where the pass of a dropped face is told by its section
 unfoldable pub last_of : ℕ → ℕ → ℕ → List ℕ

@@ -1,25 +1,25 @@
 -- The words of this crate's contracts: what a line makes of the bench, and what all lines make. Definitions only.
 use Rattle.std.specs.Prelude.{◌≡◌, Bool, true, false, ◌&&◌, ◌||◌, List, [], ◌∷◌, ◌++◌, ℕ, zero, suc, ◌+◌, ◌*◌, ◌/◌, ◌≤◌, ◌<◌, ◌^◌, eqb, ltb, leb, length, get_or, drop}
+use Rattle.std.specs.Prelude as std
+use Rattle.std.specs.Prelude.{Result, Ok, Err, ⊤}
 use Rattle.std.proofs.Math.Option.{Option, none, some}
-use Rattle.rules.specs.Mesh.{Point, Face, faces_of}
+use Rattle.rules.specs.Mesh.{Point, faces_of}
 use Rattle.rules.specs.Mending as list
-use Rattle.rules.specs.Refusal.{Check, ok, no}
+use Rattle.rules.specs.Refusal.{ok, no}
 use Rattle.rules.specs.Pass6.{used}
 use Rattle.rules.specs.Applying.{Bench, change, section, numbers, precedes, with_list_line, lines_read, after_lines, no15}
 use Rattle.refuse.specs.Accepted as input
-use Rattle.refuse.specs.Verdicts.{check_of}
-use Rattle.refuse.specs.declared.Verdict.{Verdict}
-use Rattle.refuse.specs.declared.Verdict.TheVariants.{Fine, Refused}
+use Rattle.refuse.specs.Verdicts.{number_of, place_of, check_of}
+use Rattle.refuse.specs.declared.Refusal.{Refusal}
 use Rattle.list_lines.specs.Lines as lines
 use Rattle.point_bits.specs.Bits.{bit}
 use Rattle.face_marks.specs.Marks.{Small, TakeAllAsks, TakeAllGives}
 use Rattle.list_check.specs.Standing.{Standing, room, names_one}
 use Rattle.list_check.specs.declared.Step.{Step}
-use Rattle.list_check.specs.declared.Step.TheVariants as step
-use Rattle.list_check.specs.declared.Found.{Found}
-use Rattle.list_check.specs.declared.Found.TheVariants as found
-use Rattle.list_check.specs.declared.Changed.{Changed}
-use Rattle.list_check.specs.declared.Changed.TheVariants as changed
+use Rattle.list_check.specs.declared.Turn.{Turn}
+use Rattle.list_check.specs.declared.Turn.TheVariants as turn
+use Rattle.list_check.specs.declared.FirstUnused.{FirstUnused}
+use Rattle.list_check.specs.declared.UnusedPoint.{UnusedPoint}
 
 -- the faces and the rows: a byte a face, and a bit a point, new ones too
 pub record Rows (P : ℕ) (xs m u : List ℕ) : Type 0 where
@@ -62,10 +62,9 @@ pub record EndsOn (P : ℕ) (xs : List ℕ) (l : list.Line) (end : ℕ) (m u : L
 pub record LineBad (P : ℕ) (xs : List ℕ) (l : Option list.Line) (m u : List ℕ) (s f g k : ℕ) : Type 0 where
   pub bad : (b : Bench) → Standing P xs m u s f g k b → with_list_line P (length xs / 3) (some b) l ≡ none
 
-abbrev pub LineGives : ℕ → List ℕ → list.Line → ℕ → List ℕ → List ℕ → ℕ → ℕ → ℕ → ℕ → List ℕ → List ℕ → Step → Type 0
-LineGives P xs l end m u s f g k m' u' step.Bad = LineBad P xs (some l) m u s f g k
-LineGives P xs l end m u s f g k m' u' step.Unused = ⊥
-LineGives P xs l end m u s f g k m' u' (step.On e s' f' g' k') = EndsOn P xs l end m u s f g k m' u' e s' f' g' k'
+abbrev pub LineGives : ℕ → List ℕ → list.Line → ℕ → List ℕ → List ℕ → ℕ → ℕ → ℕ → ℕ → List ℕ → List ℕ → std.Option Step → Type 0
+LineGives P xs l end m u s f g k m' u' std.None = LineBad P xs (some l) m u s f g k
+LineGives P xs l end m u s f g k m' u' (std.Some r) = EndsOn P xs l end m u s f g k m' u' r.end r.place.section r.place.first r.place.second r.splits
 
 -- a new point, for the faces of a split
 pub record PointAsks (text : List ℕ) (from end : ℕ) (xs m u : List ℕ) (v : ℕ) : Type 0 where
@@ -108,10 +107,10 @@ pub record StepOn (P : ℕ) (xs text : List ℕ) (at : ℕ) (m u : List ℕ) (s 
   pub says : lines.Says text at line e
   pub on : LineOn P xs line m u s f g k m' u' s' f' g' k'
 
-abbrev pub StepGives : ℕ → List ℕ → List ℕ → ℕ → List ℕ → List ℕ → ℕ → ℕ → ℕ → ℕ → List ℕ → List ℕ → Step → Type 0
-StepGives P xs text at m u s f g k m' u' step.Bad = StepBad P xs text at m u s f g k
-StepGives P xs text at m u s f g k m' u' step.Unused = Untouched text at m u m' u'
-StepGives P xs text at m u s f g k m' u' (step.On e s' f' g' k') = StepOn P xs text at m u s f g k m' u' e s' f' g' k'
+abbrev pub StepGives : ℕ → List ℕ → List ℕ → ℕ → List ℕ → List ℕ → ℕ → ℕ → ℕ → ℕ → List ℕ → List ℕ → std.Option Turn → Type 0
+StepGives P xs text at m u s f g k m' u' std.None = StepBad P xs text at m u s f g k
+StepGives P xs text at m u s f g k m' u' (std.Some turn.Unused) = Untouched text at m u m' u'
+StepGives P xs text at m u s f g k m' u' (std.Some (turn.On r)) = StepOn P xs text at m u s f g k m' u' r.end r.place.section r.place.first r.place.second r.splits
 
 pub record StepAsks (P : ℕ) (xs text : List ℕ) (at : ℕ) (m u : List ℕ) (k : ℕ) : Type 0 where
   pub left : at < length text
@@ -139,9 +138,9 @@ pub record Begins (P : ℕ) (xs m u : List ℕ) : Type 0 where
   pub no_bits : (j : ℕ) → get_or u j 0 ≡ 0
 
 -- the first bad line is this one
-pub record FirstBad (P : ℕ) (xs text : List ℕ) (line : ℕ) : Type 0 where
-  pub is : (ps : List Point) → length ps ≡ P → no15 ps (faces_of xs) text ≡ no 15 line
-  pub early : line ≤ 8 * (length xs / 3)
+pub record FirstBad (P : ℕ) (xs text : List ℕ) (r : Refusal) : Type 0 where
+  pub is : (ps : List Point) → length ps ≡ P → no15 ps (faces_of xs) text ≡ no (number_of r) (place_of r)
+  pub early : place_of r ≤ 8 * (length xs / 3)
 
 -- no line is bad
 pub record NoneBad (P : ℕ) (xs text : List ℕ) : Type 0 where
@@ -160,10 +159,10 @@ pub record ToUnused (P : ℕ) (xs text m₀ u₀ : List ℕ) (at line k : ℕ) (
   pub second : ℕ
   pub each : (ps : List Point) → length ps ≡ P → Running P ps xs text at line m u section first second k
 
-abbrev pub ChangedGives : ℕ → List ℕ → List ℕ → List ℕ → List ℕ → List ℕ → List ℕ → Changed → Type 0
-ChangedGives P xs text m u m' u' (changed.Bad line) = FirstBad P xs text line
-ChangedGives P xs text m u m' u' changed.Done = NoneBad P xs text
-ChangedGives P xs text m u m' u' (changed.Unused at line k) = ToUnused P xs text m u at line k m' u'
+abbrev pub ChangedGives : ℕ → List ℕ → List ℕ → List ℕ → List ℕ → List ℕ → List ℕ → Result (std.Option FirstUnused) Refusal → Type 0
+ChangedGives P xs text m u m' u' (Err r) = FirstBad P xs text r
+ChangedGives P xs text m u m' u' (Ok std.None) = NoneBad P xs text
+ChangedGives P xs text m u m' u' (Ok (std.Some r)) = ToUnused P xs text m u r.at r.line r.splits m' u'
 
 -- ---- the `u` lines
 
@@ -174,9 +173,9 @@ pub record OtherLine (text : List ℕ) (at : ℕ) : Type 0 where
   pub lines : lines_read (drop at text) ≡ head ∷ others
   pub early : (l : list.Line) → head ≡ some l → section l < 7
 
-abbrev pub UnusedLine : List ℕ → ℕ → Found → Type 0
-UnusedLine text at (found.Point v end) = lines.Says text at (list.isolated_point v) end
-UnusedLine text at found.Other = OtherLine text at
+abbrev pub UnusedLine : List ℕ → ℕ → std.Option UnusedPoint → Type 0
+UnusedLine text at (std.Some r) = lines.Says text at (list.isolated_point r.point) r.end
+UnusedLine text at std.None = OtherLine text at
 
 pub record UnusedAsks (text : List ℕ) (from number bound : ℕ) (u : List ℕ) : Type 0 where
   pub begins : from ≤ length text
@@ -192,22 +191,16 @@ pub record Before (ps : List Point) (xs text : List ℕ) (from number bound : �
   pub earlier : (v : ℕ) → precedes b.last (7 ∷ v ∷ []) ≡ true
 
 -- a place within a bound, if there is one
-abbrev pub Placed : ℕ → Verdict → Type 0
-Placed most Fine = Unit {0}
-Placed most (Refused n p) = p ≤ most
+abbrev pub Placed : ℕ → Result ⊤ Refusal → Type 0
+Placed most (Ok _) = Unit {0}
+Placed most (Err r) = place_of r ≤ most
 
-pub record UnusedGives (text : List ℕ) (from number bound : ℕ) (u : List ℕ) (r : Verdict) : Type 0 where
+pub record UnusedGives (text : List ℕ) (from number bound : ℕ) (u : List ℕ) (r : Result ⊤ Refusal) : Type 0 where
   pub placed : Placed (number + bound) r
   pub is : (ps : List Point) (xs : List ℕ) (b : Bench) → Before ps xs text from number bound u b → check_of r ≡ no15 ps (faces_of xs) text
 
 -- ---- the whole
 
-pub record BadList (P : ℕ) (xs text : List ℕ) (r : Verdict) : Type 0 where
+pub record BadList (P : ℕ) (xs text : List ℕ) (r : Result ⊤ Refusal) : Type 0 where
   pub is : (ps : List Point) → length ps ≡ P → check_of r ≡ no15 ps (faces_of xs) text
   pub placed : Placed (P + 11 * (length xs / 3)) r
-
--- few faces and points
-pub record Few (P : ℕ) (xs : List ℕ) : Type 0 where
-  pub input : input.Faces P xs
-  pub faces : length xs ≤ 12288
-  pub points : P ≤ 16384

@@ -3,7 +3,6 @@
 
 ghost use Rattle.refuse.specs.Accepted.{Faces};
 
-use refuse::Verdict;
 use std::io;
 
 // Looks a list through.
@@ -11,12 +10,12 @@ fn look(rt: &impl Print, text: &[u8], faces: &[u32], points: usize) -> io::Resul
     requires { Faces points faces.now }
 {
     match list_check::bad_list(text, faces, points) {
-        Verdict::Fine => {
+        Ok(()) => {
             println!(rt; "applies")?;
         }
-        Verdict::Refused(number, place) => {
-            show::number(rt, number as u64)?;
-            show::number(rt, place as u64)?;
+        Err(refusal) => {
+            show::number(rt, u64::from(refusal.number()))?;
+            show::number(rt, refusal.place() as u64)?;
             show::end_line(rt)?;
         }
     }

@@ -25,7 +25,7 @@ pub extern "C" fn bench_shape(points: &[f64], s: f64, a: u32, b: u32, c: u32) ->
     requires { Corners points.now a b c }
     ensures { result ≡ number_of (rule.shape s (points_of points.now) (face_of a b c)) }
 {
-    measure::number(measure::shape(points, s, a, b, c))
+    u32::from(measure::shape(points, s, a, b, c))
 }
 
 // Faces closed up by flags.

@@ -1,6 +1,7 @@
 -- The steps of `quality`, `area`, `distance`, `flat` and `shape`, over plain values. Assumes nothing.
 use mathlib.Core.Path.{◌≡◌, refl}
 use mathlib.Core.Bool.{Bool, true, false}
+use mathlib.Core.Logic.{◌⊎◌, inl, inr}
 use mathlib.Core.List.{List}
 use Prim.Native.Nat.{ℕ}
 use borrow.Author.Tests.{eq-eqb, ne_eqb}
@@ -60,20 +61,12 @@ module _
 
 -- ---- shape: the comparisons of corners in the rule's order, then the sine
 module _ (s : Float) (ps : List Point) (a b c : ℕ) where
-  -- corners 0 and 1 are equal
-  pub twice_ab : a ≡ b → repeated ≡ shape s ps (face_of a b c)
+  -- two corners are equal
+  pub twice : (a ≡ b) ⊎ (((a ≡ b → ⊥) × (b ≡ c)) ⊎ ((a ≡ b → ⊥) × (b ≡ c → ⊥) × (c ≡ a))) → repeated ≡ shape s ps (face_of a b c)
   unfolding shape repeats
-  twice_ab e = rw (eq-eqb a b e)
-
-  -- corners 1 and 2 are equal
-  pub twice_bc : (a ≡ b → ⊥) → b ≡ c → repeated ≡ shape s ps (face_of a b c)
-  unfolding shape repeats
-  twice_bc n e = rw (ne_eqb a b n, eq-eqb b c e)
-
-  -- corners 2 and 0 are equal
-  pub twice_ca : (a ≡ b → ⊥) → (b ≡ c → ⊥) → c ≡ a → repeated ≡ shape s ps (face_of a b c)
-  unfolding shape repeats
-  twice_ca n m e = rw (ne_eqb a b n, ne_eqb b c m, eq-eqb c a e)
+  twice (inl e) = rw (eq-eqb a b e)
+  twice (inr (inl h)) = rw (ne_eqb a b h.0, eq-eqb b c h.1)
+  twice (inr (inr h)) = rw (ne_eqb a b h.0, ne_eqb b c h.1, eq-eqb c a h.2)
 
   module _
       (n : a ≡ b → ⊥) (m : b ≡ c → ⊥) (l : c ≡ a → ⊥) {p0 p1 p2 : Point} (h0 : p0 ≡ point ps a) (h1 : p1 ≡ point ps b) (h2 : p2 ≡ point ps c)

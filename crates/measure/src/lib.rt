@@ -9,7 +9,7 @@ ghost use Rattle.rules.specs.Float as rule;
 ghost use Rattle.measure.specs.Measure.{point_of, shape_of, number_of, face_of, Corners};
 
 // A point, and also a difference of two points.
-#[derive(Clone, Copy)]
+#[derive(Clone, Copy, Debug, PartialEq)]
 pub struct Vector {
     pub x: f64,
     pub y: f64,
@@ -17,11 +17,24 @@ pub struct Vector {
 }
 
 // What the degeneracy test finds: nothing, two corners equal, or a sine not above the threshold.
-#[derive(Clone, Copy)]
+#[derive(Clone, Copy, Debug, PartialEq, Eq)]
 pub enum Form {
     Good,
     Repeated,
     Thin,
+}
+
+// A form as a number: 0 good, 1 repeated, 2 thin.
+impl From<Form> for u32 {
+    ghost from_gives = { λ form r. r ≡ number_of (shape_of form) };
+
+    fn from(form: Form) -> u32 {
+        match form {
+            Form::Good => 0,
+            Form::Repeated => 1,
+            Form::Thin => 2,
+        }
+    }
 }
 
 // 4·root(3), each step rounded.
@@ -32,7 +45,7 @@ pub fn at(points: &[f64], i: u32) -> Vector
     requires { i < length points.now / 3 }
     ensures { point_of result ≡ point (points_of points.now) i }
 {
-    let k = 3 * (i as usize);
+    let k = 3 * i as usize;
     Vector {
         x: points[k],
         y: points[k + 1],
@@ -97,13 +110,7 @@ pub fn shape(points: &[f64], s: f64, a: u32, b: u32, c: u32) -> Form
     requires { Corners points.now a b c }
     ensures { shape_of result ≡ rule.shape s (points_of points.now) (face_of a b c) }
 {
-    if a == b {
-        return Form::Repeated;
-    }
-    if b == c {
-        return Form::Repeated;
-    }
-    if c == a {
+    if a == b || b == c || c == a {
         return Form::Repeated;
     }
     let p0 = at(points, a);
@@ -113,17 +120,6 @@ pub fn shape(points: &[f64], s: f64, a: u32, b: u32, c: u32) -> Form
         return Form::Thin;
     }
     Form::Good
-}
-
-// A form as a number: 0 good, 1 repeated, 2 thin.
-pub fn number(form: Form) -> u32
-    ensures { result ≡ number_of (shape_of form) }
-{
-    match form {
-        Form::Good => 0,
-        Form::Repeated => 1,
-        Form::Thin => 2,
-    }
 }
 
 // The quality of the face with corners a, b, c: 0 if the sum of the squared lengths is <= 0, else ((4·root(3))·(norm(e0×e1)·0.5))/sum.

@@ -22,7 +22,7 @@ fn same(x: f64, bits: u64)
 fn found(form: Form, what: u32)
     requires { number_of (shape_of form) ≡ what }
 {
-    check::expect(measure::number(form) == what);
+    check::expect(u32::from(form) == what);
 }
 
 // The unit legs: with s = 1 the face is thin, with the f64 just below 1 it isn't.

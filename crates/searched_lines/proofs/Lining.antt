@@ -24,35 +24,23 @@ module _ (s : Float) (ps : List Float) (xs w : List ℕ) (f : ℕ) {r : Bool} (e
   unfolding degenerate_line
   gone_none n = rw (← e, n)
 
-  module _ (k : r ≡ true) {g : Corners} (v : seen_as g f ≡ view xs w f) (form : Shape) (ef : form ≡ shape s (points_of ps) (seen_as g 0)) {n : ℕ} (en : n ≡ measured.number_of form) where
-    by_form : shape_line form f ≡ degenerate_line s ps xs w f
+  module _ (k : r ≡ true) {g : Corners} (v : seen_as g f ≡ view xs w f) where
+    by_form : {form : Shape} → form ≡ shape s (points_of ps) (seen_as g 0) → shape_line form f ≡ degenerate_line s ps xs w f
     unfolding degenerate_line shape repeats
-    by_form = ap (λ x. shape_line x f) (ef ∙ ap (shape s (points_of ps)) v) ∙ rw (← e, k)
+    by_form ef = ap (λ x. shape_line x f) (ef ∙ ap (shape s (points_of ps)) v) ∙ rw (← e, k)
 
-    pub good_none : n ≡ 0 → 0 ≡ degenerate_line s ps xs w f
-    good_none z = go form (sym en ∙ z) ∙ by_form
-      where
-        go : (x : Shape) → measured.number_of x ≡ 0 → 0 ≡ shape_line x f
-        go good q = unfold shape_line in refl
-        go repeated q = absurd (omega arith)
-        go thin q = absurd (omega arith)
+    pub good_none : good ≡ shape s (points_of ps) (seen_as g 0) → 0 ≡ degenerate_line s ps xs w f
+    unfolding shape_line
+    good_none ef = by_form ef
 
     module _ {d : ℕ} (ed : d ≡ length (decimal f)) where
-      pub repeated_line : n ≡ 1 → 14 + d ≡ degenerate_line s ps xs w f
-      repeated_line z = go form (sym en ∙ z) ∙ by_form
-        where
-          go : (x : Shape) → measured.number_of x ≡ 1 → 14 + d ≡ shape_line x f
-          go good q = absurd (omega arith)
-          go repeated q = unfold shape_line drop_line in (omega (arith, ed))
-          go thin q = absurd (omega arith)
+      pub repeated_line : repeated ≡ shape s (points_of ps) (seen_as g 0) → 14 + d ≡ degenerate_line s ps xs w f
+      unfolding shape_line drop_line
+      repeated_line ef = let t : 14 + d ≡ shape_line repeated f = omega (arith, ed) in t ∙ by_form ef
 
-      pub thin_line : (n ≡ 0 → ⊥) → (n ≡ 1 → ⊥) → 10 + d ≡ degenerate_line s ps xs w f
-      thin_line z o = go form en ∙ by_form
-        where
-          go : (x : Shape) → n ≡ measured.number_of x → 10 + d ≡ shape_line x f
-          go good q = absurd (z q)
-          go repeated q = absurd (o q)
-          go thin q = unfold shape_line drop_line in (omega (arith, ed))
+      pub thin_line : thin ≡ shape s (points_of ps) (seen_as g 0) → 10 + d ≡ degenerate_line s ps xs w f
+      unfolding shape_line drop_line
+      thin_line ef = let t : 10 + d ≡ shape_line thin f = omega (arith, ed) in t ∙ by_form ef
 
 -- ---- a marked face
 

@@ -14,6 +14,8 @@ ghost use Rattle.searched_marks.specs.Marks.{FaceAsks};
 ghost use Rattle.entry_search.specs.Choosing.{BestAsks};
 ghost use Rattle.searched_lines.specs.Lines as by;
 
+use measure::Form;
+
 // The bytes of the line of face f in pass 1, at the threshold s; none if it stays.
 fn degenerate_line(points: &[f64], s: f64, faces: &[u32], words: &[u32], f: usize) -> usize
     requires { FaceAsks points.now faces.now words.now f }
@@ -23,16 +25,11 @@ fn degenerate_line(points: &[f64], s: f64, faces: &[u32], words: &[u32], f: usiz
         return 0;
     }
     let g = face_words::view(faces, words, f);
-    let form = measure::shape(points, s, g.a, g.b, g.c);
-    let kind = measure::number(form);
-    if kind == 0 {
-        return 0;
+    match measure::shape(points, s, g.a, g.b, g.c) {
+        Form::Good => 0,
+        Form::Repeated => 14 + byte_rows::number_length(f as u32),
+        Form::Thin => 10 + byte_rows::number_length(f as u32),
     }
-    let n = byte_rows::number_length(f as u32);
-    if kind == 1 {
-        return 14 + n;
-    }
-    10 + n
 }
 
 // The bytes of the lines of pass 1, at the threshold s.

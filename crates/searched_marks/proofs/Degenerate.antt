@@ -3,15 +3,19 @@ use mathlib.Core.Path.{◌≡◌, refl, sym, ap, subst, ◌∙◌}
 use mathlib.Core.Bool.{Bool, true, false, not, ◌&&◌, ◌||◌}
 use mathlib.Core.List.{List}
 use Prim.Native.Nat.{ℕ, ◌<◌}
-use lib.Dec.{T, eqb}
+use lib.Dec.{T}
+use denote.Enum.Bare.{sameb}
 use lib.ListN.{length}
 use lib.Ieee.{Float}
-use Rattle.rules.specs.Float.{Shape, good, repeated, thin, repeats, shape, is_repeated, is_thin}
+use Rattle.rules.specs.Float.{Shape, repeats, shape, is_repeated, is_thin}
 use Rattle.rules.specs.Mesh.{face, points_of}
 use Rattle.rules.specs.Pass1.{repeated1, thin1, marked1}
 use Rattle.rule_laws.proofs.Once.{CornersBelow}
 use Rattle.rule_laws.proofs.Flat.{length_points}
 use Rattle.measure.specs.Measure as measured
+use Rattle.measure.specs.contracts.Form.{the_type}
+use Rattle.measure.specs.declared.Form.{Form}
+use Rattle.measure.specs.declared.Form.TheVariants.{Good, Repeated, Thin}
 use Rattle.face_words.specs.Words.{stands, view, viewed, place}
 use Rattle.face_words.specs.Views.{seen_as}
 use Rattle.face_words.specs.declared.Corners.{Corners}
@@ -19,12 +23,12 @@ use Rattle.face_words.proofs.Places.{viewed_face}
 use Rattle.searched_marks.specs.Marks.{mark_at, FaceAsks}
 use Rattle.searched_marks.proofs.Losing.{view_inside}
 
--- only a good face has the number 0
-numbered : (x : Shape) → not (eqb (measured.number_of x) 0) ≡ (is_repeated x || is_thin x)
+-- only a good face leaves nothing to mark
+pub not_good : (x : Form) → not (sameb the_type x Good) ≡ (is_repeated (measured.shape_of x) || is_thin (measured.shape_of x))
 unfolding is_repeated is_thin
-numbered good = refl
-numbered repeated = refl
-numbered thin = refl
+not_good Good = refl
+not_good Repeated = refl
+not_good Thin = refl
 
 module _ {ps : List Float} {xs w : List ℕ} {f : ℕ} (p : FaceAsks ps xs w f) {g : Corners} (s : seen_as g f ≡ view xs w f) where
   pub shape_ok : measured.Corners ps g.a g.b g.c
@@ -33,11 +37,10 @@ module _ {ps : List Float} {xs w : List ℕ} {f : ℕ} (p : FaceAsks ps xs w f) 
       let e = length_points ps in
       record { a_in = rw e at b.0; b_in = rw e at b.1; c_in = rw e at b.2 }
 
-  pub mark1_is : {r : Bool} → r ≡ stands w f → r ≡ true → (t : Float) (form : Shape) → form ≡ shape t (points_of ps) (seen_as g 0) → {n : ℕ} → n ≡ measured.number_of form
-      → not (eqb n 0) ≡ mark_at (marked1 t (points_of ps)) xs w f
+  pub mark1_is : {r : Bool} → r ≡ stands w f → r ≡ true → (t : Float) {form : Shape} → form ≡ shape t (points_of ps) (seen_as g 0) → {b : Bool} → b ≡ (is_repeated form || is_thin form)
+      → b ≡ mark_at (marked1 t (points_of ps)) xs w f
   unfolding mark_at marked1 repeated1 thin1 shape repeats
-  mark1_is {r} e k t form ef {n} en =
-      ap (λ x. not (eqb x 0)) en
-      ∙ numbered form
+  mark1_is {r} e k t ef eb =
+      eb
       ∙ ap (λ x. is_repeated x || is_thin x) (ef ∙ ap (shape t (points_of ps)) (s ∙ sym (viewed_face xs w f p.here (subst T (sym (sym e ∙ k)) tt))))
       ∙ sym (ap (λ b. b && marked1 t (points_of ps) (viewed xs w) (place w f)) (sym e ∙ k))

@@ -4,4 +4,4 @@ use Rattle.measure.specs.Measure.{number_of}
 use Rattle.bench.proofs.bench_shape.Goals as goal
 
 pub returns : goal.returns
-returns c = c.number.ensures ∙ ap number_of c.shape.ensures
+returns c = c.from.ensures ∙ ap number_of c.shape.ensures

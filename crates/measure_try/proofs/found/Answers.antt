@@ -4,4 +4,4 @@ use borrow.Author.Tests.{eq-eqb}
 use Rattle.measure_try.proofs.found.Goals as goal
 
 pub expect-requires : goal.expect-requires
-expect-requires c = eq-eqb c.number.result c.args.what (c.number.ensures ∙ c.requires)
+expect-requires c = eq-eqb c.from.result c.args.what (c.from.ensures ∙ c.requires)

@@ -2,7 +2,7 @@
 use mathlib.Core.Path.{◌≡◌, refl, sym, ap, ◌∙◌, subst}
 use mathlib.Core.Bool.{Bool, true, false, true≢false}
 use mathlib.Core.List.{List, [], ◌∷◌}
-use Prim.Native.Nat.{ℕ, ◌+◌, ◌*◌, ◌/◌, ◌≤◌}
+use Prim.Native.Nat.{ℕ, ◌+◌, ◌*◌}
 use native.Mathlib.Omega.{arith}
 use lib.ListN.{length}
 use lib.Dec.{ltb}
@@ -14,14 +14,15 @@ use Rattle.rules.specs.Refusal.{Check, ok, no, decided}
 use Rattle.rules.specs.Edges.{no7, no8}
 use Rattle.rule_laws.proofs.Firsts.{fault_number}
 use Rattle.rule_laws.proofs.Decided.{is_ok}
-use Rattle.refuse.specs.Verdicts as refuse
-use Rattle.refuse.specs.declared.Verdict.{Verdict}
-use Rattle.refuse.specs.declared.Verdict.TheVariants.{Fine, Refused}
+use Rattle.std.specs.Prelude.{Result, Ok, Err}
+use Rattle.refuse.specs.Verdicts.{check_of, number_of, place_of}
+use Rattle.refuse.specs.declared.Refusal.{Refusal}
+use Rattle.refuse.specs.declared.Refusal.TheVariants.{BadBoundary}
+use Rattle.refuse.proofs.Refusals.{refusal_of, refusal_is}
 use Rattle.table.specs.Table.{TableAsks, TableGives}
 use Rattle.boundary.specs.Rows.{CrowdAsks, CrowdGives, BoundaryGives}
 use Rattle.boundary.proofs.Calling as calling
-use Rattle.drawing.specs.declared.Drawn.TheVariants as drawn
-use Rattle.drawing.specs.Drawing.{taken, judged, SizeAsks, JudgeAsks, JudgeGives, DrawAsks, DrawGives}
+use Rattle.drawing.specs.Drawing.{taken, judged, JudgeAsks, JudgeGives, DrawAsks, DrawGives}
 
 -- ---- by the table
 
@@ -31,7 +32,7 @@ module _ {w xs : List ℕ} {P m : ℕ} (a : JudgeAsks w xs P m) where
   crowd-asks = record { P = P; tabled = a.tabled }
 
   -- 7 alone: nothing is written
-  pub by_seven : {v : Verdict} → ((q : CrowdAsks w xs 0 m) → CrowdGives q v) → JudgeGives false w xs P m w v
+  pub by_seven : {v : Result Unit Refusal} → ((q : CrowdAsks w xs 0 m) → CrowdGives q v) → JudgeGives false w xs P m w v
   by_seven g =
       record {
         only = only_none 0 (5 * length xs + 1 + P) w;
@@ -40,7 +41,7 @@ module _ {w xs : List ℕ} {P m : ℕ} (a : JudgeAsks w xs P m) where
       }
 
   -- 7 and 8: only the rows are written
-  pub by_both : {w' : List ℕ} {v : Verdict} → BoundaryGives w xs P 0 m (5 * length xs + 1 + P) w' v → JudgeGives true w xs P m w' v
+  pub by_both : {w' : List ℕ} {v : Result Unit Refusal} → BoundaryGives w xs P 0 m (5 * length xs + 1 + P) w' v → JudgeGives true w xs P m w' v
   by_both g =
       let s : 5 * length xs + 1 + P + 2 * P ≡ 5 * length xs + 1 + 3 * P = omega arith in
       record {
@@ -59,22 +60,18 @@ module _ {w xs : List ℕ} {P : ℕ} (a : DrawAsks w xs P) where
     pub judge_asks : JudgeAsks w₁ xs P m
     judge_asks = calling.boundary_asks a.faces a.room t
 
-    module _ {loops : Bool} {w₂ : List ℕ} {v : Verdict} (g : JudgeGives loops w₁ xs P m w₂ v) where
-      -- nothing beyond what is taken is written
-      both_only : Only 0 (taken loops P (length xs)) w w₂
-      both_only = go loops g.only
-        where
-          go : (b : Bool) → Only 0 (taken b P (length xs)) w₁ w₂ → Only 0 (taken b P (length xs)) w w₂
-          go true o = only_both (only_more (omega arith) (omega arith) t.only) o
-          go false o = only_both (only_more (omega arith) (omega arith) t.only) o
+    -- nothing beyond what is taken is written
+    both_only : (loops : Bool) {w₂ : List ℕ} → Only 0 (taken loops P (length xs)) w₁ w₂ → Only 0 (taken loops P (length xs)) w w₂
+    both_only true o = only_both (only_more (omega arith) (omega arith) t.only) o
+    both_only false o = only_both (only_more (omega arith) (omega arith) t.only) o
 
-      -- no refusal: all stands
-      pub is_ready : v ≡ Fine → DrawGives loops w xs P w₂ (drawn.Ready m)
-      is_ready e = record { only = both_only; says = sym (ap refuse.check_of e) ∙ g.says; stands = g.stands e }
+    -- no refusal: all stands
+    pub is_ready : {loops : Bool} {w₂ : List ℕ} → JudgeGives loops w₁ xs P m w₂ (Ok tt) → DrawGives loops w xs P w₂ (Ok m)
+    is_ready {loops} g = record { only = both_only loops g.only; says = g.says; stands = g.stands refl }
 
-      -- a refusal
-      pub is_refused : {n p : ℕ} → v ≡ Refused n p → DrawGives loops w xs P w₂ (drawn.Refused n p)
-      is_refused e = record { only = both_only; says = sym (ap refuse.check_of e) ∙ g.says; stands = tt }
+    -- a refusal
+    pub is_refused : {loops : Bool} {w₂ : List ℕ} {e : Refusal} → JudgeGives loops w₁ xs P m w₂ (Err e) → DrawGives loops w xs P w₂ (Err e)
+    is_refused {loops} g = record { only = both_only loops g.only; says = g.says; stands = tt }
 
 -- ---- by the faces alone
 
@@ -127,12 +124,15 @@ module _ (P : ℕ) (xs : List ℕ) where
       go (no m q) d f k = k
 
   -- ---- so what both found tells what 7 finds
-  module _ {v : Verdict} (s : refuse.check_of v ≡ both) where
-    pub alone_none : v ≡ Fine → ok ≡ judged false P xs
-    alone_none e = sym (fine_seven (sym s ∙ ap refuse.check_of e))
 
-    pub alone_eight : {n p : ℕ} → v ≡ Refused n p → n ≡ 8 → ok ≡ judged false P xs
-    alone_eight {n} {p} e h = sym (eight_seven p (sym s ∙ ap refuse.check_of e ∙ ap (λ k. no k p) h))
+  -- 8 is nothing for it
+  pub alone_eight : {p : ℕ} → check_of {A = Unit} (Err (BadBoundary p)) ≡ both → ok ≡ judged false P xs
+  alone_eight {p} s = sym (eight_seven p (sym s))
 
-    pub alone_seven : {n p : ℕ} → v ≡ Refused n p → (n ≡ 8 → ⊥) → no n p ≡ judged false P xs
-    alone_seven {n} {p} e h = sym (other_seven n p h (sym s ∙ ap refuse.check_of e))
+  -- nor is nothing
+  pub alone_none : ok ≡ both → ok ≡ judged false P xs
+  alone_none s = sym (fine_seven (sym s))
+
+  -- all else stays
+  pub alone_seven : {e : Refusal} → check_of {A = Unit} (Err e) ≡ both → ((p : ℕ) → e ≡ BadBoundary p → ⊥) → check_of {A = Unit} (Err e) ≡ judged false P xs
+  alone_seven {e} s n = sym (other_seven (number_of e) (place_of e) (λ h. n (place_of e) (sym (refusal_is e) ∙ ap (λ k. refusal_of k (place_of e)) h)) (sym s))

@@ -1,18 +1,15 @@
 -- The words of this crate's contracts, over a work room w, a flat list of faces xs and P points; `loops` says whether loops are wanted. Definitions only.
-use Rattle.std.specs.Prelude.{◌≡◌, Bool, true, false, List, [], ◌∷◌, ℕ, ◌+◌, ◌*◌, ◌/◌, ◌≤◌, length}
+use Rattle.std.specs.Prelude.{◌≡◌, Result, Ok, Err, Bool, true, false, List, [], ◌∷◌, ℕ, ◌+◌, ◌*◌, ◌/◌, ◌≤◌, length}
 use Rattle.rows.specs.Region.{Only, Holds}
 use Rattle.rules.specs.Mesh.{faces_of}
-use Rattle.rules.specs.Refusal.{Check, ok, no, decided, most_points, most_faces}
+use Rattle.rules.specs.Refusal.{Check, decided, most_points, most_faces}
 use Rattle.rules.specs.Rooms.{work_room}
 use Rattle.rules.specs.Edges.{no7, no8, boundary}
 use Rattle.refuse.specs.Accepted.{Faces}
-use Rattle.refuse.specs.Verdicts as refuse
-use Rattle.refuse.specs.declared.Verdict.{Verdict}
-use Rattle.refuse.specs.declared.Verdict.TheVariants.{Fine}
+use Rattle.refuse.specs.Verdicts.{check_of}
+use Rattle.refuse.specs.declared.Refusal.{Refusal}
 use Rattle.table.specs.Table.{Tabled}
 use Rattle.boundary.specs.Rows.{onward, BoundaryAsks}
-use Rattle.drawing.specs.declared.Drawn.{Drawn}
-use Rattle.drawing.specs.declared.Drawn.TheVariants.{Ready, Refused}
 
 -- numbers that may be multiplied
 pub record SizeAsks (corners P : ℕ) : Type 0 where
@@ -29,11 +26,6 @@ abbrev pub judged : Bool → ℕ → List ℕ → Check
 judged true P xs = decided (no7 P (faces_of xs) ∷ no8 P (faces_of xs) ∷ [])
 judged false P xs = decided (no7 P (faces_of xs) ∷ [])
 
--- ours, as a check
-abbrev pub check_of : Drawn → Check
-check_of (Ready m) = ok
-check_of (Refused n p) = no n p
-
 -- the table of m edges stands in the work room, and for loops where the boundary goes on
 pub record Stands (loops : Bool) (w xs : List ℕ) (P m : ℕ) : Type 0 where
   pub tabled : Tabled w xs P false 0 m
@@ -43,11 +35,11 @@ pub record Stands (loops : Bool) (w xs : List ℕ) (P m : ℕ) : Type 0 where
 abbrev pub JudgeAsks : List ℕ → List ℕ → ℕ → ℕ → Type 0
 JudgeAsks w xs P m = BoundaryAsks w xs P 0 m (5 * length xs + 1 + P)
 
--- the verdict is the rules'; where it is fine, all stands
-pub record JudgeGives (loops : Bool) (w xs : List ℕ) (P m : ℕ) (w' : List ℕ) (r : Verdict) : Type 0 where
+-- the verdict is the rules'; where it is Ok, all stands
+pub record JudgeGives (loops : Bool) (w xs : List ℕ) (P m : ℕ) (w' : List ℕ) (r : Result Unit Refusal) : Type 0 where
   pub only : Only 0 (taken loops P (length xs)) w w'
-  pub says : refuse.check_of r ≡ judged loops P xs
-  pub stands : r ≡ Fine → Stands loops w' xs P m
+  pub says : check_of r ≡ judged loops P xs
+  pub stands : r ≡ Ok tt → Stands loops w' xs P m
 
 -- accepted faces, and the stated work room
 pub record DrawAsks (w xs : List ℕ) (P : ℕ) : Type 0 where
@@ -55,23 +47,23 @@ pub record DrawAsks (w xs : List ℕ) (P : ℕ) : Type 0 where
   pub room : work_room P (length xs / 3) ≤ length w
 
 -- it stands where nothing is refused
-abbrev pub Standing : Bool → List ℕ → ℕ → List ℕ → Drawn → Type 0
-Standing loops xs P w (Ready m) = Stands loops w xs P m
-Standing loops xs P w (Refused n p) = Unit {0}
+abbrev pub Standing : Bool → List ℕ → ℕ → List ℕ → Result ℕ Refusal → Type 0
+Standing loops xs P w (Ok m) = Stands loops w xs P m
+Standing loops xs P w (Err e) = Unit {0}
 
 -- it does, or the work room is as it was
-abbrev pub Prepared : Bool → List ℕ → List ℕ → ℕ → List ℕ → Drawn → Type 0
-Prepared loops w xs P w' (Ready m) = Stands loops w' xs P m
-Prepared loops w xs P w' (Refused n p) = w' ≡ w
+abbrev pub Prepared : Bool → List ℕ → List ℕ → ℕ → List ℕ → Result ℕ Refusal → Type 0
+Prepared loops w xs P w' (Ok m) = Stands loops w' xs P m
+Prepared loops w xs P w' (Err e) = w' ≡ w
 
 -- the verdict is the rules'; where it is none, all stands
-pub record DrawGives (loops : Bool) (w xs : List ℕ) (P : ℕ) (w' : List ℕ) (r : Drawn) : Type 0 where
+pub record DrawGives (loops : Bool) (w xs : List ℕ) (P : ℕ) (w' : List ℕ) (r : Result ℕ Refusal) : Type 0 where
   pub only : Only 0 (taken loops P (length xs)) w w'
   pub says : check_of r ≡ judged loops P xs
   pub stands : Standing loops xs P w' r
 
 -- and a refusal leaves the work room as it was
-pub record PrepareGives (loops : Bool) (w xs : List ℕ) (P : ℕ) (w' : List ℕ) (r : Drawn) : Type 0 where
+pub record PrepareGives (loops : Bool) (w xs : List ℕ) (P : ℕ) (w' : List ℕ) (r : Result ℕ Refusal) : Type 0 where
   pub only : Only 0 (work_room P (length xs / 3)) w w'
   pub says : check_of r ≡ judged loops P xs
   pub prepared : Prepared loops w xs P w' r

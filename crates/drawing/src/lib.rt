@@ -13,14 +13,7 @@ ghost use Rattle.refuse.specs.Accepted.{Faces};
 ghost use Rattle.refuse.specs.Verdicts as by;
 ghost use Rattle.drawing.specs.Drawing.{taken, judged, SizeAsks, JudgeAsks, JudgeGives, DrawAsks, DrawGives, PrepareGives};
 
-use refuse::Verdict;
-
-// Whether 7, and for loops 8, let the call go on: the number of unique edges, or a refusal's number and place.
-#[derive(Drop)]
-pub enum Drawn {
-    Ready(usize),
-    Refused(u32, usize),
-}
+use refuse::Refusal;
 
 // How many entries of the work room are taken: those of the table, and for loops those of the boundary's rows.
 fn taken(corners: usize, count: usize, loops: bool) -> usize
@@ -34,7 +27,13 @@ fn taken(corners: usize, count: usize, loops: bool) -> usize
 }
 
 // 7, and for loops 8, from the table of m edges; for loops the rows of the boundary are made.
-fn judge(work: &mut [u32], faces: &[u32], count: usize, m: usize, loops: bool) -> Verdict
+fn judge(
+    work: &mut [u32],
+    faces: &[u32],
+    count: usize,
+    m: usize,
+    loops: bool,
+) -> Result<(), Refusal>
     requires { JudgeAsks work.old faces.now count m }
     ensures { JudgeGives loops work.old faces.now count m work.new result }
 {
@@ -44,20 +43,18 @@ fn judge(work: &mut [u32], faces: &[u32], count: usize, m: usize, loops: bool) -
     boundary::crowd(work, faces, 0, m)
 }
 
-// Makes the table of the edges, for loops the rows of the boundary, and decides by them.
-fn draw(work: &mut [u32], faces: &[u32], count: usize, loops: bool) -> Drawn
+// Makes the table of the edges, for loops the rows of the boundary, and decides by them. Returns the number of unique edges.
+fn draw(work: &mut [u32], faces: &[u32], count: usize, loops: bool) -> Result<usize, Refusal>
     requires { DrawAsks work.old faces.now count }
     ensures { DrawGives loops work.old faces.now count work.new result }
 {
     let m = table::table(work, faces, count, false, 0);
-    match judge(work, faces, count, m, loops) {
-        Verdict::Fine => Drawn::Ready(m),
-        Verdict::Refused(number, place) => Drawn::Refused(number, place),
-    }
+    judge(work, faces, count, m, loops)?;
+    Ok(m)
 }
 
 // The same verdict from the faces alone. Only a loop call is refused 8.
-fn alone(count: usize, faces: &[u32], loops: bool) -> Verdict
+fn alone(count: usize, faces: &[u32], loops: bool) -> Result<(), Refusal>
     requires { Faces count faces.now }
     ensures { by.check_of result ≡ judged loops count faces.now }
 {
@@ -65,40 +62,29 @@ fn alone(count: usize, faces: &[u32], loops: bool) -> Verdict
     if loops {
         return found;
     }
-    match found {
-        Verdict::Fine => Verdict::Fine,
-        Verdict::Refused(number, place) => {
-            if number == 8 {
-                return Verdict::Fine;
-            }
-            Verdict::Refused(number, place)
-        }
+    let Err(refusal) = found else {
+        return Ok(());
+    };
+    match refusal {
+        Refusal::BadBoundary(_) => Ok(()),
+        _ => Err(refusal),
     }
 }
 
 // 7, and for loops 8. Where what is taken of the work room is all zero, table and rows are made there, and cleared again on a refusal; else the verdict is
-// reached from the faces alone first.
-pub fn prepare(work: &mut [u32], faces: &[u32], count: usize, loops: bool) -> Drawn
+// reached from the faces alone first. Returns the number of unique edges.
+pub fn prepare(work: &mut [u32], faces: &[u32], count: usize, loops: bool) -> Result<usize, Refusal>
     requires { DrawAsks work.old faces.now count }
     ensures { PrepareGives loops work.old faces.now count work.new result }
 {
     let size = taken(faces.len(), count, loops);
     if wiping::is_zero(work, size) {
-        match draw(work, faces, count, loops) {
-            Drawn::Ready(m) => {
-                return Drawn::Ready(m);
-            }
-            Drawn::Refused(number, place) => {
-                rows::clear(work, 0, size);
-                return Drawn::Refused(number, place);
-            }
+        let found = draw(work, faces, count, loops);
+        if found.is_err() {
+            rows::clear(work, 0, size);
         }
+        return found;
     }
-    match alone(count, faces, loops) {
-        Verdict::Fine => {}
-        Verdict::Refused(number, place) => {
-            return Drawn::Refused(number, place);
-        }
-    }
+    alone(count, faces, loops)?;
     draw(work, faces, count, loops)
 }

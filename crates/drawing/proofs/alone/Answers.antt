@@ -5,11 +5,11 @@ use Rattle.drawing.proofs.alone.Goals as goal
 pub returns-then-loops : goal.returns-then-loops
 returns-then-loops c = rw c.if-loops.true c.loop_verdict-found.ensures
 
-pub returns-then-number-eq8 : goal.returns-then-number-eq8
-returns-then-number-eq8 c = rw c.if-loops.false (alone_eight _ _ c.loop_verdict-found.ensures c.in-Refused.is c.if-number-eq8.true)
+pub returns-in_default : goal.returns-in_default
+returns-in_default c = rw c.if-loops.false (alone_none _ _ c.in_default.ensures)
 
-pub returns-in-Fine : goal.returns-in-Fine
-returns-in-Fine c = rw c.if-loops.false (alone_none _ _ c.loop_verdict-found.ensures c.in-Fine.is)
+pub returns-in-BadBoundary : goal.returns-in-BadBoundary
+returns-in-BadBoundary c = rw c.if-loops.false (alone_eight _ _ (rw c.in-BadBoundary.is at c.in-Err.ensures))
 
-pub returns-else-number-eq8 : goal.returns-else-number-eq8
-returns-else-number-eq8 c = rw c.if-loops.false (alone_seven _ _ c.loop_verdict-found.ensures c.in-Refused.is c.if-number-eq8.false)
+pub returns-in_default-refusal : goal.returns-in_default-refusal
+returns-in_default-refusal c = rw c.if-loops.false (alone_seven _ _ c.in-Err.ensures c.in_default-refusal.not-BadBoundary)

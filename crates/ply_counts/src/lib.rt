@@ -5,25 +5,25 @@ ghost use Rattle.std.specs.Prelude.{◌≡◌};
 ghost use Rattle.rules.specs.PlyCountsCall as rule;
 ghost use Rattle.ply_counts.specs.Answers.{outcome_of};
 
-use ply_file::Header;
-use refuse::Verdict;
+use refuse::Refusal;
 
-// What the call gives back: P and F, or a refusal's number and place.
-#[derive(Drop)]
-pub enum Counted {
-    Done(usize, usize),
-    Refused(u32, usize),
+// The counts of a file in the form.
+#[derive(Clone, Copy, Debug, PartialEq, Eq)]
+pub struct Counted {
+    pub points: usize,
+    pub faces: usize,
 }
 
 // P and F of a file: refused 13 where it has another form, 2 where it has too many.
-pub fn ply_counts(file: &[u8]) -> Counted
+pub fn ply_counts(file: &[u8]) -> Result<Counted, Refusal>
     ensures { outcome_of result ≡ rule.ply_counts file.now }
 {
-    let Header::Is(p, f, at) = ply_file::head(file) else {
-        return Counted::Refused(13, 0);
+    let Some(header) = ply_file::head(file) else {
+        return Err(Refusal::BadPly);
     };
-    match refuse::counts(p, f) {
-        Verdict::Fine => Counted::Done(p, f),
-        Verdict::Refused(number, place) => Counted::Refused(number, place),
-    }
+    refuse::counts(header.vertices, header.faces)?;
+    Ok(Counted {
+        points: header.vertices,
+        faces: header.faces,
+    })
 }

@@ -1,7 +1,8 @@
 -- The outcome of reading: a refusal that leaves every room as it was, or points and triples in their rooms. Assumes nothing.
+use Rattle.std.specs.Prelude.{Ok, Err}
 use mathlib.Core.Path.{◌≡◌, refl, sym, ap, ap₂, subst, ◌∙◌}
 use mathlib.Core.List.{List, [], ◌∷◌}
-use Prim.Native.Nat.{ℕ, ◌+◌, ◌-◌, ◌*◌, ◌≤◌, ◌<◌}
+use Prim.Native.Nat.{ℕ, ◌+◌, ◌*◌, ◌≤◌, ◌<◌}
 use native.Mathlib.Nat.{zero-add}
 use native.Mathlib.Omega.{arith}
 use lib.ListN.{length, get_or, take}
@@ -10,19 +11,16 @@ use lib.Ieee.{Float, nan}
 use Rattle.rows.specs.Region.{Only, Filled}
 use Rattle.filling.proofs.Filling.{filled_whole, cleared_is}
 use Rattle.rules.specs.Mesh.{Point, Face, point, face, points_of, faces_of, flat_points, flat_faces, zero64}
-use Rattle.rules.specs.Refusal.{decided}
+use Rattle.rules.specs.Refusal.{Check, ok, no, decided}
 use Rattle.rules.specs.Rooms.{work_room, filled, cleared, outcome, accepted}
 use Rattle.rules.specs.Ply.{vertices_in, faces_in_is, real_at, points_of_bytes, triples_of}
 use Rattle.rules.specs.ReadPlyCall.{ReadPlyRooms, read_ply_check, read_ply}
 use Rattle.rule_laws.proofs.Flat.{length_points, length_faces, point_in, face_in, flat_points_back, flat_faces_back, same_point, same_face}
-use Rattle.refuse.specs.Verdicts.{check_of, Limits}
-use Rattle.refuse.specs.declared.Verdict.{Verdict}
-use Rattle.refuse.specs.declared.Verdict.TheVariants.{Fine, Refused}
-use Rattle.ply_file.specs.Files.{Whole, Formless, point_at, face_at, PlyAccepted, ply_list}
+use Rattle.refuse.specs.declared.Refusal.{Refusal}
+use Rattle.refuse.specs.Verdicts.{number_of, place_of, Limits}
+use Rattle.ply_file.specs.Files.{Whole, point_at, face_at, PlyAccepted, ply_list}
 use Rattle.ply_file.proofs.Scanning as scan
-use Rattle.ply_file.proofs.Deciding.{is_formless}
 use Rattle.ply_file.proofs.Accept.{ply_is, ply_accepted}
-use Rattle.read_ply.specs.declared.Read.TheVariants as read_as
 use Rattle.read_ply.specs.Answers.{rooms_of, outcome_of}
 use Rattle.read_ply.specs.Bodies.{CoordinatesAsk, CoordinatesGive, TriplesAsk, TriplesGive}
 
@@ -33,8 +31,7 @@ pub record Sizes (p f at file work : ℕ) : Type 0 where
   pub file_long : at + 24 * p + 13 * f ≤ file
   pub work_long : work_room p f ≤ work
 
-module _ (file : List ℕ) (ps : List Float) (xs w : List ℕ) (v : Verdict)
-    (e : check_of v ≡ decided (ply_list file (length ps) (length xs) (length w))) where
+module _ (file : List ℕ) (ps : List Float) (xs w : List ℕ) where
   -- the entries that stand in each room
   abbrev entries : List ℕ
   entries = 3 * vertices_in file ∷ 3 * faces_in_is file ∷ []
@@ -48,24 +45,21 @@ module _ (file : List ℕ) (ps : List Float) (xs w : List ℕ) (v : Verdict)
         work = cleared (work_room (vertices_in file) (faces_in_is file)) w;
       }
 
-  -- the rules' check is the verdict
-  verdict_is : check_of v ≡ read_ply_check file (rooms_of ps xs w)
-  verdict_is = e ∙ ply_is file (rooms_of ps xs w)
+  -- the rules' check is what the checks found
+  found_is : {c : Check} → c ≡ decided (ply_list file (length ps) (length xs) (length w)) → c ≡ read_ply_check file (rooms_of ps xs w)
+  found_is e = e ∙ ply_is file (rooms_of ps xs w)
 
   -- a refusal changes no buffer
-  pub is_refused : (n p : ℕ) → v ≡ Refused n p → outcome_of (read_as.Refused n p) ps xs w ≡ read_ply file (rooms_of ps xs w)
+  pub is_refused :
+      (r : Refusal) → no (number_of r) (place_of r) ≡ decided (ply_list file (length ps) (length xs) (length w))
+      → outcome_of (Err r) ps xs w ≡ read_ply file (rooms_of ps xs w)
   unfolding read_ply outcome
-  is_refused n p t = ap (λ c. outcome c (rooms_of ps xs w) entries after) (sym (ap check_of t) ∙ verdict_is)
+  is_refused r e = ap (λ c. outcome c (rooms_of ps xs w) entries after) (found_is e)
 
-  -- nor does that of a file without the form
-  pub is_other : Formless file → outcome_of (read_as.Refused 13 0) ps xs w ≡ read_ply file (rooms_of ps xs w)
-  unfolding read_ply outcome
-  is_other h = ap (λ c. outcome c (rooms_of ps xs w) entries after) (is_formless file _ h ∙ ply_is file (rooms_of ps xs w))
-
-  module _ (t : v ≡ Fine) {p f at : ℕ} (h : Whole file p f at) where
+  module _ (e : ok ≡ decided (ply_list file (length ps) (length xs) (length w))) {p f at : ℕ} (h : Whole file p f at) where
     -- what an accepted file says
     is_accepted : PlyAccepted file (length ps) (length xs) (length w)
-    is_accepted = ply_accepted file (length ps) (length xs) (length w) (sym e ∙ ap check_of t)
+    is_accepted = ply_accepted file (length ps) (length xs) (length w) (sym e)
 
     -- so everything can be reckoned
     pub sizes : Sizes p f at (length file) (length w)
@@ -155,13 +149,13 @@ module _ (file : List ℕ) (ps : List Float) (xs w : List ℕ) (v : Verdict)
     pub is_done :
         {ps1 : List Float} {xs1 w1 : List ℕ} → CoordinatesGive file at (3 * p) ps ps1 → TriplesGive file (at + 24 * p) f xs xs1
         → {n : ℕ} → n ≡ work_room p f → Only 0 n w w1 → Filled 0 n 0 w1
-        → outcome_of (read_as.Done (3 * p) (3 * f)) ps1 xs1 w1 ≡ read_ply file (rooms_of ps xs w)
+        → outcome_of (Ok (record { points = 3 * p; faces = 3 * f })) ps1 xs1 w1 ≡ read_ply file (rooms_of ps xs w)
     unfolding read_ply outcome
-    is_done {ps1} {xs1} {w1} g k e ow hw =
+    is_done {ps1} {xs1} {w1} g k q ow hw =
         let a : ps1 ≡ after.points = filled_whole zero64 points_long g.only (points_are g) ∙ ap (λ (j : ℕ). filled zero64 (3 * j) (flat_points (points_of_bytes file)) ps) (sym h.vertices) in
         let b : xs1 ≡ after.faces = filled_whole 0 faces_long k.only (triples_are k) ∙ ap (λ (j : ℕ). filled 0 (3 * j) (flat_faces (triples_of file)) xs) (sym h.faces) in
-        let c : w1 ≡ after.work = cleared_is sizes.work_long (rw e at ow) (rw e at hw) ∙ ap₂ (λ (i j : ℕ). cleared (work_room i j) w) (sym h.vertices) (sym h.faces) in
+        let c : w1 ≡ after.work = cleared_is sizes.work_long (rw q at ow) (rw q at hw) ∙ ap₂ (λ (i j : ℕ). cleared (work_room i j) w) (sym h.vertices) (sym h.faces) in
         ap₂ (λ (l : List ℕ) (rooms : ReadPlyRooms). record { answer = accepted l; rooms = rooms })
         (ap₂ (λ (i j : ℕ). 3 * i ∷ 3 * j ∷ []) (sym h.vertices) (sym h.faces))
         (λ i. record { points = a i; faces = b i; work = c i })
-        ∙ ap (λ c. outcome c (rooms_of ps xs w) entries after) (sym (ap check_of t) ∙ verdict_is)
+        ∙ ap (λ c. outcome c (rooms_of ps xs w) entries after) (found_is e)

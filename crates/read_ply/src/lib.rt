@@ -6,14 +6,13 @@ ghost use Rattle.rules.specs.ReadPlyCall as rule;
 ghost use Rattle.read_ply.specs.Answers.{rooms_of, outcome_of};
 ghost use Rattle.read_ply.specs.Bodies.{CoordinatesAsk, CoordinatesGive, TriplesAsk, TriplesGive};
 
-use ply_file::Header;
-use refuse::Verdict;
+use refuse::Refusal;
 
-// What reading gives back: how many entries stand in the points and in the faces room, or a refusal's number and place.
-#[derive(Drop)]
-pub enum Read {
-    Done(usize, usize),
-    Refused(u32, usize),
+// What an accepted file gives: how many entries stand in the points and in the faces room.
+#[derive(Clone, Copy, Debug, PartialEq, Eq)]
+pub struct Read {
+    pub points: usize,
+    pub faces: usize,
 }
 
 // Stores n coordinates, which begin at `at`, in the points room.
@@ -42,21 +41,23 @@ fn triples(file: &[u8], at: usize, f: usize, faces: &mut [u32])
 }
 
 // Reads a file: its vertices and triples, bit by bit. Then the rooms: each answer fills its stated room, the work room is all zero.
-pub fn read_ply(file: &[u8], points: &mut [f64], faces: &mut [u32], work: &mut [u32]) -> Read
+pub fn read_ply(
+    file: &[u8],
+    points: &mut [f64],
+    faces: &mut [u32],
+    work: &mut [u32],
+) -> Result<Read, Refusal>
     ensures { let before = rooms_of points.old faces.old work.old in
         outcome_of result points.new faces.new work.new ≡ rule.read_ply file.now before }
 {
-    match ply_file::ply_check(file, points.len(), faces.len(), work.len()) {
-        Verdict::Fine => {}
-        Verdict::Refused(number, place) => {
-            return Read::Refused(number, place);
-        }
-    }
-    let Header::Is(p, f, at) = ply_file::head(file) else {
-        return Read::Refused(13, 0);
-    };
-    coordinates(file, at, 3 * p, points);
-    triples(file, at + 24 * p, f, faces);
+    let header = ply_file::ply_check(file, points.len(), faces.len(), work.len())?;
+    let p = header.vertices;
+    let f = header.faces;
+    coordinates(file, header.body, 3 * p, points);
+    triples(file, header.body + 24 * p, f, faces);
     wiping::wipe(work, 0, refuse::stated_work(p, f));
-    Read::Done(3 * p, 3 * f)
+    Ok(Read {
+        points: 3 * p,
+        faces: 3 * f,
+    })
 }

@@ -1,4 +1,5 @@
 -- The outcome of writing: a refusal that leaves every room as it was, or the file in its room. Assumes nothing.
+use Rattle.std.specs.Prelude.{Ok, Err}
 use mathlib.Core.Path.{◌≡◌, refl, sym, ap, ap₂, subst, ◌∙◌}
 use mathlib.Core.Bool.{not}
 use mathlib.Core.List.{List, [], ◌∷◌, ◌++◌, append-nil}
@@ -13,7 +14,8 @@ use Rattle.byte_rows.specs.Put.{Puts}
 use Rattle.byte_rows.proofs.Putting.{puts_both, puts_front}
 use Rattle.rules.specs.Lists.{all, each}
 use Rattle.rules.specs.Mesh.{Point, point, points_of, faces_of, flat_points, coordinates, zero64}
-use Rattle.rules.specs.Refusal.{ok, decided, in_domain, no4}
+use Rattle.rules.specs.Refusal.{Check, ok, decided, in_domain, no4}
+use Rattle.rules.specs.Refusal as refusal
 use Rattle.rules.specs.Rooms.{work_room, filled, cleared, outcome, accepted}
 use Rattle.rules.specs.Ply.{header, vertex, triple, ply}
 use Rattle.rules.specs.WritePlyCall.{WritePlyRooms, write_ply_check, write_ply}
@@ -22,12 +24,10 @@ use Rattle.rule_laws.proofs.Flat.{length_points, length_faces, point_in, flat_po
 use Rattle.rule_laws.proofs.Firsts.{fine_exactly}
 use Rattle.rule_laws.proofs.Equal.{no_nan, near_all}
 use Rattle.rule_laws.proofs.PlyWritten.{vertex_long}
-use Rattle.refuse.specs.Verdicts.{check_of, Limits}
-use Rattle.refuse.specs.declared.Verdict.{Verdict}
-use Rattle.refuse.specs.declared.Verdict.TheVariants.{Fine, Refused}
+use Rattle.refuse.specs.declared.Refusal.{Refusal}
+use Rattle.refuse.specs.Verdicts.{number_of, place_of, Limits}
 use Rattle.write_ply_refusal.specs.Checks.{write_ply_list, WritePlyAccepted}
 use Rattle.write_ply_refusal.proofs.Accept.{write_ply_is, write_ply_accepted}
-use Rattle.write_ply.specs.declared.Wrote.TheVariants as Wrote-as
 use Rattle.write_ply.specs.Written.{HeaderAsks, real, RealsAsk, TriplesAsk, rooms_of, outcome_of}
 
 -- ---- the coordinates as the rules put them
@@ -61,7 +61,7 @@ numbers ps h e i l =
 
 -- ---- the call
 
-module _ (ps : List Float) (fs file w : List ℕ) (v : Verdict) (e : check_of v ≡ decided (write_ply_list ps fs (length file) (length w))) where
+module _ (ps : List Float) (fs file w : List ℕ) where
   -- the number of points
   abbrev P : ℕ
   P = length ps / 3
@@ -78,19 +78,21 @@ module _ (ps : List Float) (fs file w : List ℕ) (v : Verdict) (e : check_of v 
   abbrev after : WritePlyRooms
   after = record { file = filled 0 (length made) made file; work = cleared (work_room P F) w }
 
-  -- the rules' check is the verdict
-  verdict_is : check_of v ≡ write_ply_check ps fs (rooms_of file w)
-  verdict_is = e ∙ write_ply_is ps fs (rooms_of file w)
+  -- the rules' check is what the checks found
+  found_is : {c : Check} → c ≡ decided (write_ply_list ps fs (length file) (length w)) → c ≡ write_ply_check ps fs (rooms_of file w)
+  found_is e = e ∙ write_ply_is ps fs (rooms_of file w)
 
   -- a refusal changes no buffer
-  pub is_refused : (n p : ℕ) → v ≡ Refused n p → outcome_of (Wrote-as.Refused n p) file w ≡ write_ply ps fs (rooms_of file w)
+  pub is_refused :
+      (r : Refusal) → refusal.no (number_of r) (place_of r) ≡ decided (write_ply_list ps fs (length file) (length w))
+      → outcome_of (Err r) file w ≡ write_ply ps fs (rooms_of file w)
   unfolding write_ply outcome
-  is_refused n p t = ap (λ c. outcome c (rooms_of file w) (length made ∷ []) after) (sym (ap check_of t) ∙ verdict_is)
+  is_refused r e = ap (λ c. outcome c (rooms_of file w) (length made ∷ []) after) (found_is e)
 
-  module _ (t : v ≡ Fine) where
+  module _ (e : ok ≡ decided (write_ply_list ps fs (length file) (length w))) where
     -- what is known where nothing is refused
     is_accepted : WritePlyAccepted ps fs (length file) (length w)
-    is_accepted = write_ply_accepted ps fs (length file) (length w) (sym e ∙ ap check_of t)
+    is_accepted = write_ply_accepted ps fs (length file) (length w) (sym e)
 
     -- P and F are not too large
     pub limits : Limits P F
@@ -144,11 +146,11 @@ module _ (ps : List Float) (fs file w : List ℕ) (v : Verdict) (e : check_of v 
 
           -- with the work room cleared: the rules' outcome
           pub is_done :
-              {w₁ : List ℕ} {n : ℕ} → n ≡ work_room P F → Only 0 n w w₁ → Filled 0 n 0 w₁ → outcome_of (Wrote-as.Done c) f₃ w₁ ≡ write_ply ps fs (rooms_of file w)
+              {w₁ : List ℕ} {n : ℕ} → n ≡ work_room P F → Only 0 n w w₁ → Filled 0 n 0 w₁ → outcome_of (Ok c) f₃ w₁ ≡ write_ply ps fs (rooms_of file w)
           unfolding write_ply outcome
           is_done {w₁} q ow hw =
               let x : c ≡ length made = omega (arith, whole.ends) in
               let y : w₁ ≡ after.work = cleared_is is_accepted.room_work (rw q at ow) (rw q at hw) in
               let z = file_is in
               ap₂ (λ (l : List ℕ) (rooms : WritePlyRooms). record { answer = accepted l; rooms = rooms }) (ap (λ (m : ℕ). m ∷ []) x) (λ i. record { file = z i; work = y i })
-              ∙ ap (λ c. outcome c (rooms_of file w) (length made ∷ []) after) (sym (ap check_of t) ∙ verdict_is)
+              ∙ ap (λ c. outcome c (rooms_of file w) (length made ∷ []) after) (found_is e)

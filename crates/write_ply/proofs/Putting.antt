@@ -1,7 +1,7 @@
 -- The parts of the file put one behind the other. Assumes nothing.
 use mathlib.Core.Path.{◌≡◌, sym, ap, subst, ◌∙◌}
 use mathlib.Core.List.{List, [], ◌∷◌, ◌++◌, append-nil}
-use Prim.Native.Nat.{ℕ, ◌+◌, ◌-◌, ◌*◌, ◌/◌, ◌^◌, ◌≤◌, ◌<◌}
+use Prim.Native.Nat.{ℕ, ◌+◌, ◌*◌, ◌/◌, ◌^◌, ◌≤◌, ◌<◌}
 use native.Mathlib.Omega.{arith}
 use native.Mathlib.Numerals.{add-one}
 use lib.Ieee.{Float}
@@ -11,7 +11,7 @@ use Rattle.byte_rows.specs.Put.{Puts}
 use Rattle.byte_rows.proofs.Putting.{puts_none, puts_both, puts_one}
 use Rattle.rules.specs.Lists.{each}
 use Rattle.rules.specs.Bytes.{little}
-use Rattle.rules.specs.Line.{plain, decimal}
+use Rattle.rules.specs.Line.{decimal}
 use Rattle.rules.specs.Mesh.{Face, face, faces_of}
 use Rattle.rules.specs.Ply.{triple, header, before_vertices, before_faces, after_counts}
 use Rattle.rule_laws.proofs.Lists.{each_append}

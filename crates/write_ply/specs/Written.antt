@@ -1,5 +1,5 @@
 -- The words of this crate's contracts: what is put into the file, and what writing gives back as the rules' outcome. Definitions only.
-use Rattle.std.specs.Prelude.{not, List, [], ◌∷◌, ℕ, ◌+◌, ◌*◌, ◌/◌, ◌≤◌, ◌<◌, T, Float, length, get_or}
+use Rattle.std.specs.Prelude.{not, Result, Ok, Err, List, [], ◌∷◌, ℕ, ◌+◌, ◌*◌, ◌/◌, ◌≤◌, ◌<◌, T, Float, length, get_or}
 use Rattle.std.specs.Float.{nan, binary64}
 use Rattle.std.specs.Float.Ieee.{is_nan, to_bits}
 use Rattle.rules.specs.Mesh.{Face}
@@ -8,8 +8,8 @@ use Rattle.rules.specs.Rooms.{Answer, accepted, refused, Outcome}
 use Rattle.rules.specs.Bytes.{little}
 use Rattle.rules.specs.Ply.{header}
 use Rattle.rules.specs.WritePlyCall.{WritePlyRooms}
-use Rattle.write_ply.specs.declared.Wrote.{Wrote}
-use Rattle.write_ply.specs.declared.Wrote.TheVariants.{Done, Refused}
+use Rattle.refuse.specs.declared.Refusal.{Refusal}
+use Rattle.refuse.specs.Verdicts.{number_of, place_of}
 
 -- counts of at most ten digits, and room for their header
 pub record HeaderAsks (w : List ℕ) (p f : ℕ) : Type 0 where
@@ -46,10 +46,10 @@ abbrev pub rooms_of : List ℕ → List ℕ → WritePlyRooms
 rooms_of file work = record { file = file; work = work }
 
 -- document 01's answer: how many bytes stand in the file room, or a number and a place
-abbrev pub answer_of : Wrote → Answer
-answer_of (Done n) = accepted (n ∷ [])
-answer_of (Refused n p) = refused n p
+abbrev pub answer_of : Result ℕ Refusal → Answer
+answer_of (Ok n) = accepted (n ∷ [])
+answer_of (Err e) = refused (number_of e) (place_of e)
 
 -- with the rooms as the call leaves them
-abbrev pub outcome_of : Wrote → List ℕ → List ℕ → Outcome WritePlyRooms
+abbrev pub outcome_of : Result ℕ Refusal → List ℕ → List ℕ → Outcome WritePlyRooms
 outcome_of r file work = record { answer = answer_of r; rooms = rooms_of file work }

@@ -9,15 +9,8 @@ ghost use Rattle.rules.specs.Ply as ply;
 ghost use Rattle.rules.specs.WritePlyCall as rule;
 ghost use Rattle.write_ply.specs.Written as to;
 
-use refuse::Verdict;
+use refuse::Refusal;
 use write_ply_refusal::Rooms;
-
-// What writing gives back: how many bytes the file has, or a refusal's number and place.
-#[derive(Drop)]
-pub enum Wrote {
-    Done(usize),
-    Refused(u32, usize),
-}
 
 // Puts the header of p vertices and f faces. Returns where it ends.
 fn put_header(out: &mut [u8], p: usize, f: usize) -> usize
@@ -79,8 +72,13 @@ fn put_triples(out: &mut [u8], at: usize, faces: &[u32]) -> usize
     next
 }
 
-// Writes the file of points and triples. The file fills its stated room, what lies behind is as it was, and the work room is all zero.
-pub fn write_ply(points: &[f64], faces: &[u32], file: &mut [u8], work: &mut [u32]) -> Wrote
+// Writes the file of points and triples. Returns how many bytes it has. The file fills its stated room, what lies behind is as it was, and the work room is all zero.
+pub fn write_ply(
+    points: &[f64],
+    faces: &[u32],
+    file: &mut [u8],
+    work: &mut [u32],
+) -> Result<usize, Refusal>
     ensures { let before = to.rooms_of file.old work.old in
         to.outcome_of result file.new work.new ≡ rule.write_ply points.now faces.now before }
 {
@@ -88,17 +86,12 @@ pub fn write_ply(points: &[f64], faces: &[u32], file: &mut [u8], work: &mut [u32
         file: file.len(),
         work: work.len(),
     };
-    match write_ply_refusal::write_ply_refusal(points, faces, rooms) {
-        Verdict::Fine => {}
-        Verdict::Refused(number, place) => {
-            return Wrote::Refused(number, place);
-        }
-    }
+    write_ply_refusal::write_ply_refusal(points, faces, rooms)?;
     let p = points.len() / 3;
     let f = faces.len() / 3;
     let a = put_header(file, p, f);
     let b = put_reals(file, a, points);
     let c = put_triples(file, b, faces);
     wiping::wipe(work, 0, refuse::stated_work(p, f));
-    Wrote::Done(c)
+    Ok(c)
 }

@@ -1,5 +1,4 @@
 -- `read_ply::coordinates` meets its contract: those before i are stored. Assumes nothing.
-use Prim.Native.Nat.{◌-◌}
 use native.Mathlib.Omega.{arith}
 use Rattle.read_ply.proofs.Pointing.{begin, turn, again, done}
 use Rattle.read_ply.proofs.coordinates.Goals as goal

@@ -1,5 +1,4 @@
 -- `read_ply::coordinates` meets its contract: those before i are stored. Assumes nothing.
-use Prim.Native.Nat.{◌-◌}
 use Rattle.read_ply.proofs.Pointing.{Pointing}
 use Rattle.read_ply.proofs.coordinates.Given as goal
 

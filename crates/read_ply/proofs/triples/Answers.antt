@@ -1,5 +1,4 @@
 -- `read_ply::triples` meets its contract: the faces before i are written. Assumes nothing.
-use Prim.Native.Nat.{◌-◌}
 use native.Mathlib.Omega.{arith}
 use lib.ListN.{length-set}
 use Rattle.read_ply.proofs.Facing.{begin, turn, again, done}
@@ -76,9 +75,6 @@ offset_bounds-faces-i-in-loop-i-2 c = omega (arith, turn c.requires c.loop-i.inv
 
 pub bounds-faces-i-in-loop-i-2 : goal.bounds-faces-i-in-loop-i-2
 bounds-faces-i-in-loop-i-2 c = simp length-set (omega (arith, turn c.requires c.loop-i.invariant c.loop-i-test.true))
-
-pub overflow_add-i : goal.overflow_add-i
-overflow_add-i c = omega (arith, turn c.requires c.loop-i.invariant c.loop-i-test.true)
 
 pub loop-i-preserved : goal.loop-i-preserved
 loop-i-preserved c = again c.requires c.loop-i.invariant c.loop-i-test.true c.u32_at-a.ensures c.u32_at-b.ensures c.u32_at-c.ensures

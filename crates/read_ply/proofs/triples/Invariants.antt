@@ -1,5 +1,4 @@
 -- `read_ply::triples` meets its contract: the faces before i are written. Assumes nothing.
-use Prim.Native.Nat.{◌-◌}
 use Rattle.read_ply.proofs.Facing.{Standing}
 use Rattle.read_ply.proofs.triples.Given as goal
 

@@ -1,5 +1,4 @@
 -- `write_ply::put_reals` meets its contract: the bits of the first i coordinates are put. Assumes nothing.
-use Prim.Native.Nat.{◌-◌}
 use lib.Ieee.{nan}
 use native.Mathlib.Omega.{arith}
 use Rattle.rule_laws.proofs.Bytes.{little_long}

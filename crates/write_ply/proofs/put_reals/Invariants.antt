@@ -1,6 +1,4 @@
 -- `write_ply::put_reals` meets its contract: the bits of the first i coordinates are put. Assumes nothing.
-use Prim.Native.Nat.{◌-◌}
-use lib.ListN.{length}
 use Rattle.write_ply.specs.Written.{real}
 use Rattle.write_ply.proofs.Putting.{SoFar}
 use Rattle.write_ply.proofs.put_reals.Given as goal

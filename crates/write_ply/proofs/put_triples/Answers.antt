@@ -1,5 +1,4 @@
 -- `write_ply::put_triples` meets its contract: the first i faces are put. Assumes nothing.
-use Prim.Native.Nat.{◌-◌}
 use native.Mathlib.Omega.{arith}
 use Rattle.rules.specs.Ply.{triple}
 use Rattle.write_ply.proofs.Putting.{begin, triple_asks, triple_again, triples_done}

@@ -1,6 +1,4 @@
 -- `write_ply::put_triples` meets its contract: the first i faces are put. Assumes nothing.
-use Prim.Native.Nat.{◌-◌, ◌/◌}
-use lib.ListN.{length}
 use Rattle.rules.specs.Mesh.{faces_of}
 use Rattle.rules.specs.Ply.{triple}
 use Rattle.write_ply.proofs.Putting.{SoFar}

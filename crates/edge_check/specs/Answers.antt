@@ -1,23 +1,23 @@
 -- The words of this crate's contracts: what the edge check gives back, as the rules' outcome. Definitions only.
-use Rattle.std.specs.Prelude.{◌≡◌, Bool, cond, List, [], ◌∷◌, ℕ, ◌+◌, ◌*◌, ◌/◌, ◌%◌, ◌^◌, ◌≤◌, ◌<◌, length, get_or, eqb}
+use Rattle.std.specs.Prelude.{◌≡◌, Result, Ok, Err, Bool, cond, List, [], ◌∷◌, ℕ, ◌+◌, ◌*◌, ◌/◌, ◌%◌, ◌^◌, ◌≤◌, ◌<◌, length, get_or, eqb}
 use Rattle.rows.specs.Region.{Only, Holds, Filled}
 use Rattle.rules.specs.Lists.{all, each}
 use Rattle.rules.specs.Mesh.{faces_of, corners}
 use Rattle.rules.specs.Pass5.{fans}
 use Rattle.rules.specs.Edges as rule
 use Rattle.rules.specs.Rooms.{work_room, Answer, accepted, refused, Outcome}
+use Rattle.refuse.specs.Verdicts.{number_of, place_of}
+use Rattle.refuse.specs.declared.Refusal.{Refusal}
 use Rattle.flood.specs.Answers.{leader_of}
 use Rattle.splitting.specs.Corners.{joined_at}
-use Rattle.edge_check.specs.declared.Checked.{Checked}
-use Rattle.edge_check.specs.declared.Checked.TheVariants.{Done, Refused}
 
 -- document 01's answer: 1 for yes and 0 for no, or a number and a place
-abbrev pub answer_of : Checked → Answer
-answer_of (Done answer) = accepted (cond answer 1 0 ∷ [])
-answer_of (Refused n p) = refused n p
+abbrev pub answer_of : Result Bool Refusal → Answer
+answer_of (Ok answer) = accepted (cond answer 1 0 ∷ [])
+answer_of (Err r) = refused (number_of r) (place_of r)
 
 -- with the work room as the call leaves it
-abbrev pub outcome_of : Checked → List ℕ → Outcome (List ℕ)
+abbrev pub outcome_of : Result Bool Refusal → List ℕ → Outcome (List ℕ)
 outcome_of r work = record { answer = answer_of r; rooms = work }
 
 -- With n = 3F: the first member of each corner's group stands in the n entries from 9n + 2 + P on, and the P entries behind them are zero.

@@ -15,14 +15,7 @@ ghost use Rattle.rules.specs.CheckCall as rule;
 ghost use Rattle.edge_check_refusal.specs.Checks.{CheckAccepted};
 ghost use Rattle.edge_check.specs.Answers.{outcome_of, MetAsks, MetGives, GroupGives, SoundGives};
 
-use refuse::Verdict;
-
-// What the edge check gives back: yes or no, or a refusal's number and place.
-#[derive(Drop)]
-pub enum Checked {
-    Done(bool),
-    Refused(u32, usize),
-}
+use refuse::Refusal;
 
 // Whether face i repeats a corner.
 fn repeats(faces: &[u32], i: usize) -> bool
@@ -32,6 +25,7 @@ fn repeats(faces: &[u32], i: usize) -> bool
     let a = faces[3 * i];
     let b = faces[3 * i + 1];
     let c = faces[3 * i + 2];
+    // As `||` the joins would have no name that a proof can cite.
     if a == b {
         return true;
     }
@@ -101,16 +95,11 @@ fn sound(count: usize, faces: &[u32], work: &mut [u32]) -> bool
 
 // The edge check: yes exactly when no face repeats a corner, every directed edge is used at most once, and the faces at each used point form one group
 // under pass 5's joining. The work room is all zero after it.
-pub fn check(count: usize, faces: &[u32], work: &mut [u32]) -> Checked
+pub fn check(count: usize, faces: &[u32], work: &mut [u32]) -> Result<bool, Refusal>
     ensures { outcome_of result work.new ≡ rule.check count faces.now work.old }
 {
-    match edge_check_refusal::edge_check_refusal(count, faces, work.len()) {
-        Verdict::Fine => {}
-        Verdict::Refused(number, place) => {
-            return Checked::Refused(number, place);
-        }
-    }
+    edge_check_refusal::edge_check_refusal(count, faces, work.len())?;
     let answer = sound(count, faces, work);
     wiping::wipe(work, 0, 16 * count + 64 * (faces.len() / 3) + 64);
-    Checked::Done(answer)
+    Ok(answer)
 }

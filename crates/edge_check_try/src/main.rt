@@ -4,36 +4,19 @@
 
 ghost use Rattle.std.specs.Prelude.{◌≤◌};
 
-use edge_check::Checked;
 use std::io;
 
 // The largest number that a count can be.
 const HUGE: usize = 18446744073709551615;
 
 // How many entries are 0, from the front on.
-fn zeros(row: &[u32]) -> u64 {
-    for i in 0..row.len() {
-        if row[i] != 0 {
-            return i as u64;
-        }
-    }
-    row.len() as u64
-}
-
-// 1 for a 7.
-fn seven(x: u32) -> u64
-    ensures { result ≤ 1 }
-{
-    if x == 7 { 1 } else { 0 }
+fn zeros(row: &[u32]) -> usize {
+    row.iter().take_while(|&&x| x == 0).count()
 }
 
 // How many entries are 7.
-fn sevens(row: &[u32]) -> u64 {
-    let mut n = 0;
-    for i in 0..row.len() {
-        n += seven(row[i]);
-    }
-    n
+fn sevens(row: &[u32]) -> usize {
+    row.iter().filter(|&&x| x == 7).count()
 }
 
 // Checks faces over a number of points, in a work room of a length, and writes what comes of it.
@@ -43,21 +26,16 @@ fn run(rt: &impl Print, count: usize, faces: &[u32], length: usize) -> io::Resul
     let mut row = [7; 700];
     let work = &mut row[..length];
     match edge_check::check(count, faces, work) {
-        Checked::Done(answer) => {
-            if answer {
-                print!(rt; "yes ")?;
-            } else {
-                print!(rt; "no ")?;
-            }
-        }
-        Checked::Refused(number, place) => {
+        Ok(true) => print!(rt; "yes ")?,
+        Ok(false) => print!(rt; "no ")?,
+        Err(refusal) => {
             print!(rt; "refused ")?;
-            show::number(rt, number as u64)?;
-            show::number(rt, place as u64)?;
+            show::number(rt, refusal.number() as u64)?;
+            show::number(rt, refusal.place() as u64)?;
         }
     }
-    show::number(rt, zeros(work))?;
-    show::number(rt, sevens(work))?;
+    show::number(rt, zeros(work) as u64)?;
+    show::number(rt, sevens(work) as u64)?;
     show::end_line(rt)
 }
 

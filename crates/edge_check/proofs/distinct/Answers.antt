@@ -1,6 +1,5 @@
 -- `edge_check::distinct` meets its contract: no face before i repeats a corner. Assumes nothing.
 use mathlib.Core.Path.{sym, ◌∙◌}
-use Prim.Native.Nat.{◌-◌}
 use Rattle.refuse.proofs.Scans.{clean_begin, clean_more}
 use Rattle.edge_check.proofs.Corners.{all_distinct, one_repeats}
 use Rattle.edge_check.proofs.distinct.Goals as goal

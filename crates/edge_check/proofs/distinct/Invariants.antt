@@ -1,5 +1,5 @@
 -- `edge_check::distinct` meets its contract: no face before i repeats a corner. Assumes nothing.
-use Prim.Native.Nat.{◌-◌, ◌/◌}
+use Prim.Native.Nat.{◌/◌}
 use lib.ListN.{length}
 use Rattle.refuse.proofs.Scans.{Clean}
 use Rattle.edge_check.proofs.Corners.{repeats_at}

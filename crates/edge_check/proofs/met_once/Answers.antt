@@ -1,5 +1,4 @@
 -- `edge_check::met_once` meets its contract: each mark is the number of groups met at its point. Assumes nothing.
-use Prim.Native.Nat.{◌-◌}
 use native.Mathlib.Omega.{arith}
 use Rattle.edge_check.proofs.Meeting.{begin, bounds, turn, passed, again, marked, done}
 use Rattle.edge_check.proofs.met_once.Goals as goal

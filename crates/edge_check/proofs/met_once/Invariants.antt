@@ -1,6 +1,4 @@
 -- `edge_check::met_once` meets its contract: each mark is the number of groups met at its point. Assumes nothing.
-use Prim.Native.Nat.{◌-◌}
-use lib.ListN.{length}
 use Rattle.edge_check.proofs.Meeting.{Met}
 use Rattle.edge_check.proofs.met_once.Given as goal
 

@@ -141,54 +141,43 @@ unfolding run
 run_empty zero v = refl
 run_empty (suc k) v = refl
 
--- `left` turns are left
-pub record EmptyInv (w₀ xs : List ℕ) (n : ℕ) (w : List ℕ) (left : ℕ) : Type 0 where
-  pub at_most : left ≤ n
+-- i turns are done
+pub record EmptyInv (w₀ xs : List ℕ) (n : ℕ) (w : List ℕ) (i : ℕ) : Type 0 where
   pub only : Only 0 (3 + 11 * n) w₀ w
   pub going : Going w xs n
-  pub runs : run left (walk_of (faces_of xs) n w).stack (walk_of (faces_of xs) n w) ≡ run n (walk_of (faces_of xs) n w₀).stack (walk_of (faces_of xs) n w₀)
+  pub runs : run (n - i) (walk_of (faces_of xs) n w).stack (walk_of (faces_of xs) n w) ≡ run n (walk_of (faces_of xs) n w₀).stack (walk_of (faces_of xs) n w₀)
 
--- all are at first
-pub empty_begin : {w xs : List ℕ} {n : ℕ} → EmptyAsks w xs n → EmptyInv w xs n w n
-empty_begin {w} {xs} {n} p = record { at_most = omega arith; only = only_none 0 (3 + 11 * n) w; going = p.going; runs = refl }
+-- none is at first
+pub empty_begin : {w xs : List ℕ} {n : ℕ} → EmptyAsks w xs n → EmptyInv w xs n w 0
+empty_begin {w} {xs} {n} p = record { only = only_none 0 (3 + 11 * n) w; going = p.going; runs = let e : n - 0 ≡ n = omega arith in rw e }
 
--- what the code reads
-pub record Turn (w : List ℕ) (n left : ℕ) : Type 0 where
-  pub few : left ≤ 4194304
-  pub fit : 3 ≤ length w
-
-module _ {w₀ xs : List ℕ} {n : ℕ} {w : List ℕ} {left : ℕ} (u : EmptyInv w₀ xs n w left) where
-  -- they hold
-  pub empty_turn : Turn w n left
-  empty_turn = let f = u.going.ready.fits in record { few = omega (arith, u.at_most, f.few); fit = omega (arith, f.fit) }
-
+module _ {w₀ xs : List ℕ} {n : ℕ} {w : List ℕ} {i : ℕ} (u : EmptyInv w₀ xs n w i) where
   -- the stack is empty
   pub empty_stop : get_or w 0 0 ≡ 0 → EmptyGives w₀ xs n w
   unfolding walk_of stack_of
   empty_stop z =
       let v = walk_of (faces_of xs) n w in
       let e : v.stack ≡ [] = ap (stack_of w (3 + n)) z in
-      record { only = u.only; going = u.going; walk = sym (run_empty left v) ∙ ap (λ s. run left s v) (sym e) ∙ u.runs }
+      record { only = u.only; going = u.going; walk = sym (run_empty (n - i) v) ∙ ap (λ s. run (n - i) s v) (sym e) ∙ u.runs }
 
   -- no turn is left
-  pub empty_done : left ≤ 0 → EmptyGives w₀ xs n w
+  pub empty_done : n ≤ i → EmptyGives w₀ xs n w
   unfolding run
   empty_done l =
       let v = walk_of (faces_of xs) n w in
-      let e : left ≡ 0 = omega arith in
+      let e : n - i ≡ 0 = omega arith in
       record { only = u.only; going = u.going; walk = ap (λ k. run k v.stack v) (sym e) ∙ u.runs }
 
   -- a face is on the stack
   pub empty_ask : (get_or w 0 0 ≡ 0 → ⊥) → PopAsks w xs n
   empty_ask z = record { going = u.going; some = omega arith }
 
-  -- one turn less is left
-  pub empty_again : 0 < left → {w' : List ℕ} → PopGives w xs n w' → EmptyInv w₀ xs n w' (left - 1)
+  -- one turn more is done
+  pub empty_again : i < n → {w' : List ℕ} → PopGives w xs n w' → EmptyInv w₀ xs n w' (i + 1)
   empty_again h {w'} g =
-      let e : suc (left - 1) ≡ left = omega arith in
+      let e : suc (n - (i + 1)) ≡ n - i = omega arith in
       record {
-        at_most = omega (arith, u.at_most);
         only = only_both u.only g.only;
         going = g.going;
-        runs = g.runs (left - 1) ∙ ap (λ k. run k (walk_of (faces_of xs) n w).stack (walk_of (faces_of xs) n w)) e ∙ u.runs;
+        runs = g.runs (n - (i + 1)) ∙ ap (λ k. run k (walk_of (faces_of xs) n w).stack (walk_of (faces_of xs) n w)) e ∙ u.runs;
       }

@@ -1,7 +1,7 @@
 -- The faces under their states: corners 1 and 2 of each whose state is 2 are exchanged. Assumes nothing.
 use mathlib.Core.Path.{◌≡◌, refl, sym, ap, ◌∙◌}
 use mathlib.Core.Bool.{Bool, true, false, cond}
-use mathlib.Core.List.{List}
+use mathlib.Core.List.{List, [], ◌∷◌}
 use Prim.Native.Nat.{ℕ, ◌+◌, ◌*◌, ◌%◌, ◌≤◌, ◌<◌}
 use native.Mathlib.Omega.{arith}
 use borrow.Author.Count.{below_more}
@@ -9,6 +9,8 @@ use borrow.Author.Tests.{ne_eqb}
 use lib.Dec.{eqb}
 use lib.ListN.{length, get_or, set, take, length-set}
 use lib.Seq.{get_or-set_same, get_or-set_other, ext_get_or}
+use Rattle.std.specs.List.{swap}
+use Rattle.std.proofs.lemmas.Grind.{get_or_default_zero}
 use Rattle.rows.specs.Region.{part, Only, Out.above}
 use Rattle.rows.proofs.Regions.{length_part, get_d_part, only_none, only_both, only_more, only_set}
 use Rattle.rules.specs.Mesh.{Face, faces_of, flat_faces, face, exchanged}
@@ -17,6 +19,11 @@ use Rattle.leaving.specs.Pass.{standing}
 use Rattle.orienting.specs.Reaching.{turn, turned_by}
 use Rattle.orienting.proofs.Turns.{length_turned, face_turned}
 use Rattle.orient_consistently.specs.Walked.{TurnAsks, TurnGives}
+
+-- an exchange as two writes
+swap_is : (xs : List ℕ) (i j : ℕ) → i < length xs → j < length xs → swap xs i j ≡ set (set xs i (get_or xs j 0)) j (get_or xs i 0)
+swap_is [] i j h k = refl
+swap_is (d ∷ ys) i j h k = rw (get_or_default_zero (d ∷ ys) i d h, get_or_default_zero (d ∷ ys) j d k)
 
 -- face k of a flat list
 abbrev pub corner_face : List ℕ → ℕ → Face
@@ -122,8 +129,8 @@ module _ {xs₀ w : List ℕ} {n : ℕ} {xs : List ℕ} {i : ℕ} (p : TurnAsks 
             )
 
     -- the same, by the places that the code has
-    pub turn_pair : get_or w (3 + i) 0 ≡ 2 → TurnInv xs₀ w n (set (set xs (3 * i + 1) (get_or xs (3 * i + 1 + 1) 0)) (3 * i + 1 + 1) (get_or xs (3 * i + 1) 0)) (i + 1)
-    turn_pair e = let k : 3 * i + 1 + 1 ≡ 3 * i + 2 = omega arith in rw k (turn_exchanged e)
+    pub turn_pair : get_or w (3 + i) 0 ≡ 2 → TurnInv xs₀ w n (swap xs (3 * i + 1) (3 * i + 2)) (i + 1)
+    turn_pair e = let t = turn_turn in rw (swap_is xs (3 * i + 1) (3 * i + 2) (omega (arith, t)) (omega (arith, t))) (turn_exchanged e)
 
     -- another state
     pub turn_straight : (get_or w (3 + i) 0 ≡ 2 → ⊥) → TurnInv xs₀ w n xs (i + 1)

@@ -20,7 +20,7 @@ ghost use Rattle.leaving.specs.Pass.{standing, FacesStand};
 ghost use Rattle.orient_consistently.specs.Walked.{taken, LayAsks, LayGives, PopAsks, PopGives, EmptyAsks, EmptyGives, StartAsks, StartGives, BeginAsks, BeginGives, AllAsks, AllGives, TurnAsks, TurnGives, OrientGives};
 
 // How many faces were exchanged, and how many components are at odds.
-#[derive(Drop)]
+#[derive(Clone, Copy, Debug, PartialEq, Eq)]
 pub struct Turned {
     pub reoriented: usize,
     pub components: usize,
@@ -51,13 +51,11 @@ fn empty_stack(work: &mut [u32], faces: &[u32], n: usize)
     requires { EmptyAsks work.old faces.now n }
     ensures { EmptyGives work.old faces.now n work.new }
 {
-    let mut left = n;
-    while left > 0 {
+    for _ in 0..n {
         if work[0] == 0 {
             return;
         }
         pop(work, faces, n);
-        left -= 1;
     }
 }
 
@@ -107,19 +105,15 @@ fn turn_all(faces: &mut [u32], work: &[u32], n: usize)
 {
     for i in 0..n {
         if work[3 + i] == 2 {
-            let p = 3 * i + 1;
-            let b = faces[p];
-            faces[p] = faces[p + 1];
-            faces[p + 1] = b;
+            faces.swap(3 * i + 1, 3 * i + 2);
         }
     }
 }
 
-// How many faces were exchanged, how many components are at odds, and whether each directed edge is surely used at most once then.
-#[derive(Drop)]
+// What was turned, and whether each directed edge is surely used at most once then.
+#[derive(Clone, Copy, Debug, PartialEq, Eq)]
 pub struct Settled {
-    pub reoriented: usize,
-    pub components: usize,
+    pub turned: Turned,
     pub single: bool,
 }
 
@@ -127,7 +121,7 @@ pub struct Settled {
 // is before, nothing is at odds, and no walk is needed.
 pub fn settle(faces: &mut [u32], n: usize, count: usize, work: &mut [u32]) -> Settled
     requires { FacesStand (taken count n) count faces.old n work.old }
-    ensures orient_gives { OrientGives count faces.old n work.old faces.new work.new result.reoriented result.components }
+    ensures orient_gives { OrientGives count faces.old n work.old faces.new work.new result.turned.reoriented result.turned.components }
     ensures once { result.single ≡ true → Once (standing faces.new n) }
 {
     let at = 3 + 14 * n;
@@ -135,8 +129,10 @@ pub fn settle(faces: &mut [u32], n: usize, count: usize, work: &mut [u32]) -> Se
     let m = table::table(work, &faces[..3 * n], count, false, at);
     if single_use::single(work, &faces[..3 * n], 3, at, m) {
         return Settled {
-            reoriented: 0,
-            components: 0,
+            turned: Turned {
+                reoriented: 0,
+                components: 0,
+            },
             single: true,
         };
     }
@@ -145,8 +141,10 @@ pub fn settle(faces: &mut [u32], n: usize, count: usize, work: &mut [u32]) -> Se
     let single = single_use::single(work, &faces[..3 * n], 3, at, m);
     turn_all(faces, work, n);
     Settled {
-        reoriented: work[1] as usize,
-        components,
+        turned: Turned {
+            reoriented: work[1] as usize,
+            components,
+        },
         single,
     }
 }
@@ -157,9 +155,5 @@ pub fn orient_consistently(faces: &mut [u32], n: usize, count: usize, work: &mut
     requires { FacesStand (taken count n) count faces.old n work.old }
     ensures { OrientGives count faces.old n work.old faces.new work.new result.reoriented result.components }
 {
-    let s = settle(faces, n, count, work);
-    Turned {
-        reoriented: s.reoriented,
-        components: s.components,
-    }
+    settle(faces, n, count, work).turned
 }

@@ -169,15 +169,14 @@ pub fn pass4(
         Pass4 options s before after result }
 {
     if options / 16 % 2 == 1 {
-        let turned = orient_consistently::settle(faces, n, p, work);
-        let single = turned.single;
-        let left = drop_collisions(&points[..3 * p], faces, origins, n, work, single);
+        let settled = orient_consistently::settle(faces, n, p, work);
+        let left = drop_collisions(&points[..3 * p], faces, origins, n, work, settled.single);
         return Passed {
             points: p,
             faces: left,
             dropped: n - left,
-            found: turned.components,
-            changed: turned.reoriented,
+            found: settled.turned.components,
+            changed: settled.turned.reoriented,
         };
     }
     Passed {

@@ -23,10 +23,7 @@ use leaving::Marked;
 fn stays(f: usize, one: usize, seen: bool) -> bool
     ensures { result ≡ (not seen && eqb one f) }
 {
-    if seen {
-        return false;
-    }
-    one == f
+    !seen && one == f
 }
 
 // Marks the face of each of the len entries from `from` on, but for the first entry of face `one`.

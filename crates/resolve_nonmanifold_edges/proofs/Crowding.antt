@@ -4,6 +4,7 @@ use mathlib.Core.Bool.{Bool, true, false, not, ◌&&◌, ◌||◌, cond}
 use mathlib.Core.List.{List, [], ◌∷◌}
 use Prim.Native.Nat.{ℕ, ◌+◌, ◌-◌, ◌/◌, ◌≤◌, ◌<◌}
 use native.Mathlib.Omega.{arith}
+use mir.Val.{bool_byte}
 use borrow.Author.Tests.{lt-ltb, le-ltb}
 use lib.Dec.{eqb}
 use lib.ListN.{length, take, length-map}
@@ -34,11 +35,11 @@ module _ {ps : List Float} {xs w : List ℕ} {marks r : ℕ} (p : RunAsks false 
   users_long : length (users (faces_of xs) (edge_at false ps xs r)) ≡ next xs w r - from xs w r
   users_long = ap length (sym (run_users p)) ∙ length-map (handed_on xs w r) (λ id. id / 3) ∙ run_long p
 
-  -- an edge with at most two entries: nothing is lost and nothing is counted
-  pub few : next xs w r - from xs w r ≤ 2 → EdgeGives ps xs w marks r w 0
+  -- an edge with at most two entries: nothing is lost, and it is not crowded
+  pub few : next xs w r - from xs w r ≤ 2 → EdgeGives ps xs w marks r w false
   few h =
       let z : crowds (faces_of xs) (edge_at false ps xs r) ≡ false = le-ltb 2 (length (users (faces_of xs) (edge_at false ps xs r))) (omega (arith, users_long)) in
-      record { lost = record { only = only_none _ _ _; added = record { each = λ i q. rw z } }; counted = rw z }
+      record { lost = record { only = only_none _ _ _; added = record { each = λ i q. rw z } }; told = sym z }
 
   module _ {one : ℕ} (b : BestGives ps xs (handed_on xs w r) one) where
     -- a second choice may be asked for
@@ -51,14 +52,14 @@ module _ {ps : List Float} {xs w : List ℕ} {marks r : ℕ} (p : RunAsks false 
       unfolding kept others
       kept_is i = rw (s, ee, run_users p, b.first, run_users p)
 
-      -- a crowded edge: all but the two are lost, and it is counted
-      pub many : 2 < next xs w r - from xs w r → {w' : List ℕ} → LostGives (lost_of (faces_in (region xs w r)) one two) w marks (face_count xs) w' → EdgeGives ps xs w marks r w' 1
+      -- a crowded edge: all but the two are lost
+      pub many : 2 < next xs w r - from xs w r → {w' : List ℕ} → LostGives (lost_of (faces_in (region xs w r)) one two) w marks (face_count xs) w' → EdgeGives ps xs w marks r w' true
       many h g =
           let z : crowds (faces_of xs) (edge_at false ps xs r) ≡ true = lt-ltb 2 (length (users (faces_of xs) (edge_at false ps xs r))) (omega (arith, users_long)) in
           let u : faces_in (region xs w r) ≡ users (faces_of xs) (edge_at false ps xs r) = ap faces_in (sym (handed_region p)) ∙ run_users p in
           record {
             lost = record { only = g.only; added = record { each = λ i q. g.added.each i q ∙ rw (z, u, kept_is i) } };
-            counted = rw z;
+            told = sym z;
           }
 
 -- ---- all edges
@@ -99,26 +100,27 @@ pub record Counted (ps : List Float) (xs w₁ : List ℕ) (marks m : ℕ) (w : L
 pub none_counted : {ps : List Float} {xs w₁ : List ℕ} {marks m : ℕ} {w : List ℕ} → Passed (lost_at (value_of ps xs) (faces_of xs)) false ps xs w₁ marks m w 0 → Counted ps xs w₁ marks m w 0 0
 none_counted v = record { passed = v; fewer = omega arith; counted = unfold count filter in refl }
 
+-- one for a crowded edge
+counted_as : (b : Bool) → bool_byte b ≡ cond b 1 0
+counted_as true = refl
+counted_as false = refl
+
 -- at most one
-at_most_one : (b : Bool) → cond b 1 0 ≤ 1
+pub at_most_one : (b : Bool) → bool_byte b ≤ 1
 at_most_one true = omega arith
 at_most_one false = omega arith
 
 module _ {ps : List Float} {xs w₁ : List ℕ} {marks m : ℕ} {w : List ℕ} {c r : ℕ} (v : Counted ps xs w₁ marks m w c r) where
   -- one edge more
-  pub again : r < m → {w' : List ℕ} {k : ℕ} → EdgeGives ps xs w marks r w' k → Counted ps xs w₁ marks m w' (c + k) (r + 1)
-  again h {w'} {k} g =
-      let b = at_most_one (crowds (faces_of xs) (edge_at false ps xs r)) in
+  pub again : r < m → {w' : List ℕ} {b : Bool} {k : ℕ} → EdgeGives ps xs w marks r w' b → k ≡ bool_byte b → Counted ps xs w₁ marks m w' (c + k) (r + 1)
+  again h {w'} {b} {k} g e =
+      let f : k ≡ cond (crowds (faces_of xs) (edge_at false ps xs r)) 1 0 = e ∙ counted_as b ∙ ap (λ t. cond t 1 0) g.told in
       record {
         passed = running.again v.passed h g.lost;
-        fewer = omega (arith, v.fewer, g.counted);
+        fewer = omega (arith, v.fewer, e, at_most_one b);
         counted =
-            cc (v.counted, g.counted, count_of_one (crowds (faces_of xs)) (edge_at false ps xs r), count_append (crowds (faces_of xs)) (take r (keys_of false (point_count ps) (faces_of xs))) (edge_at false ps xs r ∷ []), next_keys v.passed h);
+            cc (v.counted, f, count_of_one (crowds (faces_of xs)) (edge_at false ps xs r), count_append (crowds (faces_of xs)) (take r (keys_of false (point_count ps) (faces_of xs))) (edge_at false ps xs r ∷ []), next_keys v.passed h);
       }
-
-  -- how many may be counted, at most
-  pub few_counted : r < m → {w' : List ℕ} {k : ℕ} → EdgeGives ps xs w marks r w' k → k ≤ 1
-  few_counted h g = omega (arith, g.counted, at_most_one (crowds (faces_of xs) (edge_at false ps xs r)))
 
   -- all of them
   pub done : {w₀ : List ℕ} → MarkAsks ps xs w₀ marks → {w₂ : List ℕ} → TableGives w₀ xs (point_count ps) false 0 w₂ m → Only marks (face_count xs) w₂ w₁ → m ≤ r → EdgesGives ps xs w₀ marks w c

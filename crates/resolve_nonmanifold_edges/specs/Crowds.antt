@@ -1,5 +1,5 @@
 -- What the functions of pass 3 give, run after run of the undirected table. Definitions only.
-use Rattle.std.specs.Prelude.{◌≡◌, Bool, false, not, ◌&&◌, ◌||◌, cond, List, ℕ, ◌+◌, eqb, ltb, length, Float}
+use Rattle.std.specs.Prelude.{◌≡◌, Bool, false, not, ◌&&◌, ◌||◌, List, ℕ, ◌+◌, eqb, ltb, length, Float}
 use Rattle.rules.specs.Lists.{has}
 use Rattle.rules.specs.Mesh.{Face, faces_of, points_of}
 use Rattle.rules.specs.Steps.{Step, users}
@@ -20,10 +20,10 @@ lost_at q fs e i = crowds fs e && (has i (users fs e) && not (kept q fs e (users
 abbrev pub lost_of : List ℕ → ℕ → ℕ → ℕ → Bool
 lost_of us one two i = has i us && not (eqb i one || eqb i two)
 
--- what is lost at the edge of run r is marked, and the edge is counted if it is crowded
-pub record EdgeGives (ps : List Float) (xs w : List ℕ) (marks r : ℕ) (w' : List ℕ) (count : ℕ) : Type 0 where
+-- what is lost at the edge of run r is marked, and it is said whether the edge is crowded
+pub record EdgeGives (ps : List Float) (xs w : List ℕ) (marks r : ℕ) (w' : List ℕ) (is_crowded : Bool) : Type 0 where
   pub lost : LostGives (lost_at (value_of ps xs) (faces_of xs) (edge_at false ps xs r)) w marks (face_count xs) w'
-  pub counted : count ≡ cond (crowds (faces_of xs) (edge_at false ps xs r)) 1 0
+  pub told : is_crowded ≡ crowds (faces_of xs) (edge_at false ps xs r)
 
 -- all that pass 3 marks is marked, and the crowded edges are counted
 pub record EdgesGives (ps : List Float) (xs w : List ℕ) (marks : ℕ) (w' : List ℕ) (count : ℕ) : Type 0 where

@@ -21,10 +21,7 @@ use leaving::Marked;
 fn loses(f: usize, one: usize, two: usize) -> bool
     ensures { result ≡ not (eqb f one || eqb f two) }
 {
-    if f == one {
-        return false;
-    }
-    f != two
+    f != one && f != two
 }
 
 // Marks each face of the len entries from `from` on, but neither `one` nor `two`.
@@ -49,8 +46,8 @@ fn mark_others(
 }
 
 // Marks what is lost at the edge of run r, if it has more than two entries: all its faces but the first in rank and the next whose walk differs, or, if
-// none differs, the second. Returns 1 for such an edge, else 0.
-fn resolve_edge(points: &[f64], faces: &[u32], work: &mut [u32], marks: usize, r: usize) -> usize
+// none differs, the second. Returns whether it is such an edge.
+fn resolve_edge(points: &[f64], faces: &[u32], work: &mut [u32], marks: usize, r: usize) -> bool
     requires { RunAsks false points.now faces.now work.old marks r }
     ensures { EdgeGives points.now faces.now work.old marks r work.new result }
 {
@@ -58,7 +55,7 @@ fn resolve_edge(points: &[f64], faces: &[u32], work: &mut [u32], marks: usize, r
     let a = work[4 * n + r] as usize;
     let b = work[4 * n + r + 1] as usize;
     if b - a <= 2 {
-        return 0;
+        return false;
     }
     let first = 3 * n + a;
     let last = 3 * n + b;
@@ -68,7 +65,7 @@ fn resolve_edge(points: &[f64], faces: &[u32], work: &mut [u32], marks: usize, r
     let higher = work[n + id];
     let two = rank::second(points, faces, &work[first..last], lower, higher, one);
     mark_others(work, first, b - a, marks, n / 3, one, two);
-    1
+    true
 }
 
 // Marks every face that leaves, on the unchanged list, and returns how many edges are crowded.
@@ -80,7 +77,7 @@ fn mark_edges(points: &[f64], faces: &[u32], work: &mut [u32], marks: usize) -> 
     rows::clear(work, marks, faces.len() / 3);
     let mut c = 0;
     for r in 0..m {
-        c += resolve_edge(points, faces, work, marks, r);
+        c += usize::from(resolve_edge(points, faces, work, marks, r));
     }
     c
 }

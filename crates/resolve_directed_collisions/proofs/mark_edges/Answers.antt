@@ -1,8 +1,4 @@
 -- `resolve_directed_collisions::mark_edges` meets its contract: after r runs, what is lost at their directed edges is marked. Assumes nothing.
-use mathlib.Core.Bool.{true}
-use Prim.Native.Nat.{◌-◌}
-use native.Mathlib.Omega.{arith}
-use Rattle.marking.proofs.Reading.{bounds}
 use Rattle.marking.proofs.Running.{clear_ok, begin, run_ok, again, done}
 use Rattle.resolve_directed_collisions.proofs.Colliding.{lost_marked}
 use Rattle.resolve_directed_collisions.proofs.mark_edges.Goals as goal

@@ -1,6 +1,5 @@
 -- `resolve_directed_collisions::mark_edges` meets its contract: after r runs, what is lost at their directed edges is marked. Assumes nothing.
 use mathlib.Core.Bool.{true}
-use Prim.Native.Nat.{◌-◌}
 use Rattle.rules.specs.Mesh.{faces_of}
 use Rattle.rank.specs.Ranks.{value_of}
 use Rattle.marking.proofs.Running.{Passed}

@@ -2,15 +2,14 @@
 use mathlib.Core.Path.{◌≡◌, sym, ◌∙◌}
 use mathlib.Core.Bool.{Bool, true, false, not, ◌&&◌}
 use mathlib.Core.List.{List}
-use Prim.Native.Nat.{ℕ, ◌+◌, ◌-◌, ◌/◌, ◌<◌}
-use native.Mathlib.Omega.{arith}
+use Prim.Native.Nat.{ℕ, ◌+◌, ◌/◌, ◌<◌}
 use lib.Dec.{eqb}
 use lib.ListN.{get_or, set}
 use Rattle.rows.specs.Region.{part}
 use Rattle.rules.specs.Lists.{has}
 use Rattle.rank.specs.Ranks.{faces_in}
 use Rattle.marking.specs.Marking.{EntriesAsks}
-use Rattle.marking.proofs.Adding.{begin, turn, more_faces, skips, adds, done}
+use Rattle.marking.proofs.Adding.{begin, more_faces, skips, adds, done}
 use Rattle.resolve_directed_collisions.proofs.Losing.{lost_none, none_seen, lost_first, seen_first, lost_here, lost_other, seen_rest}
 use Rattle.resolve_directed_collisions.proofs.mark_rest.Invariants.{lost, Seen}
 use Rattle.resolve_directed_collisions.proofs.mark_rest.Goals as goal
@@ -48,34 +47,10 @@ module _ {w₀ : List ℕ} {from len marks F one : ℕ} {w : List ℕ} {seen : B
 pub loop-k-init : goal.loop-k-init
 loop-k-init c = record { added = begin _ c.requires (lost_none _); seen_is = none_seen _ }
 
-pub overflow_add-f : goal.overflow_add-f
-overflow_add-f c = omega (arith, turn _ c.requires c.loop-k.invariant.added c.loop-k-test.true)
-
-pub offset_bounds-work-from : goal.offset_bounds-work-from
-offset_bounds-work-from c = omega (arith, turn _ c.requires c.loop-k.invariant.added c.loop-k-test.true)
-
-pub bounds-work-from : goal.bounds-work-from
-bounds-work-from c = omega (arith, turn _ c.requires c.loop-k.invariant.added c.loop-k-test.true)
-
-pub overflow_cast-f : goal.overflow_cast-f
-overflow_cast-f c = omega (arith, turn _ c.requires c.loop-k.invariant.added c.loop-k-test.true)
-
-pub overflow_add-work : goal.overflow_add-work
-overflow_add-work c = omega (arith, turn _ c.requires c.loop-k.invariant.added c.loop-k-test.true)
-
-pub offset_bounds-work-marks : goal.offset_bounds-work-marks
-offset_bounds-work-marks c = omega (arith, turn _ c.requires c.loop-k.invariant.added c.loop-k-test.true)
-
-pub bounds-work-marks : goal.bounds-work-marks
-bounds-work-marks c = omega (arith, turn _ c.requires c.loop-k.invariant.added c.loop-k-test.true)
-
 pub loop-k-preserved : goal.loop-k-preserved
 loop-k-preserved c = let p = c.requires in
     let h = c.loop-k-test.true in
     elim c.if-stays.branch [ then-stays w ↦ rw (w.work-is, w.seen-is) (passes p c.loop-k.invariant h c.stays.ensures w.if-stays.true) | else-stays w ↦ rw (w.work-is, w.seen-is) (loses p c.loop-k.invariant h c.stays.ensures w.if-stays.false) ]
-
-pub shape_of-work : goal.shape_of-work
-shape_of-work c = c.loop-k.invariant.added.only.long
 
 pub returns : goal.returns
 returns c = done _ c.requires c.loop-k.invariant.added c.loop-k-test.false

@@ -5,9 +5,6 @@ use Rattle.marking.proofs.Reading.{bounds, best_ok, entries_ok}
 use Rattle.resolve_directed_collisions.proofs.Colliding.{one_use, more_uses}
 use Rattle.resolve_directed_collisions.proofs.resolve_edge.Goals as goal
 
-pub overflow_mul-a : goal.overflow_mul-a
-overflow_mul-a c = omega (arith, bounds c.requires)
-
 pub overflow_add-a : goal.overflow_add-a
 overflow_add-a c = omega (arith, bounds c.requires)
 
@@ -16,12 +13,6 @@ offset_bounds-work-n c = omega (arith, bounds c.requires)
 
 pub bounds-work-n : goal.bounds-work-n
 bounds-work-n c = omega (arith, bounds c.requires)
-
-pub overflow_cast-a : goal.overflow_cast-a
-overflow_cast-a c = omega (arith, bounds c.requires)
-
-pub overflow_mul-b : goal.overflow_mul-b
-overflow_mul-b c = omega (arith, bounds c.requires)
 
 pub overflow_add-b : goal.overflow_add-b
 overflow_add-b c = omega (arith, bounds c.requires)
@@ -35,41 +26,14 @@ offset_bounds-work-n-2 c = omega (arith, bounds c.requires)
 pub bounds-work-n-2 : goal.bounds-work-n-2
 bounds-work-n-2 c = omega (arith, bounds c.requires)
 
-pub overflow_cast-b : goal.overflow_cast-b
-overflow_cast-b c = omega (arith, bounds c.requires)
-
 pub overflow_sub-b : goal.overflow_sub-b
 overflow_sub-b c = omega (arith, bounds c.requires)
-
-pub overflow_mul-first : goal.overflow_mul-first
-overflow_mul-first c = omega (arith, bounds c.requires)
-
-pub overflow_add-first : goal.overflow_add-first
-overflow_add-first c = omega (arith, bounds c.requires)
-
-pub overflow_mul-last : goal.overflow_mul-last
-overflow_mul-last c = omega (arith, bounds c.requires)
-
-pub overflow_add-last : goal.overflow_add-last
-overflow_add-last c = omega (arith, bounds c.requires)
-
-pub offset_bounds-work-first : goal.offset_bounds-work-first
-offset_bounds-work-first c = omega (arith, bounds c.requires)
-
-pub slice_bounds-best-count : goal.slice_bounds-best-count
-slice_bounds-best-count c = omega (arith, bounds c.requires)
 
 pub best-one-requires : goal.best-one-requires
 best-one-requires c = best_ok c.requires
 
-pub overflow_sub-b-then-b-a-gt1 : goal.overflow_sub-b-then-b-a-gt1
-overflow_sub-b-then-b-a-gt1 c = omega (arith, bounds c.requires)
-
 pub mark_rest-requires : goal.mark_rest-requires
 mark_rest-requires c = entries_ok c.requires
-
-pub shape_of-work : goal.shape_of-work
-shape_of-work c = c.mark_rest.ensures.only.long
 
 pub returns-then-b-a-gt1 : goal.returns-then-b-a-gt1
 returns-then-b-a-gt1 c = more_uses c.requires c.best-one.ensures c.mark_rest.ensures

@@ -1,10 +1,9 @@
 -- `resolve_nonmanifold_edges::mark_edges` meets its contract: after r runs, what is lost at their edges is marked, and the crowded ones are counted.
 -- Assumes nothing.
-use Prim.Native.Nat.{◌-◌}
 use native.Mathlib.Omega.{arith}
 use Rattle.marking.proofs.Reading.{bounds}
 use Rattle.marking.proofs.Running.{clear_ok, begin, run_ok}
-use Rattle.resolve_nonmanifold_edges.proofs.Crowding.{none_counted, again, few_counted, done}
+use Rattle.resolve_nonmanifold_edges.proofs.Crowding.{none_counted, again, at_most_one, done}
 use Rattle.resolve_nonmanifold_edges.proofs.mark_edges.Goals as goal
 
 pub table-m-requires : goal.table-m-requires
@@ -19,19 +18,19 @@ loop-r-init c = let at_clear = c.before.before in
     let at_table = at_clear.before.before.before.before in
     none_counted (begin _ at_table.requires at_table.table-m.ensures at_clear.clear.ensures.only at_clear.clear.ensures.filled)
 
-pub resolve_edge-c-requires : goal.resolve_edge-c-requires
-resolve_edge-c-requires c = run_ok c.loop-r.invariant.passed c.loop-r-test.true
+pub resolve_edge-requires : goal.resolve_edge-requires
+resolve_edge-requires c = run_ok c.loop-r.invariant.passed c.loop-r-test.true
 
 pub overflow_add-c : goal.overflow_add-c
 overflow_add-c c = let at_Edge = c.before.before in
     let turn = at_Edge.before.before in
     let v = turn.loop-r.invariant in
-    omega (arith, v.fewer, bounds (run_ok v.passed turn.loop-r-test.true), few_counted v turn.loop-r-test.true at_Edge.resolve_edge-c.ensures)
+    omega (arith, v.fewer, bounds (run_ok v.passed turn.loop-r-test.true), at_most_one c.resolve_edge.result, c.from-c.ensures)
 
 pub loop-r-preserved : goal.loop-r-preserved
 loop-r-preserved c = let at_Edge = c.before.before in
     let turn = at_Edge.before.before in
-    again turn.loop-r.invariant turn.loop-r-test.true at_Edge.resolve_edge-c.ensures
+    again turn.loop-r.invariant turn.loop-r-test.true at_Edge.resolve_edge.ensures c.from-c.ensures
 
 pub shape_of-work : goal.shape_of-work
 shape_of-work c = let at_clear = c.before.before.before.before in

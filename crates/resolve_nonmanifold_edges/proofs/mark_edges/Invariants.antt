@@ -1,6 +1,5 @@
 -- `resolve_nonmanifold_edges::mark_edges` meets its contract: after r runs, what is lost at their edges is marked, and the crowded ones are counted.
 -- Assumes nothing.
-use Prim.Native.Nat.{◌-◌}
 use Rattle.resolve_nonmanifold_edges.proofs.Crowding.{Counted}
 use Rattle.resolve_nonmanifold_edges.proofs.mark_edges.Given as goal
 

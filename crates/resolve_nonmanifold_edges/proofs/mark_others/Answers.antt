@@ -2,14 +2,13 @@
 use mathlib.Core.Path.{◌≡◌, sym, ◌∙◌}
 use mathlib.Core.Bool.{Bool, true, false, not, ◌||◌}
 use mathlib.Core.List.{List}
-use Prim.Native.Nat.{ℕ, ◌+◌, ◌-◌, ◌/◌, ◌<◌}
-use native.Mathlib.Omega.{arith}
+use Prim.Native.Nat.{ℕ, ◌+◌, ◌/◌, ◌<◌}
 use lib.Dec.{eqb}
 use lib.ListN.{get_or, set}
 use Rattle.rows.specs.Region.{part}
 use Rattle.rank.specs.Ranks.{faces_in}
 use Rattle.marking.specs.Marking.{EntriesAsks}
-use Rattle.marking.proofs.Adding.{Added, begin, turn, more_faces, skips, adds, done}
+use Rattle.marking.proofs.Adding.{Added, begin, more_faces, skips, adds, done}
 use Rattle.resolve_nonmanifold_edges.proofs.Losing.{lost_none, lost_other, lost_kept, lost_here}
 use Rattle.resolve_nonmanifold_edges.proofs.mark_others.Invariants.{lost}
 use Rattle.resolve_nonmanifold_edges.proofs.mark_others.Goals as goal
@@ -34,35 +33,11 @@ module _ (one two : ℕ) {w₀ : List ℕ} {from len marks F : ℕ} {w : List �
 pub loop-k-init : goal.loop-k-init
 loop-k-init c = begin _ c.requires (lost_none _ _)
 
-pub overflow_add-f : goal.overflow_add-f
-overflow_add-f c = omega (arith, turn _ c.requires c.loop-k.invariant c.loop-k-test.true)
-
-pub offset_bounds-work-from : goal.offset_bounds-work-from
-offset_bounds-work-from c = omega (arith, turn _ c.requires c.loop-k.invariant c.loop-k-test.true)
-
-pub bounds-work-from : goal.bounds-work-from
-bounds-work-from c = omega (arith, turn _ c.requires c.loop-k.invariant c.loop-k-test.true)
-
-pub overflow_cast-f : goal.overflow_cast-f
-overflow_cast-f c = omega (arith, turn _ c.requires c.loop-k.invariant c.loop-k-test.true)
-
-pub overflow_add-work : goal.overflow_add-work
-overflow_add-work c = omega (arith, turn _ c.requires c.loop-k.invariant c.loop-k-test.true)
-
-pub offset_bounds-work-marks : goal.offset_bounds-work-marks
-offset_bounds-work-marks c = omega (arith, turn _ c.requires c.loop-k.invariant c.loop-k-test.true)
-
-pub bounds-work-marks : goal.bounds-work-marks
-bounds-work-marks c = omega (arith, turn _ c.requires c.loop-k.invariant c.loop-k-test.true)
-
 pub loop-k-preserved : goal.loop-k-preserved
 loop-k-preserved c = let a = c.before.before.before.before in
     let s = a.before.before in
     let h = c.loop-k-test.true in
     elim c.if-loses.branch [ then-loses w ↦ rw w.work-is (loses s.args.one s.args.two s.requires a.loop-k.invariant h c.loses.ensures w.if-loses.true) | else-loses w ↦ rw w.work-is (keeps s.args.one s.args.two s.requires a.loop-k.invariant h c.loses.ensures w.if-loses.false) ]
-
-pub shape_of-work : goal.shape_of-work
-shape_of-work c = c.loop-k.invariant.only.long
 
 pub returns : goal.returns
 returns c = done _ c.requires c.loop-k.invariant c.loop-k-test.false

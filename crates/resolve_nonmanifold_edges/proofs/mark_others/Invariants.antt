@@ -1,7 +1,7 @@
 -- `resolve_nonmanifold_edges::mark_others` meets its contract: after k entries, their faces but for the two are marked. Assumes nothing.
 use mathlib.Core.Bool.{Bool}
 use mathlib.Core.List.{List}
-use Prim.Native.Nat.{ℕ, ◌-◌}
+use Prim.Native.Nat.{ℕ}
 use Rattle.rows.specs.Region.{part}
 use Rattle.rank.specs.Ranks.{faces_in}
 use Rattle.marking.proofs.Adding.{Added}

@@ -5,9 +5,6 @@ use Rattle.marking.proofs.Reading.{bounds, best_ok, entries_ok, edge_read}
 use Rattle.resolve_nonmanifold_edges.proofs.Crowding.{few, second_ok, many}
 use Rattle.resolve_nonmanifold_edges.proofs.resolve_edge.Goals as goal
 
-pub overflow_mul-a : goal.overflow_mul-a
-overflow_mul-a c = omega (arith, bounds c.requires)
-
 pub overflow_add-a : goal.overflow_add-a
 overflow_add-a c = omega (arith, bounds c.requires)
 
@@ -16,12 +13,6 @@ offset_bounds-work-n c = omega (arith, bounds c.requires)
 
 pub bounds-work-n : goal.bounds-work-n
 bounds-work-n c = omega (arith, bounds c.requires)
-
-pub overflow_cast-a : goal.overflow_cast-a
-overflow_cast-a c = omega (arith, bounds c.requires)
-
-pub overflow_mul-b : goal.overflow_mul-b
-overflow_mul-b c = omega (arith, bounds c.requires)
 
 pub overflow_add-b : goal.overflow_add-b
 overflow_add-b c = omega (arith, bounds c.requires)
@@ -35,9 +26,6 @@ offset_bounds-work-n-2 c = omega (arith, bounds c.requires)
 pub bounds-work-n-2 : goal.bounds-work-n-2
 bounds-work-n-2 c = omega (arith, bounds c.requires)
 
-pub overflow_cast-b : goal.overflow_cast-b
-overflow_cast-b c = omega (arith, bounds c.requires)
-
 pub overflow_sub-b : goal.overflow_sub-b
 overflow_sub-b c = omega (arith, bounds c.requires)
 
@@ -45,74 +33,26 @@ pub returns-then-b-a-le2 : goal.returns-then-b-a-le2
 returns-then-b-a-le2 c = let start = c.before.before.before.before.before.before in
     few start.requires (omega (arith, c.if-b-a-le2.true))
 
-pub overflow_mul-first : goal.overflow_mul-first
-overflow_mul-first c = omega (arith, bounds c.requires)
-
-pub overflow_add-first : goal.overflow_add-first
-overflow_add-first c = omega (arith, bounds c.requires)
-
-pub overflow_mul-last : goal.overflow_mul-last
-overflow_mul-last c = omega (arith, bounds c.requires)
-
-pub overflow_add-last : goal.overflow_add-last
-overflow_add-last c = omega (arith, bounds c.requires)
-
-pub offset_bounds-work-first : goal.offset_bounds-work-first
-offset_bounds-work-first c = omega (arith, bounds c.requires)
-
-pub slice_bounds-best-count : goal.slice_bounds-best-count
-slice_bounds-best-count c = omega (arith, bounds c.requires)
-
 pub best-one-requires : goal.best-one-requires
 best-one-requires c = let start = c.before.before.before.before.before.before.before.before in
     best_ok start.requires
 
-pub offset_bounds-work-first-2 : goal.offset_bounds-work-first-2
-offset_bounds-work-first-2 c = omega (arith, bounds c.requires)
-
-pub bounds-work-first : goal.bounds-work-first
-bounds-work-first c = omega (arith, bounds c.requires)
-
-pub overflow_cast-id : goal.overflow_cast-id
-overflow_cast-id c = omega (arith, bounds c.requires)
-
-pub offset_bounds-work-id : goal.offset_bounds-work-id
-offset_bounds-work-id c = omega (arith, bounds c.requires)
-
 pub bounds-work-id : goal.bounds-work-id
 bounds-work-id c = omega (arith, bounds c.requires)
 
-pub overflow_add-higher : goal.overflow_add-higher
-overflow_add-higher c = omega (arith, bounds c.requires)
-
-pub offset_bounds-work-n-3 : goal.offset_bounds-work-n-3
-offset_bounds-work-n-3 c = omega (arith, bounds c.requires)
-
 pub bounds-work-n-3 : goal.bounds-work-n-3
 bounds-work-n-3 c = omega (arith, bounds c.requires)
-
-pub offset_bounds-work-first-3 : goal.offset_bounds-work-first-3
-offset_bounds-work-first-3 c = omega (arith, bounds c.requires)
-
-pub slice_bounds-second-count : goal.slice_bounds-second-count
-slice_bounds-second-count c = omega (arith, bounds c.requires)
 
 pub second-two-requires : goal.second-two-requires
 second-two-requires c = let at-best = c.before.before.before.before.before in
     let start = at-best.before.before.before.before.before.before.before.before in
     second_ok start.requires at-best.best-one.ensures (omega (arith, at-best.if-b-a-le2.false))
 
-pub overflow_sub-b-2 : goal.overflow_sub-b-2
-overflow_sub-b-2 c = omega (arith, bounds c.requires)
-
 pub mark_others-requires : goal.mark_others-requires
 mark_others-requires c = let at_second = c.before in
     let at-best = at_second.before.before.before.before.before.before in
     let start = at-best.before.before.before.before.before.before.before.before in
     entries_ok start.requires
-
-pub shape_of-work : goal.shape_of-work
-shape_of-work c = c.mark_others.ensures.only.long
 
 pub returns : goal.returns
 returns c = let at-mark-others = c.before.before in

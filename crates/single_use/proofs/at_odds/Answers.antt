@@ -14,9 +14,6 @@ offset_bounds-work-starts c = omega (arith, bounds c.requires)
 pub bounds-work-starts : goal.bounds-work-starts
 bounds-work-starts c = omega (arith, bounds c.requires)
 
-pub overflow_cast-a : goal.overflow_cast-a
-overflow_cast-a c = omega (arith, bounds c.requires)
-
 pub overflow_add-b : goal.overflow_add-b
 overflow_add-b c = omega (arith, bounds c.requires)
 
@@ -28,9 +25,6 @@ offset_bounds-work-starts-2 c = omega (arith, bounds c.requires)
 
 pub bounds-work-starts-2 : goal.bounds-work-starts-2
 bounds-work-starts-2 c = omega (arith, bounds c.requires)
-
-pub overflow_cast-b : goal.overflow_cast-b
-overflow_cast-b c = omega (arith, bounds c.requires)
 
 pub overflow_sub-b : goal.overflow_sub-b
 overflow_sub-b c = omega (arith, bounds c.requires)

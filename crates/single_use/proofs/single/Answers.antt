@@ -1,6 +1,5 @@
 -- `single_use::single` meets its contract: no run before r is at odds. Assumes nothing.
 use mathlib.Core.Path.{refl}
-use Prim.Native.Nat.{◌-◌}
 use native.Mathlib.Omega.{arith}
 use Rattle.orienting.proofs.Reached.{not_both}
 use Rattle.single_use.proofs.Opposing.{once}
@@ -9,9 +8,6 @@ use Rattle.single_use.proofs.single.Goals as goal
 
 pub loop-r-init : goal.loop-r-init
 loop-r-init c = none_passed (omega arith)
-
-pub at_odds-requires : goal.at_odds-requires
-at_odds-requires c = record { runs = _; asks = c.requires; here = c.loop-r-test.true }
 
 pub returns-then-at_odds : goal.returns-then-at_odds
 returns-then-at_odds c = λ e. absurd (not_both e refl)

@@ -1,5 +1,4 @@
 -- `single_use::single` meets its contract: no run before r is at odds. Assumes nothing.
-use Prim.Native.Nat.{◌-◌}
 use Rattle.single_use.proofs.Scanning.{Passed}
 use Rattle.single_use.proofs.single.Given as goal
 

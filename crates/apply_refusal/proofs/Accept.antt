@@ -1,5 +1,5 @@
 -- What an accepted call says of its input, of the list and of its rooms. Assumes nothing.
-use mathlib.Core.Path.{◌≡◌, refl, sym, ap, ◌∙◌}
+use mathlib.Core.Path.{◌≡◌, refl, sym}
 use mathlib.Core.List.{List, [], ◌∷◌}
 use Prim.Native.Nat.{ℕ, ◌+◌, ◌*◌, ◌/◌}
 use lib.ListN.{length}
@@ -10,12 +10,9 @@ use Rattle.rules.specs.Refusal.{ok, decided}
 use Rattle.rules.specs.Rooms.{work_room}
 use Rattle.rules.specs.ApplyCall.{apply_rooms, ApplyRooms, apply_check}
 use Rattle.rule_laws.proofs.Decided.{decided_all}
-use Rattle.refuse.specs.Verdicts.{check_of, sizes, contents}
+use Rattle.refuse.specs.Verdicts.{sizes, contents}
 use Rattle.refuse.specs.Accepted.{Accepted}
-use Rattle.refuse.specs.declared.Verdict.{Verdict}
-use Rattle.refuse.specs.declared.Verdict.TheVariants.{Fine, Refused}
 use Rattle.refuse.proofs.Accept.{input_from, rooms_fine}
-use Rattle.refuse.proofs.Groups.{found_none}
 use Rattle.apply_refusal.specs.Checks.{apply_checks, ApplyAccepted}
 
 -- the list of checks is the rules', at the lengths of the rooms
@@ -28,11 +25,10 @@ apply_is points faces text r = refl
 
 -- where the checks before 15 find nothing the input is good
 pub input_is :
-    (points : List Float) (faces : List ℕ) (v w : Verdict) → check_of v ≡ decided (sizes (length points) (length faces)) → v ≡ Fine
-    → check_of w ≡ decided (contents points faces) → w ≡ Fine → Accepted points faces
-input_is points faces v w a e b f =
-    let r = decided_all (sizes (length points) (length faces)) (found_none (decided (sizes (length points) (length faces))) v a e) in
-    let q = decided_all (contents points faces) (found_none (decided (contents points faces)) w b f) in
+    (points : List Float) (faces : List ℕ) → ok ≡ decided (sizes (length points) (length faces)) → ok ≡ decided (contents points faces) → Accepted points faces
+input_is points faces a b =
+    let r = decided_all (sizes (length points) (length faces)) (sym a) in
+    let q = decided_all (contents points faces) (sym b) in
     input_from points faces r.0 r.1.0 r.1.1.0 r.1.1.1.0 q.0 q.1.0
 
 -- where all find nothing the list applies and the rooms are long enough

@@ -35,7 +35,12 @@ fn short_room(p: usize, f: usize, rooms: Rooms) -> Result<(), Refusal>
 }
 
 // What the call refuses: 1, 2, 4, 5, 15, 6.
-pub fn apply_refusal(points: &[f64], faces: &[u32], text: &[u8], rooms: Rooms) -> Result<(), Refusal>
+pub fn apply_refusal(
+    points: &[f64],
+    faces: &[u32],
+    text: &[u8],
+    rooms: Rooms,
+) -> Result<(), Refusal>
     ensures { by.check_of result
         ≡ refusal.decided
         (apply_checks points.now faces.now text.now rooms.out_points rooms.out_faces rooms.work) }

@@ -1,4 +1,5 @@
 -- The same of the calls: what writing left in its room is read as the mesh, and what reading left in its rooms is written as the file. Assumes nothing.
+use Rattle.std.specs.Prelude.{Result, Ok}
 use mathlib.Core.Path.{◌≡◌, refl, sym, ap, ap₂, subst, ◌∙◌}
 use mathlib.Core.List.{List, [], ◌∷◌}
 use Prim.Native.Nat.{ℕ, ◌*◌, ◌/◌, ◌≤◌}
@@ -14,12 +15,10 @@ use Rattle.rule_laws.proofs.Called.{filled_front}
 use Rattle.rule_laws.proofs.Flat.{length_flat_points, length_flat_faces}
 use Rattle.rule_laws.proofs.Bytes.{Bytes}
 use Rattle.ply_file.proofs.Scanning.{length_points, length_triples}
+use Rattle.refuse.specs.declared.Refusal.{Refusal}
 use Rattle.read_ply.specs.Answers as reading
 use Rattle.read_ply.specs.declared.Read.{Read}
-use Rattle.read_ply.specs.declared.Read.TheVariants as read
 use Rattle.write_ply.specs.Written as writing
-use Rattle.write_ply.specs.declared.Wrote.{Wrote}
-use Rattle.write_ply.specs.declared.Wrote.TheVariants as wrote
 use Rattle.there_and_back.proofs.There.{Owned, RoomFor, there}
 use Rattle.there_and_back.proofs.Back.{back}
 
@@ -40,7 +39,7 @@ found_nothing ok given after l t = refl
 found_nothing (no n p) given after l t = absurd t
 
 -- ---- what writing left
-module _ (ps : List Float) (fs file w file' w' : List ℕ) (n : ℕ) (e : writing.outcome_of (wrote.Done n) file' w' ≡ write_ply ps fs (writing.rooms_of file w)) where
+module _ (ps : List Float) (fs file w file' w' : List ℕ) (n : ℕ) (e : writing.outcome_of (Ok n) file' w' ≡ write_ply ps fs (writing.rooms_of file w)) where
   -- it refused nothing
   pub wrote_fine : write_ply_check ps fs (writing.rooms_of file w) ≡ ok
   unfolding write_ply
@@ -64,7 +63,7 @@ module _ (ps : List Float) (fs file w file' w' : List ℕ) (n : ℕ) (e : writin
       ap₂ (λ (k : ℕ) (xs : List ℕ). take k xs) l f ∙ filled_front 0 (length made) (length made) made file refl
 
   -- and reading it gives the mesh
-  pub written_read : Owned ps fs → (r : Read) (a a' : List Float) (b b' v v' : List ℕ) → RoomFor (length ps / 3) (length fs / 3) (reading.rooms_of a b v)
+  pub written_read : Owned ps fs → (r : Result Read Refusal) (a a' : List Float) (b b' v v' : List ℕ) → RoomFor (length ps / 3) (length fs / 3) (reading.rooms_of a b v)
       → reading.outcome_of r a' b' v' ≡ read_ply (take n file') (reading.rooms_of a b v)
       → (reading.answer_of r ≡ accepted (length ps ∷ length fs ∷ [])) × (take (length ps) a' ≡ ps) × (take (length fs) b' ≡ fs)
   written_read own r a a' b b' v v' room q =
@@ -75,7 +74,7 @@ module _ (ps : List Float) (fs file w file' w' : List ℕ) (n : ℕ) (e : writin
       )
 
 -- ---- what reading left
-module _ (file : List ℕ) (a a' : List Float) (b b' v v' : List ℕ) (p f : ℕ) (e : reading.outcome_of (read.Done p f) a' b' v' ≡ read_ply file (reading.rooms_of a b v)) where
+module _ (file : List ℕ) (a a' : List Float) (b b' v v' : List ℕ) (p f : ℕ) (e : reading.outcome_of (Ok (record { points = p; faces = f })) a' b' v' ≡ read_ply file (reading.rooms_of a b v)) where
   -- it refused nothing
   pub read_fine : read_ply_check file (reading.rooms_of a b v) ≡ ok
   unfolding read_ply
@@ -112,7 +111,7 @@ module _ (file : List ℕ) (a a' : List Float) (b b' v v' : List ℕ) (p f : ℕ
       ap₂ (λ (n : ℕ) (xs : List ℕ). take n xs) (l ∙ sym k) (ap (λ (o : Outcome ReadPlyRooms). o.rooms.faces) q) ∙ filled_front 0 (3 * faces_in_is file) _ (flat_faces (triples_of file)) b refl
 
   -- and writing them gives the file
-  pub read_written : Bytes file → (r : Wrote) (out out' w w' : List ℕ) → length file ≤ length out → work_room (vertices_in file) (faces_in_is file) ≤ length w
+  pub read_written : Bytes file → (r : Result ℕ Refusal) (out out' w w' : List ℕ) → length file ≤ length out → work_room (vertices_in file) (faces_in_is file) ≤ length w
       → writing.outcome_of r out' w' ≡ write_ply (take p a') (take f b') (writing.rooms_of out w)
       → (writing.answer_of r ≡ accepted (length file ∷ [])) × (take (length file) out' ≡ file)
   read_written by r out out' w w' h k q =

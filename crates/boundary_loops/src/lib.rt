@@ -13,17 +13,9 @@ ghost use Rattle.rules.specs.LoopsCall as rule;
 ghost use Rattle.boundary_loops.specs.Answers.{outcome_of, rooms_of};
 ghost use Rattle.boundary_loops.specs.Steps.{ListAsks, ListGives};
 
-use drawing::Drawn;
 use loops::Loops;
 use loops_refusal::Rooms;
-use refuse::Verdict;
-
-// What the loop call gives back: how many entries stand in the rooms of loop vertices and loop ends, or a refusal's number and place.
-#[derive(Drop)]
-pub enum Looped {
-    Done(usize, usize),
-    Refused(u32, usize),
-}
+use refuse::Refusal;
 
 // Lists the loops, and clears the work room.
 fn list(
@@ -60,7 +52,7 @@ pub fn find_loops(
     loop_vertices: &mut [u32],
     loop_ends: &mut [u32],
     work: &mut [u32],
-) -> Looped
+) -> Result<Loops, Refusal>
     ensures { outcome_of result (rooms_of loop_vertices.new loop_ends.new work.new)
         ≡ rule.find_loops points.now faces.now
         (rooms_of loop_vertices.old loop_ends.old work.old) }
@@ -70,17 +62,7 @@ pub fn find_loops(
         loop_ends: loop_ends.len(),
         work: work.len(),
     };
-    match loops_refusal::loops_refusal(points, faces, rooms) {
-        Verdict::Fine => {}
-        Verdict::Refused(number, place) => {
-            return Looped::Refused(number, place);
-        }
-    }
-    match drawing::prepare(work, faces, points.len() / 3, true) {
-        Drawn::Ready(_) => {
-            let found = list(faces, points.len() / 3, loop_vertices, loop_ends, work);
-            Looped::Done(found.loop_vertices, found.loop_ends)
-        }
-        Drawn::Refused(number, place) => Looped::Refused(number, place),
-    }
+    loops_refusal::loops_refusal(points, faces, rooms)?;
+    drawing::prepare(work, faces, points.len() / 3, true)?;
+    Ok(list(faces, points.len() / 3, loop_vertices, loop_ends, work))
 }

@@ -10,15 +10,15 @@ ghost use Rattle.rules.specs.EdgesCall as rule;
 ghost use Rattle.edges.specs.Answers.{outcome_of, rooms_of};
 ghost use Rattle.edges.specs.Steps.{ListAsks, after};
 
-use drawing::Drawn;
 use edges_refusal::Rooms;
-use refuse::Verdict;
+use refuse::Refusal;
 
-// What the edge call gives back: how many entries stand in the rooms of edges, lengths and face edges, or a refusal's number and place.
-#[derive(Drop)]
-pub enum Found {
-    Done(usize, usize, usize),
-    Refused(u32, usize),
+// How many entries stand in the rooms of edges, lengths and face edges after an accepted edge call.
+#[derive(Clone, Copy, Debug, PartialEq, Eq)]
+pub struct Found {
+    pub edges: usize,
+    pub lengths: usize,
+    pub face_edges: usize,
 }
 
 // Lists the m edges, their lengths and the edges of the faces, and clears the work room.
@@ -54,7 +54,7 @@ pub fn find_edges(
     lengths: &mut [f64],
     face_edges: &mut [u32],
     work: &mut [u32],
-) -> Found
+) -> Result<Found, Refusal>
     ensures { outcome_of result (rooms_of edges.new lengths.new face_edges.new work.new)
         ≡ rule.find_edges points.now faces.now
         (rooms_of edges.old lengths.old face_edges.old work.old) }
@@ -65,17 +65,12 @@ pub fn find_edges(
         face_edges: face_edges.len(),
         work: work.len(),
     };
-    match edges_refusal::edges_refusal(points, faces, rooms) {
-        Verdict::Fine => {}
-        Verdict::Refused(number, place) => {
-            return Found::Refused(number, place);
-        }
-    }
-    match drawing::prepare(work, faces, points.len() / 3, false) {
-        Drawn::Ready(m) => {
-            list(points, faces, m, edges, lengths, face_edges, work);
-            Found::Done(2 * m, m, faces.len())
-        }
-        Drawn::Refused(number, place) => Found::Refused(number, place),
-    }
+    edges_refusal::edges_refusal(points, faces, rooms)?;
+    let m = drawing::prepare(work, faces, points.len() / 3, false)?;
+    list(points, faces, m, edges, lengths, face_edges, work);
+    Ok(Found {
+        edges: 2 * m,
+        lengths: m,
+        face_edges: faces.len(),
+    })
 }

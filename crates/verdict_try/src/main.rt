@@ -6,22 +6,19 @@
 ghost use Rattle.std.specs.Prelude.{◌≡◌, length};
 ghost use Rattle.edge_check_refusal.specs.Checks.{CheckAccepted};
 
-use refuse::Verdict;
+use refuse::Refusal;
 use std::io;
 
 // Writes a verdict.
-fn show(rt: &impl Print, found: Verdict) -> io::Result<()> {
+fn show(rt: &impl Print, found: Result<(), Refusal>) -> io::Result<()> {
     match found {
-        Verdict::Fine => {
-            print!(rt; "fine ")?;
-        }
-        Verdict::Refused(number, place) => {
-            show::number(rt, number as u64)?;
+        Ok(()) => print!(rt; "fine "),
+        Err(refusal) => {
+            show::number(rt, refusal.number() as u64)?;
             print!(rt; "at ")?;
-            show::number(rt, place as u64)?;
+            show::number(rt, refusal.place() as u64)
         }
     }
-    Ok(())
 }
 
 // Both ways, one after the other, in a room that may hold anything.
@@ -40,14 +37,9 @@ fn both(rt: &impl Print, count: usize, faces: &[u32], work: &mut [u32]) -> io::R
 fn run(rt: &impl Print, count: usize, faces: &[u32]) -> io::Result<()> {
     let mut work = [7; 400];
     match edge_check_refusal::edge_check_refusal(count, faces, 400) {
-        Verdict::Fine => {
-            both(rt, count, faces, &mut work)?;
-        }
-        Verdict::Refused(_, _) => {
-            println!(rt; "refused before")?;
-        }
+        Ok(()) => both(rt, count, faces, &mut work),
+        Err(_) => println!(rt; "refused before"),
     }
-    Ok(())
 }
 
 // Fine: no faces, a face, two that share an edge, a face that repeats a corner, a closed shell, two loops.
@@ -80,15 +72,12 @@ fn split_ones(rt: &impl Print) -> io::Result<()> {
 // The verdict from the faces alone.
 fn from_faces(rt: &impl Print, count: usize, faces: &[u32]) -> io::Result<()> {
     match edge_check_refusal::edge_check_refusal(count, faces, 4294967295) {
-        Verdict::Fine => {
+        Ok(()) => {
             show(rt, verdict::loop_verdict(count, faces))?;
-            show::end_line(rt)?;
+            show::end_line(rt)
         }
-        Verdict::Refused(_, _) => {
-            println!(rt; "refused before")?;
-        }
+        Err(_) => println!(rt; "refused before"),
     }
-    Ok(())
 }
 
 // A fan of 2049 faces around point 0, where that stands already, and then 2052 times a face of point 2.

@@ -7,6 +7,9 @@ use native.Mathlib.Omega.{arith}
 use lib.Ieee.{Float}
 use lib.ListN.{length, drop}
 use lib.Seq.{drop-length}
+use Rattle.std.specs.Prelude as std
+use Rattle.std.specs.Prelude.{Some, IsSome}
+use Rattle.list_runs.proofs.Stepping.{no_step}
 use Rattle.rows.proofs.Regions.{only_none, only_both}
 use Rattle.rules.specs.Lists.{through}
 use Rattle.rules.specs.Text.{parted}
@@ -45,8 +48,16 @@ only_bench b z e = ap out e
     out none = b
     out (some c) = c
 
+-- no line is bad
+pub line_there : {text : List ℕ} {ps₀ : List Float} {xs₀ w₀ : List ℕ} {F p : ℕ} {ps : List Float} {xs w : List ℕ} {at n : ℕ} → Ran text ps₀ xs₀ w₀ F p ps xs w at n → RunAsks text ps₀ xs₀ w₀ F p
+    → (o : std.Option Line) → Reads text at o → IsSome o
+line_there v q (Some l) r = refl
+line_there v q std.None r =
+    let u = v.runs q in
+    absurd (no_step q.P _ u.bench r.others q.z (sym (ap (through (with_list_line q.P _) (some u.bench)) r.lines) ∙ u.goes))
+
 module _ {text : List ℕ} {ps₀ : List Float} {xs₀ w₀ : List ℕ} {F p : ℕ} {ps : List Float} {xs w : List ℕ} {at n : ℕ} (v : Ran text ps₀ xs₀ w₀ F p ps xs w at n) where
-  module _ {line : Line} (r : Reads text at line) where
+  module _ {line : Line} (r : Reads text at (Some line)) where
     -- the next line
     abbrev pub line-asks : RunAsks text ps₀ xs₀ w₀ F p → LineAsks text line ps xs w F n
     line-asks q = record { P = q.P; z = q.z; at = at; reads = r; run = v.runs q }

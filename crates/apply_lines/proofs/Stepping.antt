@@ -14,8 +14,10 @@ use Rattle.rules.specs.Mending as list
 use Rattle.rules.specs.Applying.{Bench, section, numbers, change, with_list_line, lines_read}
 use Rattle.list_lines.specs.declared.Line.{Line}
 use Rattle.list_lines.specs.declared.Line.TheVariants as read
-use Rattle.list_lines.specs.Lines.{reason, faces_from_row, Says, SaysNothing, SaysSplit, Reads}
-use Rattle.list_runs.proofs.Stepping.{Stepped, step, no_step}
+use Rattle.list_lines.specs.declared.Reason as told
+use Rattle.std.specs.Prelude.{Some}
+use Rattle.list_lines.specs.Lines.{reason, faces_from_row, Says, SaysSplit, Reads}
+use Rattle.list_runs.proofs.Stepping.{Stepped, step}
 use Rattle.list_changes.specs.Changes.{FaceChanged, TakenOver, Stands}
 use Rattle.list_changes.proofs.Standing.{Splits, drop_applies, exchange_applies, isolated_applies, split_applies, drop_stands, exchange_stands, split_stands, isolated_stands}
 use Rattle.apply_lines.specs.Runs.{TakeAsks, Run, Within, LineAsks, LineGives}
@@ -47,9 +49,9 @@ module _ {text : List ℕ} {line : Line} {ps : List Float} {xs w : List ℕ} {F 
 
   -- ---- `d`
 
-  module _ {f why end : ℕ} (e : line ≡ read.Dropped f why end) where
+  module _ {f : ℕ} {why : told.Reason} {end : ℕ} (e : line ≡ read.Dropped f why end) where
     dropped_says : Says text q.at (list.dropped_face f (reason why)) end
-    dropped_says = subst (Reads text q.at) e q.reads
+    dropped_says = subst (λ (l : Line). Reads text q.at (Some l)) e q.reads
 
     -- the face, the room of its flag, and where the line ends
     pub record DropFits : Type 0 where
@@ -73,7 +75,7 @@ module _ {text : List ℕ} {line : Line} {ps : List Float} {xs w : List ℕ} {F 
 
   module _ {f end : ℕ} (e : line ≡ read.Exchange f end) where
     exchange_says : Says text q.at (list.exchange f) end
-    exchange_says = subst (Reads text q.at) e q.reads
+    exchange_says = subst (λ (l : Line). Reads text q.at (Some l)) e q.reads
 
     -- the face, the room of its corners, and where the line ends
     pub record ExchangeFits : Type 0 where
@@ -97,7 +99,7 @@ module _ {text : List ℕ} {line : Line} {ps : List Float} {xs w : List ℕ} {F 
 
   module _ {old new from end : ℕ} (e : line ≡ read.Split old new from end) where
     split_says : SaysSplit text q.at old new from end
-    split_says = subst (Reads text q.at) e q.reads
+    split_says = subst (λ (l : Line). Reads text q.at (Some l)) e q.reads
 
     splits : Splits q.P F b n old new (faces_from_row text from end)
     splits = split_applies q.run.stands old new (faces_from_row text from end) (next (list.split_point old new (faces_from_row text from end)) end split_says.says).applies
@@ -133,7 +135,7 @@ module _ {text : List ℕ} {line : Line} {ps : List Float} {xs w : List ℕ} {F 
 
   module _ {v end : ℕ} (e : line ≡ read.Isolated v end) where
     isolated_says : Says text q.at (list.isolated_point v) end
-    isolated_says = subst (Reads text q.at) e q.reads
+    isolated_says = subst (λ (l : Line). Reads text q.at (Some l)) e q.reads
 
     -- the point, the room of its flag, and where the line ends
     pub record IsolatedFits : Type 0 where
@@ -153,11 +155,3 @@ module _ {text : List ℕ} {line : Line} {ps : List Float} {xs w : List ℕ} {F 
         let z = isolated_fits in
         made (list.isolated_point v) end isolated_says (isolated_stands v _ q.run.stands z.low)
         (record { only_points = only_none _ _ _; only_faces = only_none _ _ _; only_work = only_set w (F + v) 1 (omega arith) (omega (arith, z)) })
-
-  -- ---- a bad line
-
-  -- there is none
-  pub not_bad : line ≡ read.Bad → ⊥
-  not_bad e =
-      let s : SaysNothing text q.at = subst (Reads text q.at) e q.reads in
-      no_step q.P F b s.others q.z (sym (ap (through (with_list_line q.P F) (some b)) s.lines) ∙ q.run.goes)

@@ -1,5 +1,5 @@
 -- Lines taken one after the other on a bench that stands in the rooms: what each function of this crate asks and gives. Definitions only.
-use Rattle.std.specs.Prelude.{◌≡◌, List, ℕ, ◌+◌, ◌*◌, ◌/◌, ◌≤◌, ◌<◌, length, take, drop, Float}
+use Rattle.std.specs.Prelude.{◌≡◌, List, ℕ, ◌+◌, ◌*◌, ◌/◌, ◌≤◌, ◌<◌, length, take, drop, Float, Some}
 use Rattle.std.proofs.Math.Option.{some}
 use Rattle.std.specs.Float.{nan}
 use Rattle.rows.specs.Region.{OnlyOf, Only}
@@ -38,7 +38,7 @@ pub record LineAsks (text : List ℕ) (line : Line) (ps : List Float) (xs w : Li
   pub P : ℕ
   pub z : Bench
   pub at : ℕ
-  pub reads : Reads text at line
+  pub reads : Reads text at (Some line)
   pub run : Run P F z text at ps xs w n
 
 -- what is left of the lines makes the same

@@ -11,7 +11,7 @@ use list_changes::Finished;
 use list_lines::Line;
 
 // Where the next line begins, and how many points stand.
-#[derive(Drop)]
+#[derive(Clone, Copy, Debug, PartialEq, Eq)]
 struct Step {
     next: usize,
     points: usize,
@@ -31,7 +31,7 @@ fn take_over(text: &[u8], from: usize, end: usize, faces: &mut [u32], n: usize, 
     }
 }
 
-// Makes the change that a line tells, where n faces and `count` points stand. A bad line changes nothing, and ends the text.
+// Makes the change that a line tells, where n faces and `count` points stand.
 fn apply_line(
     text: &[u8],
     line: Line,
@@ -46,43 +46,44 @@ fn apply_line(
         → LineGives q points.new faces.new work.new result.points result.next }
 {
     match line {
-        Line::Dropped(face, _why, end) => {
+        Line::Dropped { face, end, .. } => {
             work[face as usize] = 1;
             Step {
                 next: end + 1,
                 points: count,
             }
         }
-        Line::Exchange(face, end) => {
+        Line::Exchange { face, end } => {
             list_changes::exchange_face(faces, face as usize);
             Step {
                 next: end + 1,
                 points: count,
             }
         }
-        Line::Split(old, new, from, end) => {
+        Line::Split {
+            old,
+            new,
+            fields,
+            end,
+        } => {
             rows::move_row(points, old as usize, count);
-            take_over(text, from, end, faces, n, old, new);
+            take_over(text, fields, end, faces, n, old, new);
             Step {
                 next: end + 1,
                 points: count + 1,
             }
         }
-        Line::Isolated(point, end) => {
+        Line::Isolated { point, end } => {
             work[n + point as usize] = 1;
             Step {
                 next: end + 1,
                 points: count,
             }
         }
-        Line::Bad => Step {
-            next: text.len(),
-            points: count,
-        },
     }
 }
 
-// Takes the lines one after the other, on n faces and p points. Returns how many points then stand.
+// Takes the lines one after the other, none of which is bad, on n faces and p points. Returns how many points then stand.
 fn run_lines(
     text: &[u8],
     points: &mut [f64],
@@ -98,7 +99,7 @@ fn run_lines(
     let mut at = 0;
     let mut count = p;
     while at < text.len() {
-        let line = list_lines::read_line(text, at);
+        let line = list_lines::read_line(text, at).unwrap();
         let step = apply_line(text, line, points, faces, work, n, count);
         at = step.next;
         count = step.points;

@@ -10,18 +10,17 @@ use Rattle.rows.specs.Region.{OnlyOf, HoldsOf, Only, Filled}
 use Rattle.rows.proofs.Regions.{only_both}
 use Rattle.filling.proofs.Filling.{filled_in, cleared_is}
 use Rattle.rules.specs.Mesh.{points_of, faces_of, flat_points, flat_faces, zero64}
-use Rattle.rules.specs.Refusal.{decided}
+use Rattle.rules.specs.Refusal.{Check, ok, no, decided}
 use Rattle.rules.specs.Rooms.{work_room, filled, cleared, outcome, accepted}
 use Rattle.rules.specs.Applying.{Mesh, applied}
 use Rattle.rules.specs.ApplyCall.{ApplyRooms, apply_check, apply_list}
 use Rattle.rule_laws.proofs.Flat.{length_flat_points, length_flat_faces}
-use Rattle.refuse.specs.Verdicts.{check_of}
-use Rattle.refuse.specs.declared.Verdict.{Verdict}
-use Rattle.refuse.specs.declared.Verdict.TheVariants.{Fine, Refused}
+use Rattle.std.specs.Prelude.{Result, Ok, Err, ⊤}
+use Rattle.refuse.specs.Verdicts.{number_of, place_of}
+use Rattle.refuse.specs.declared.Refusal.{Refusal}
 use Rattle.apply_refusal.specs.Checks.{apply_checks}
 use Rattle.apply_refusal.proofs.Accept.{apply_is, apply_accepted}
 use Rattle.apply_lines.specs.Runs.{ApplyAsks, ApplyGives}
-use Rattle.apply_list.specs.declared.Applied.TheVariants as applied-as
 use Rattle.apply_list.specs.Answers.{rooms_of, outcome_of}
 
 -- the bounds of what is cleared: P and F, the ends of the answers, the lengths of the rooms
@@ -34,8 +33,7 @@ pub record Sizes (P F p f out_points out_faces work : ℕ) : Type 0 where
   pub faces_long : 3 * F ≤ out_faces
   pub work_long : 16 * P + 64 * F + 64 ≤ work
 
-module _ (points : List Float) (faces text : List ℕ) (ps : List Float) (xs w : List ℕ) (v : Verdict)
-    (e : check_of v ≡ decided (apply_checks points faces text (length ps) (length xs) (length w))) where
+module _ (points : List Float) (faces text : List ℕ) (ps : List Float) (xs w : List ℕ) where
   -- how many points and faces are given
   abbrev P : ℕ
   P = length points / 3
@@ -60,20 +58,20 @@ module _ (points : List Float) (faces text : List ℕ) (ps : List Float) (xs w :
         work = cleared (work_room P F) w;
       }
 
-  -- the rules' check is the verdict
-  verdict_is : check_of v ≡ apply_check points faces text (rooms_of ps xs w)
-  verdict_is = e ∙ apply_is points faces text (rooms_of ps xs w)
+  -- what the checks find
+  abbrev checked : Check
+  checked = decided (apply_checks points faces text (length ps) (length xs) (length w))
 
   -- a refusal changes no buffer
-  pub is_refused : (n p : ℕ) → v ≡ Refused n p → outcome_of (applied-as.Refused n p) ps xs w ≡ apply_list points faces text (rooms_of ps xs w)
+  pub is_refused : (r : Refusal) → no (number_of r) (place_of r) ≡ checked → outcome_of (Err r) ps xs w ≡ apply_list points faces text (rooms_of ps xs w)
   unfolding apply_list outcome
-  is_refused n p t = ap (λ c. outcome c (rooms_of ps xs w) entries after) (sym (ap check_of t) ∙ verdict_is)
+  is_refused r e = ap (λ c. outcome c (rooms_of ps xs w) entries after) (e ∙ apply_is points faces text (rooms_of ps xs w))
 
-  module _ (t : v ≡ Fine) where
+  module _ (e : ok ≡ checked) where
     -- the lines may be taken
     pub asks : ApplyAsks points faces text ps xs w
     asks =
-        let a = apply_accepted points faces text (length ps) (length xs) (length w) (sym e ∙ ap check_of t) in
+        let a = apply_accepted points faces text (length ps) (length xs) (length w) (sym e) in
         record { input = a.input; applies = a.applies; room_points = a.room_out_points; room_faces = a.room_out_faces; room_work = a.room_work }
 
     module _ {ps₁ : List Float} {xs₁ w₁ : List ℕ} {p f : ℕ} (g : ApplyGives points faces text ps xs w ps₁ xs₁ w₁ p f) where
@@ -109,7 +107,7 @@ module _ (points : List Float) (faces text : List ℕ) (ps : List Float) (xs w :
           → OnlyOf nan (3 * p) (3 * (P + 3 * F) - 3 * p) ps₁ ps₂ → HoldsOf nan (3 * p) (3 * (P + 3 * F) - 3 * p) (λ i. zero64) ps₂
           → Only (3 * f) (3 * F - 3 * f) xs₁ xs₂ → Filled (3 * f) (3 * F - 3 * f) 0 xs₂
           → Only 0 (16 * P + 64 * F + 64) w₁ w₂ → Filled 0 (16 * P + 64 * F + 64) 0 w₂
-          → outcome_of (applied-as.Done (3 * p) (3 * f)) ps₂ xs₂ w₂ ≡ apply_list points faces text (rooms_of ps xs w)
+          → outcome_of (Ok (record { points = 3 * p; faces = 3 * f })) ps₂ xs₂ w₂ ≡ apply_list points faces text (rooms_of ps xs w)
       unfolding apply_list outcome work_room
       is_done {ps₂} {xs₂} {w₂} op hp of hf ow hw =
           let z = sizes in
@@ -119,4 +117,4 @@ module _ (points : List Float) (faces text : List ℕ) (ps : List Float) (xs w :
           let c : w₂ ≡ after.work = cleared_is a.room_work (only_both g.only_work ow) hw in
           ap₂ (λ (k : List ℕ) (rooms : ApplyRooms). record { answer = accepted k; rooms = rooms }) entries_are
           (λ i. record { out_points = q i; out_faces = b i; work = c i })
-          ∙ ap (λ c. outcome c (rooms_of ps xs w) entries after) (sym (ap check_of t) ∙ verdict_is)
+          ∙ ap (λ c. outcome c (rooms_of ps xs w) entries after) (e ∙ apply_is points faces text (rooms_of ps xs w))

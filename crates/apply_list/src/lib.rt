@@ -6,13 +6,13 @@ ghost use Rattle.rules.specs.ApplyCall as rule;
 ghost use Rattle.apply_list.specs.Answers.{rooms_of, outcome_of};
 
 use apply_refusal::Rooms;
-use refuse::Verdict;
+use refuse::Refusal;
 
-// What the call gives back: how many entries stand in the points and the faces room, or a refusal's number and place.
-#[derive(Drop)]
-pub enum Applied {
-    Done(usize, usize),
-    Refused(u32, usize),
+// What the call gives back: how many entries stand in the points and in the faces room.
+#[derive(Clone, Copy, Debug, PartialEq, Eq)]
+pub struct Applied {
+    pub points: usize,
+    pub faces: usize,
 }
 
 // The list applied to points and faces: the mended ones in front, zero to the stated room, the work room all zero.
@@ -23,7 +23,7 @@ pub fn apply_list(
     out_points: &mut [f64],
     out_faces: &mut [u32],
     work: &mut [u32],
-) -> Applied
+) -> Result<Applied, Refusal>
     ensures { let before = rooms_of out_points.old out_faces.old work.old in
         outcome_of result out_points.new out_faces.new work.new
         ≡ rule.apply_list points.now faces.now text.now before }
@@ -33,12 +33,7 @@ pub fn apply_list(
         out_faces: out_faces.len(),
         work: work.len(),
     };
-    match apply_refusal::apply_refusal(points, faces, text, rooms) {
-        Verdict::Fine => {}
-        Verdict::Refused(number, place) => {
-            return Applied::Refused(number, place);
-        }
-    }
+    apply_refusal::apply_refusal(points, faces, text, rooms)?;
     let p = points.len() / 3;
     let n = faces.len() / 3;
     let mended = apply_lines::apply_lines(points, faces, text, out_points, out_faces, work);
@@ -47,5 +42,8 @@ pub fn apply_list(
     wiping::wipe(out_points, a, 3 * (p + 3 * n) - a);
     wiping::wipe(out_faces, b, 3 * n - b);
     wiping::wipe(work, 0, 16 * p + 64 * n + 64);
-    Applied::Done(a, b)
+    Ok(Applied {
+        points: a,
+        faces: b,
+    })
 }

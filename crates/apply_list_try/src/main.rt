@@ -4,7 +4,6 @@
 
 ghost use Rattle.std.specs.Prelude.{◌≤◌, length};
 
-use apply_list::Applied;
 use std::io;
 
 // Runs the call, and writes the answer and what stands in the rooms.
@@ -18,15 +17,15 @@ fn run(
     work: &mut [u32],
 ) -> io::Result<()> {
     match apply_list::apply_list(points, faces, text, out_points, out_faces, work) {
-        Applied::Done(a, b) => {
+        Ok(applied) => {
             print!(rt; "done ")?;
-            show::number(rt, a as u64)?;
-            show::number(rt, b as u64)?;
+            show::number(rt, applied.points as u64)?;
+            show::number(rt, applied.faces as u64)?;
         }
-        Applied::Refused(number, place) => {
+        Err(refusal) => {
             print!(rt; "refused ")?;
-            show::number(rt, number as u64)?;
-            show::number(rt, place as u64)?;
+            show::number(rt, u64::from(refusal.number()))?;
+            show::number(rt, refusal.place() as u64)?;
         }
     }
     show::end_line(rt)?;

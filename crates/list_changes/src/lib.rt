@@ -16,7 +16,7 @@ ghost use Rattle.list_changes.specs.Changes.{FaceChanged, instead};
 ghost use Rattle.list_changes.specs.Finish.{FinishAsks, FinishGives};
 
 // How many points and faces a finished mesh has.
-#[derive(Drop)]
+#[derive(Clone, Copy, Debug, PartialEq, Eq)]
 pub struct Finished {
     pub points: usize,
     pub faces: usize,

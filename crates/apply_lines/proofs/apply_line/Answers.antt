@@ -1,6 +1,6 @@
 -- `apply_lines::apply_line` meets its contract: an arm for each kind of line. Assumes nothing.
 use native.Mathlib.Omega.{arith}
-use Rattle.apply_lines.proofs.Stepping.{drop_fits, dropped, exchange_fits, exchange, split_fits, move_asks, take_asks, split, isolated_fits, isolated, not_bad}
+use Rattle.apply_lines.proofs.Stepping.{drop_fits, dropped, exchange_fits, exchange, split_fits, move_asks, take_asks, split, isolated_fits, isolated}
 use Rattle.apply_lines.proofs.apply_line.Goals as goal
 
 pub bounds-work-face : goal.bounds-work-face
@@ -41,6 +41,3 @@ returns-in-Split c = λ q. split q c.in-Split.is c.move_row.ensures c.take_over.
 
 pub returns-in-Isolated : goal.returns-in-Isolated
 returns-in-Isolated c = λ q. isolated q c.in-Isolated.is
-
-pub returns-in-Bad : goal.returns-in-Bad
-returns-in-Bad c = λ q. absurd (not_bad q c.in-Bad.is)

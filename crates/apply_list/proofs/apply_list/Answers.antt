@@ -1,77 +1,79 @@
 -- `apply_list::apply_list` meets its contract: the verdict refuses, or the lines are taken and the rooms are cleared behind the answers. Assumes nothing.
 use native.Mathlib.Omega.{arith}
+use Rattle.std.proofs.lemmas.Result.{err_from_is_err_and}
 use Rattle.apply_list.proofs.Ending.{is_refused, asks, sizes, is_done}
 use Rattle.apply_list.proofs.apply_list.Goals as goal
 
-pub returns-in-Refused : goal.returns-in-Refused
-returns-in-Refused c = let a = c.args in
-    is_refused a.points.now a.faces.now a.text.now a.out_points.now a.out_faces.now a.work.now _ c.apply_refusal.ensures _ _ c.in-Refused.is
+pub returns-in_err-apply_refusal : goal.returns-in_err-apply_refusal
+returns-in_err-apply_refusal c = let a = c.args in
+    let p = err_from_is_err_and c.from_residual.result c.from_residual.ensures.1 in
+    rw (p.1, p.2) (is_refused a.points.now a.faces.now a.text.now a.out_points.now a.out_faces.now a.work.now _ c.in_err-apply_refusal.ensures)
 
 pub apply_lines-mended-requires : goal.apply_lines-mended-requires
 apply_lines-mended-requires c = let a = c.args in
-    asks a.points.now a.faces.now a.text.now a.out_points.now a.out_faces.now a.work.now _ c.apply_refusal.ensures c.in-Fine.is
+    asks a.points.now a.faces.now a.text.now a.out_points.now a.out_faces.now a.work.now c.in_ok-apply_refusal.ensures
 
 pub overflow_mul-a : goal.overflow_mul-a
 overflow_mul-a c = let a = c.args in
-    omega (arith, sizes a.points.now a.faces.now a.text.now a.out_points.now a.out_faces.now a.work.now _ c.apply_refusal.ensures c.in-Fine.is c.apply_lines-mended.ensures)
+    omega (arith, sizes a.points.now a.faces.now a.text.now a.out_points.now a.out_faces.now a.work.now c.in_ok-apply_refusal.ensures c.apply_lines-mended.ensures)
 
 pub overflow_mul-b : goal.overflow_mul-b
 overflow_mul-b c = let a = c.args in
-    omega (arith, sizes a.points.now a.faces.now a.text.now a.out_points.now a.out_faces.now a.work.now _ c.apply_refusal.ensures c.in-Fine.is c.apply_lines-mended.ensures)
+    omega (arith, sizes a.points.now a.faces.now a.text.now a.out_points.now a.out_faces.now a.work.now c.in_ok-apply_refusal.ensures c.apply_lines-mended.ensures)
 
 pub overflow_mul-n : goal.overflow_mul-n
 overflow_mul-n c = let a = c.args in
-    omega (arith, sizes a.points.now a.faces.now a.text.now a.out_points.now a.out_faces.now a.work.now _ c.apply_refusal.ensures c.in-Fine.is c.apply_lines-mended.ensures)
+    omega (arith, sizes a.points.now a.faces.now a.text.now a.out_points.now a.out_faces.now a.work.now c.in_ok-apply_refusal.ensures c.apply_lines-mended.ensures)
 
 pub overflow_add-p : goal.overflow_add-p
 overflow_add-p c = let a = c.args in
-    omega (arith, sizes a.points.now a.faces.now a.text.now a.out_points.now a.out_faces.now a.work.now _ c.apply_refusal.ensures c.in-Fine.is c.apply_lines-mended.ensures)
+    omega (arith, sizes a.points.now a.faces.now a.text.now a.out_points.now a.out_faces.now a.work.now c.in_ok-apply_refusal.ensures c.apply_lines-mended.ensures)
 
 pub overflow_mul-p : goal.overflow_mul-p
 overflow_mul-p c = let a = c.args in
-    omega (arith, sizes a.points.now a.faces.now a.text.now a.out_points.now a.out_faces.now a.work.now _ c.apply_refusal.ensures c.in-Fine.is c.apply_lines-mended.ensures)
+    omega (arith, sizes a.points.now a.faces.now a.text.now a.out_points.now a.out_faces.now a.work.now c.in_ok-apply_refusal.ensures c.apply_lines-mended.ensures)
 
 pub overflow_sub-p : goal.overflow_sub-p
 overflow_sub-p c = let a = c.args in
-    omega (arith, sizes a.points.now a.faces.now a.text.now a.out_points.now a.out_faces.now a.work.now _ c.apply_refusal.ensures c.in-Fine.is c.apply_lines-mended.ensures)
+    omega (arith, sizes a.points.now a.faces.now a.text.now a.out_points.now a.out_faces.now a.work.now c.in_ok-apply_refusal.ensures c.apply_lines-mended.ensures)
 
 pub wipe-requires : goal.wipe-requires
 wipe-requires c = let a = c.args in
-    omega (arith, sizes a.points.now a.faces.now a.text.now a.out_points.now a.out_faces.now a.work.now _ c.apply_refusal.ensures c.in-Fine.is c.apply_lines-mended.ensures)
+    omega (arith, sizes a.points.now a.faces.now a.text.now a.out_points.now a.out_faces.now a.work.now c.in_ok-apply_refusal.ensures c.apply_lines-mended.ensures)
 
 pub overflow_mul-n-2 : goal.overflow_mul-n-2
 overflow_mul-n-2 c = let a = c.args in
-    omega (arith, sizes a.points.now a.faces.now a.text.now a.out_points.now a.out_faces.now a.work.now _ c.apply_refusal.ensures c.in-Fine.is c.apply_lines-mended.ensures)
+    omega (arith, sizes a.points.now a.faces.now a.text.now a.out_points.now a.out_faces.now a.work.now c.in_ok-apply_refusal.ensures c.apply_lines-mended.ensures)
 
 pub overflow_sub-n : goal.overflow_sub-n
 overflow_sub-n c = let a = c.args in
-    omega (arith, sizes a.points.now a.faces.now a.text.now a.out_points.now a.out_faces.now a.work.now _ c.apply_refusal.ensures c.in-Fine.is c.apply_lines-mended.ensures)
+    omega (arith, sizes a.points.now a.faces.now a.text.now a.out_points.now a.out_faces.now a.work.now c.in_ok-apply_refusal.ensures c.apply_lines-mended.ensures)
 
 pub wipe-requires-2 : goal.wipe-requires-2
 wipe-requires-2 c = let a = c.args in
-    omega (arith, sizes a.points.now a.faces.now a.text.now a.out_points.now a.out_faces.now a.work.now _ c.apply_refusal.ensures c.in-Fine.is c.apply_lines-mended.ensures)
+    omega (arith, sizes a.points.now a.faces.now a.text.now a.out_points.now a.out_faces.now a.work.now c.in_ok-apply_refusal.ensures c.apply_lines-mended.ensures)
 
 pub overflow_mul-p-2 : goal.overflow_mul-p-2
 overflow_mul-p-2 c = let a = c.args in
-    omega (arith, sizes a.points.now a.faces.now a.text.now a.out_points.now a.out_faces.now a.work.now _ c.apply_refusal.ensures c.in-Fine.is c.apply_lines-mended.ensures)
+    omega (arith, sizes a.points.now a.faces.now a.text.now a.out_points.now a.out_faces.now a.work.now c.in_ok-apply_refusal.ensures c.apply_lines-mended.ensures)
 
 pub overflow_mul-n-3 : goal.overflow_mul-n-3
 overflow_mul-n-3 c = let a = c.args in
-    omega (arith, sizes a.points.now a.faces.now a.text.now a.out_points.now a.out_faces.now a.work.now _ c.apply_refusal.ensures c.in-Fine.is c.apply_lines-mended.ensures)
+    omega (arith, sizes a.points.now a.faces.now a.text.now a.out_points.now a.out_faces.now a.work.now c.in_ok-apply_refusal.ensures c.apply_lines-mended.ensures)
 
 pub overflow_add-p-2 : goal.overflow_add-p-2
 overflow_add-p-2 c = let a = c.args in
-    omega (arith, sizes a.points.now a.faces.now a.text.now a.out_points.now a.out_faces.now a.work.now _ c.apply_refusal.ensures c.in-Fine.is c.apply_lines-mended.ensures)
+    omega (arith, sizes a.points.now a.faces.now a.text.now a.out_points.now a.out_faces.now a.work.now c.in_ok-apply_refusal.ensures c.apply_lines-mended.ensures)
 
 pub overflow_add-p-3 : goal.overflow_add-p-3
 overflow_add-p-3 c = let a = c.args in
-    omega (arith, sizes a.points.now a.faces.now a.text.now a.out_points.now a.out_faces.now a.work.now _ c.apply_refusal.ensures c.in-Fine.is c.apply_lines-mended.ensures)
+    omega (arith, sizes a.points.now a.faces.now a.text.now a.out_points.now a.out_faces.now a.work.now c.in_ok-apply_refusal.ensures c.apply_lines-mended.ensures)
 
 pub wipe-requires-3 : goal.wipe-requires-3
 wipe-requires-3 c = let a = c.args in
-    omega (arith, sizes a.points.now a.faces.now a.text.now a.out_points.now a.out_faces.now a.work.now _ c.apply_refusal.ensures c.in-Fine.is c.apply_lines-mended.ensures)
+    omega (arith, sizes a.points.now a.faces.now a.text.now a.out_points.now a.out_faces.now a.work.now c.in_ok-apply_refusal.ensures c.apply_lines-mended.ensures)
 
 pub returns : goal.returns
 returns c = let a = c.args in
-    is_done a.points.now a.faces.now a.text.now a.out_points.now a.out_faces.now a.work.now _ c.apply_refusal.ensures c.in-Fine.is c.apply_lines-mended.ensures
+    is_done a.points.now a.faces.now a.text.now a.out_points.now a.out_faces.now a.work.now c.in_ok-apply_refusal.ensures c.apply_lines-mended.ensures
     c.wipe.ensures.only c.wipe.ensures.filled c.wipe-2.ensures.only c.wipe-2.ensures.filled c.wipe-3.ensures.only c.wipe-3.ensures.filled

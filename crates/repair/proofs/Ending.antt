@@ -10,19 +10,18 @@ use Rattle.rows.specs.Region.{OnlyOf, HoldsOf, Only, Filled}
 use Rattle.rows.proofs.Regions.{only_both}
 use Rattle.filling.proofs.Filling.{filled_in, filled_whole, cleared_is}
 use Rattle.rules.specs.Mesh.{points_of, faces_of, flat_points, flat_faces, zero64}
-use Rattle.rules.specs.Refusal.{decided}
+use Rattle.rules.specs.Refusal.{Check, ok, no, decided}
 use Rattle.rules.specs.Repair.{repaired}
 use Rattle.rules.specs.State.{State, report_counts}
 use Rattle.rules.specs.Rooms.{work_room, filled, cleared, outcome, accepted}
-use Rattle.rules.specs.RepairCall.{RepairRooms, repair_check, repair}
+use Rattle.rules.specs.RepairCall.{RepairRooms, repair}
 use Rattle.rule_laws.proofs.Flat.{flat_points_back, flat_faces_back, length_faces_take}
-use Rattle.refuse.specs.Verdicts.{check_of}
-use Rattle.refuse.specs.declared.Verdict.{Verdict}
-use Rattle.refuse.specs.declared.Verdict.TheVariants.{Fine, Refused}
+use Rattle.std.specs.Prelude.{Ok, Err}
+use Rattle.refuse.specs.Verdicts.{number_of, place_of}
+use Rattle.refuse.specs.declared.Refusal.{Refusal}
 use Rattle.repair_refusal.specs.Checks.{repair_list, RepairAccepted}
 use Rattle.repair_refusal.proofs.Accept.{repair_is, repair_accepted}
 use Rattle.lending.specs.declared.Mended.{Mended}
-use Rattle.repair.specs.declared.Repaired.TheVariants as repaired-as
 use Rattle.passes.specs.Passing.{lists}
 use Rattle.lending.specs.Mended.{MendAsks, MendGives}
 use Rattle.repair.specs.Answers.{rooms_of, outcome_of, ReportAsks, ReportGives}
@@ -45,8 +44,7 @@ pub record Sizes (P F p f out_points out_faces report origins work : ℕ) : Type
   pub origins_long : F ≤ origins
   pub work_long : 16 * P + 64 * F + 64 ≤ work
 
-module _ (points : List Float) (faces : List ℕ) (s : Float) (o : ℕ) (ps : List Float) (xs rs os w : List ℕ) (v : Verdict)
-    (e : check_of v ≡ decided (repair_list points faces s o (length ps) (length xs) (length rs) (length os) (length w))) where
+module _ (points : List Float) (faces : List ℕ) (s : Float) (o : ℕ) (ps : List Float) (xs rs os w : List ℕ) where
   -- how many points and faces are given
   abbrev P : ℕ
   P = length points / 3
@@ -73,19 +71,19 @@ module _ (points : List Float) (faces : List ℕ) (s : Float) (o : ℕ) (ps : Li
         work = cleared (work_room P F) w;
       }
 
-  -- the rules' check is the verdict
-  verdict_is : check_of v ≡ repair_check points faces s o (rooms_of ps xs rs os w)
-  verdict_is = e ∙ repair_is points faces s o (rooms_of ps xs rs os w)
+  -- the checks at the lengths of the rooms
+  abbrev checks : List Check
+  checks = repair_list points faces s o (length ps) (length xs) (length rs) (length os) (length w)
 
   -- a refusal changes no buffer
-  pub is_refused : (n p : ℕ) → v ≡ Refused n p → outcome_of (repaired-as.Refused n p) ps xs rs os w ≡ repair points faces s o (rooms_of ps xs rs os w)
+  pub is_refused : (r : Refusal) → no (number_of r) (place_of r) ≡ decided checks → outcome_of (Err r) ps xs rs os w ≡ repair points faces s o (rooms_of ps xs rs os w)
   unfolding repair outcome
-  is_refused n p t = ap (λ c. outcome c (rooms_of ps xs rs os w) entries after) (sym (ap check_of t) ∙ verdict_is)
+  is_refused r e = ap (λ c. outcome c (rooms_of ps xs rs os w) entries after) (e ∙ repair_is points faces s o (rooms_of ps xs rs os w))
 
-  module _ (t : v ≡ Fine) where
+  module _ (e : ok ≡ decided checks) where
     -- what an accepted call may start from
     is_accepted : RepairAccepted points faces o (length ps) (length xs) (length rs) (length os) (length w)
-    is_accepted = repair_accepted points faces s o (length ps) (length xs) (length rs) (length os) (length w) (sym e ∙ ap check_of t)
+    is_accepted = repair_accepted points faces s o (length ps) (length xs) (length rs) (length os) (length w) (sym e)
 
     -- the passes may start from it
     pub mend_asks : MendAsks points faces ps xs os w
@@ -155,7 +153,7 @@ module _ (points : List Float) (faces : List ℕ) (s : Float) (o : ℕ) (ps : Li
           → ReportGives rs r.report rs₂
           → Only r.faces (F - r.faces) os₁ os₂ → Filled r.faces (F - r.faces) 0 os₂
           → Only 0 (16 * P + 64 * F + 64) w₁ w₂ → Filled 0 (16 * P + 64 * F + 64) 0 w₂
-          → outcome_of (repaired-as.Done (3 * r.points) (3 * r.faces) r.faces) ps₂ xs₂ rs₂ os₂ w₂ ≡ repair points faces s o (rooms_of ps xs rs os w)
+          → outcome_of (Ok (record { points = 3 * r.points; faces = 3 * r.faces; origins = r.faces })) ps₂ xs₂ rs₂ os₂ w₂ ≡ repair points faces s o (rooms_of ps xs rs os w)
       unfolding repair outcome work_room
       is_done {ps₂} {xs₂} {rs₂} {os₂} {w₂} op hp of hf gr oo ho ow hw =
           let z = sizes in
@@ -167,4 +165,4 @@ module _ (points : List Float) (faces : List ℕ) (s : Float) (o : ℕ) (ps : Li
           let c : w₂ ≡ after.work = cleared_is a.room_work (only_both g.only_work ow) hw in
           ap₂ (λ (k : List ℕ) (rooms : RepairRooms). record { answer = accepted k; rooms = rooms }) entries_are
           (λ i. record { out_points = p i; out_faces = f i; report = b i; origins = q i; work = c i })
-          ∙ ap (λ c. outcome c (rooms_of ps xs rs os w) entries after) (sym (ap check_of t) ∙ verdict_is)
+          ∙ ap (λ c. outcome c (rooms_of ps xs rs os w) entries after) (e ∙ repair_is points faces s o (rooms_of ps xs rs os w))

@@ -6,14 +6,15 @@ ghost use Rattle.rules.specs.RepairCall as rule;
 ghost use Rattle.repair.specs.Answers.{rooms_of, outcome_of, ReportAsks, ReportGives};
 
 use lending::Report;
-use refuse::Verdict;
+use refuse::Refusal;
 use repair_refusal::Rooms;
 
-// What a repair gives back: how many entries stand in the points, the faces and the origins room, or a refusal's number and place.
-#[derive(Drop)]
-pub enum Repaired {
-    Done(usize, usize, usize),
-    Refused(u32, usize),
+// What a repair gives back: how many entries stand in the rooms of points, faces and origins.
+#[derive(Clone, Copy, Debug, PartialEq, Eq)]
+pub struct Repaired {
+    pub points: usize,
+    pub faces: usize,
+    pub origins: usize,
 }
 
 // Writes the counts, in report order.
@@ -50,7 +51,7 @@ pub fn repair(
     report: &mut [u32],
     origins: &mut [u32],
     work: &mut [u32],
-) -> Repaired
+) -> Result<Repaired, Refusal>
     ensures { let before = rooms_of out_points.old out_faces.old report.old origins.old work.old in
         outcome_of result out_points.new out_faces.new report.new origins.new work.new
         ≡ rule.repair points.now faces.now s options before }
@@ -62,12 +63,7 @@ pub fn repair(
         origins: origins.len(),
         work: work.len(),
     };
-    match repair_refusal::repair_refusal(points, faces, s, options, rooms) {
-        Verdict::Fine => {}
-        Verdict::Refused(number, place) => {
-            return Repaired::Refused(number, place);
-        }
-    }
+    repair_refusal::repair_refusal(points, faces, s, options, rooms)?;
     let p = points.len() / 3;
     let n = faces.len() / 3;
     let mended = lending::mend(
@@ -82,5 +78,9 @@ pub fn repair(
     write_report(report, counts);
     wiping::wipe(origins, f, n - f);
     wiping::wipe(work, 0, 16 * p + 64 * n + 64);
-    Repaired::Done(a, b, f)
+    Ok(Repaired {
+        points: a,
+        faces: b,
+        origins: f,
+    })
 }

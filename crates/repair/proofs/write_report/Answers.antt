@@ -1,5 +1,4 @@
 -- `repair::write_report` meets its contract: after k counts these stand in front. Assumes nothing.
-use Prim.Native.Nat.{◌-◌}
 use native.Mathlib.Omega.{arith}
 use Rattle.repair.proofs.Reporting.{begin, turn, again, done}
 use Rattle.repair.proofs.write_report.Goals as goal

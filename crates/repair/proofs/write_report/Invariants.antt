@@ -1,6 +1,4 @@
 -- `repair::write_report` meets its contract: after k counts these stand in front. Assumes nothing.
-use Prim.Native.Nat.{◌-◌}
-use Rattle.rules.specs.State.{report_counts}
 use Rattle.repair.proofs.Reporting.{Wrote}
 use Rattle.repair.proofs.write_report.Given as goal
 

@@ -1,4 +1,6 @@
 -- A line adds a point or a face to the job, as long as there are no more than 64. Assumes nothing.
+use Rattle.std.specs.Prelude as std
+use Rattle.std.specs.Prelude.{Some, None}
 use mathlib.Core.Path.{◌≡◌, refl, sym, ap, ◌∙◌}
 use mathlib.Core.Bool.{Bool, true, false, cond, ◌&&◌}
 use mathlib.Core.Option.{Option, none, some}
@@ -7,7 +9,7 @@ use Prim.Native.Nat.{ℕ, ◌+◌, ◌-◌, ◌≤◌, ◌<◌}
 use native.Mathlib.Omega.{arith}
 use lib.Dec.{leb}
 use borrow.Author.Tests.{le-leb, lt-leb}
-use lib.Ieee.{Float, nan}
+use lib.Ieee.{Float}
 use lib.ListN.{length, get_or, take, length-append}
 use lib.Seq.{take-suc}
 use Rattle.rows.specs.Region.{part}
@@ -15,10 +17,9 @@ use Rattle.rows.proofs.Regions.{length_part}
 use Rattle.rules.specs.Line.{bytes}
 use Rattle.rules.specs.Text.{Job, equal, real, whole, three, with_point, with_corners, with_line, small, opened, first_line}
 use Rattle.text_in.specs.declared.Grown.{Grown}
-use Rattle.text_in.specs.declared.Grown.TheVariants as grown
-use Rattle.text_in.specs.Asked.{StoresThree, OpenAsks, Grows, PointGives, FaceGives, FieldsAsks, job_of, four_of, three_fields, three_of}
+use Rattle.text_in.specs.Asked.{OpenAsks, Grows, PointGives, FaceGives, FieldsAsks, job_of, four_of, three_fields, three_of}
 use Rattle.rule_laws.proofs.Texts.{equal_same}
-use Rattle.text_in.proofs.Storing.{longer}
+use Rattle.text_in.proofs.Storing.{with_three, long_three, front_three}
 
 -- ---- sizes
 
@@ -74,58 +75,66 @@ over_faces j (some x) (some y) none h = sym small_none
 over_faces j (some x) (some y) (some z) h = sym (small_faces _ (simp length-append (omega arith)))
 
 -- no room is left
-pub point_full : (x y z : Option Float) {ps : List Float} {p f : ℕ} → 189 < p → PointGives (three x y z) ps p f ps grown.Bad
+pub point_full : (x y z : Option Float) {ps : List Float} {p f : ℕ} → 189 < p → PointGives (three x y z) ps p f ps None
 point_full x y z {ps} {p} {f} h =
     record { long = refl; grows = λ fs a. (tt, λ n s. over_points (job_of n s ps p fs f) x y z (omega (arith, length_part ps 0 p (omega (arith, a.points, a.few_points))))) }
 
-pub face_full : (x y z : Option ℕ) {fs : List ℕ} {p f : ℕ} → 189 < f → FaceGives (three x y z) fs p f fs grown.Bad
+pub face_full : (x y z : Option ℕ) {fs : List ℕ} {p f : ℕ} → 189 < f → FaceGives (three x y z) fs p f fs None
 face_full x y z {fs} {p} {f} h =
     record { long = refl; grows = λ ps a. (tt, λ n s. over_faces (job_of n s ps p fs f) x y z (omega (arith, length_part fs 0 f (omega (arith, a.faces, a.few_faces))))) }
 
 -- a field holds nothing
-pub point_bad : {o : Option (List Float)} {ps ps' : List Float} {p f : ℕ} {r : Bool} → StoresThree nan o p ps ps' r → r ≡ false → PointGives o ps p f ps' grown.Bad
-point_bad {o} {ps} {ps'} {p} {f} q e =
-    let t : o ≡ none = rw e at q.told in
-    record { long = q.only.long; grows = λ fs a. (tt, λ n s. rw t (sym (ap small (point_none (job_of n s ps p fs f)) ∙ small_none))) }
+pub first_bad : {A : Type 0} (y z : Option A) → three none y z ≡ none
+unfolding three
+first_bad y z = refl
 
-pub face_bad : {o : Option (List ℕ)} {fs fs' : List ℕ} {p f : ℕ} {r : Bool} → StoresThree 0 o f fs fs' r → r ≡ false → FaceGives o fs p f fs' grown.Bad
-face_bad {o} {fs} {fs'} {p} {f} q e =
-    let t : o ≡ none = rw e at q.told in
-    record { long = q.only.long; grows = λ ps a. (tt, λ n s. rw t (sym (ap small (face_none (job_of n s ps p fs f)) ∙ small_none))) }
+pub second_bad : {A : Type 0} (x : A) (z : Option A) → three (some x) none z ≡ none
+unfolding three
+second_bad x z = refl
+
+pub third_bad : {A : Type 0} (x y : A) → three (some x) (some y) none ≡ none
+unfolding three
+third_bad x y = refl
+
+pub point_bad : {o : Option (List Float)} {ps : List Float} {p f : ℕ} → o ≡ none → PointGives o ps p f ps None
+point_bad {o} {ps} {p} {f} t = record { long = refl; grows = λ fs a. (tt, λ n s. rw t (sym (ap small (point_none (job_of n s ps p fs f)) ∙ small_none))) }
+
+pub face_bad : {o : Option (List ℕ)} {fs : List ℕ} {p f : ℕ} → o ≡ none → FaceGives o fs p f fs None
+face_bad {o} {fs} {p} {f} t = record { long = refl; grows = λ ps a. (tt, λ n s. rw t (sym (ap small (face_none (job_of n s ps p fs f)) ∙ small_none))) }
 
 -- a point more
-pub point_good : {o : Option (List Float)} {ps ps' : List Float} {p f : ℕ} {r : Bool} → StoresThree nan o p ps ps' r → r ≡ true → p ≤ 189 → PointGives o ps p f ps' (grown.Entries (p + 3) f)
-unfolding with_point
-point_good {o} {ps} {ps'} {p} {f} q e h =
+pub point_good : {ps : List Float} {p f : ℕ} (x y z : Float) → p ≤ 189
+    → PointGives (three (some x) (some y) (some z)) ps p f (with_three ps p x y z) (Some (record { points = p + 3; faces = f }))
+unfolding with_point three
+point_good {ps} {p} {f} x y z h =
     record {
-      long = q.only.long;
+      long = long_three ps p x y z;
       grows = λ fs a.
-          let l = q.only.long in
           let b = a.points in
-          let t : o ≡ some (part ps' p 3) = rw e at q.told in
-          let k = longer q (omega arith) in (
+          let l = long_three ps p x y z in
+          let k = front_three ps p x y z (omega arith) in (
             (omega arith, a.few_faces),
-            λ n s. rw t (ap (λ (z : List Float). some (record { options = n; threshold = s; points = z; faces = take f fs })) k
-                ∙ sym (small_fits (record { options = n; threshold = s; points = take p ps ++ part ps' p 3; faces = take f fs })
-                (omega (arith, ap length k, length_part ps' 0 (p + 3) (omega arith))) (omega (arith, length_part fs 0 f (omega (arith, a.faces, a.few_faces)), a.few_faces)))),
+            λ n s. ap (λ (q : List Float). some (record { options = n; threshold = s; points = q; faces = take f fs })) k
+                ∙ sym (small_fits (record { options = n; threshold = s; points = take p ps ++ (x ∷ y ∷ z ∷ []); faces = take f fs })
+                (omega (arith, ap length k, length_part (with_three ps p x y z) 0 (p + 3) (omega arith))) (omega (arith, length_part fs 0 f (omega (arith, a.faces, a.few_faces)), a.few_faces))),
           );
     }
 
 -- a face more
-pub face_good : {o : Option (List ℕ)} {fs fs' : List ℕ} {p f : ℕ} {r : Bool} → StoresThree 0 o f fs fs' r → r ≡ true → f ≤ 189 → FaceGives o fs p f fs' (grown.Entries p (f + 3))
-unfolding with_corners
-face_good {o} {fs} {fs'} {p} {f} q e h =
+pub face_good : {fs : List ℕ} {p f : ℕ} (x y z : ℕ) → f ≤ 189
+    → FaceGives (three (some x) (some y) (some z)) fs p f (with_three fs f x y z) (Some (record { points = p; faces = f + 3 }))
+unfolding with_corners three
+face_good {fs} {p} {f} x y z h =
     record {
-      long = q.only.long;
+      long = long_three fs f x y z;
       grows = λ ps a.
-          let l = q.only.long in
           let b = a.faces in
-          let t : o ≡ some (part fs' f 3) = rw e at q.told in
-          let k = longer q (omega arith) in (
+          let l = long_three fs f x y z in
+          let k = front_three fs f x y z (omega arith) in (
             (a.few_points, omega arith),
-            λ n s. rw t (ap (λ (z : List ℕ). some (record { options = n; threshold = s; points = take p ps; faces = z })) k
-                ∙ sym (small_fits (record { options = n; threshold = s; points = take p ps; faces = take f fs ++ part fs' f 3 })
-                (omega (arith, length_part ps 0 p (omega (arith, a.points, a.few_points)), a.few_points)) (omega (arith, ap length k, length_part fs' 0 (f + 3) (omega arith))))),
+            λ n s. ap (λ (q : List ℕ). some (record { options = n; threshold = s; points = take p ps; faces = q })) k
+                ∙ sym (small_fits (record { options = n; threshold = s; points = take p ps; faces = take f fs ++ (x ∷ y ∷ z ∷ []) })
+                (omega (arith, length_part ps 0 p (omega (arith, a.points, a.few_points)), a.few_points)) (omega (arith, ap length k, length_part (with_three fs f x y z) 0 (f + 3) (omega arith)))),
           );
     }
 
@@ -159,7 +168,7 @@ unfolding with_line bytes
 line_other j k x y z m n = rw (differ k (112 ∷ []) m, differ k (102 ∷ []) n) refl
 
 -- a line that changes no room
-pub grows_none : {fields : List (List ℕ)} {ps : List Float} {p : ℕ} {fs : List ℕ} {f : ℕ} → ((j : Job) → with_line j fields ≡ none) → Grows fields ps p fs f ps fs grown.Bad
+pub grows_none : {fields : List (List ℕ)} {ps : List Float} {p : ℕ} {fs : List ℕ} {f : ℕ} → ((j : Job) → with_line j fields ≡ none) → Grows fields ps p fs f ps fs None
 grows_none {fields} {ps} {p} {fs} {f} e =
     record { long_points = refl; long_faces = refl; within = tt; told = λ o s. sym (ap small (e (job_of o s ps p fs f)) ∙ small_none) }
 
@@ -177,11 +186,11 @@ module _ {line : List ℕ} {a b c : ℕ} {ps : List Float} {p : ℕ} {fs : List 
   first_is e = ap (λ (n : ℕ). take n line) e ∙ letter line has_first
 
   -- the first field is too long
-  pub fields_long : (a ≡ 1 → ⊥) → Grows (four_of line a b c) ps p fs f ps fs grown.Bad
+  pub fields_long : (a ≡ 1 → ⊥) → Grows (four_of line a b c) ps p fs f ps fs None
   fields_long h = grows_none (λ j. line_other j (take a line) _ _ _ (first_long 112 h) (first_long 102 h))
 
   -- another letter
-  pub fields_other : a ≡ 1 → (get_or line 0 0 ≡ 112 → ⊥) → (get_or line 0 0 ≡ 102 → ⊥) → Grows (four_of line a b c) ps p fs f ps fs grown.Bad
+  pub fields_other : a ≡ 1 → (get_or line 0 0 ≡ 112 → ⊥) → (get_or line 0 0 ≡ 102 → ⊥) → Grows (four_of line a b c) ps p fs f ps fs None
   fields_other e m n =
       grows_none (λ j. line_other j (take a line) _ _ _ (λ k. m (first_byte (sym (first_is e) ∙ k))) (λ k. n (first_byte (sym (first_is e) ∙ k))))
     where
@@ -189,7 +198,7 @@ module _ {line : List ℕ} {a b c : ℕ} {ps : List Float} {p : ℕ} {fs : List 
       first_byte k = ap (λ (xs : List ℕ). get_or xs 0 0) k
 
   -- a point
-  pub fields_point : a ≡ 1 → get_or line 0 0 ≡ 112 → {ps' : List Float} {r : Grown} → PointGives (three_of real line a b c) ps p f ps' r → Grows (four_of line a b c) ps p fs f ps' fs r
+  pub fields_point : a ≡ 1 → get_or line 0 0 ≡ 112 → {ps' : List Float} {r : std.Option Grown} → PointGives (three_of real line a b c) ps p f ps' r → Grows (four_of line a b c) ps p fs f ps' fs r
   fields_point e l {ps'} {r} g =
       let w = g.grows fs q.rooms in
       record {
@@ -200,7 +209,7 @@ module _ {line : List ℕ} {a b c : ℕ} {ps : List Float} {p : ℕ} {fs : List 
       }
 
   -- a face
-  pub fields_face : a ≡ 1 → get_or line 0 0 ≡ 102 → {fs' : List ℕ} {r : Grown} → FaceGives (three_of whole line a b c) fs p f fs' r → Grows (four_of line a b c) ps p fs f ps fs' r
+  pub fields_face : a ≡ 1 → get_or line 0 0 ≡ 102 → {fs' : List ℕ} {r : std.Option Grown} → FaceGives (three_of whole line a b c) fs p f fs' r → Grows (four_of line a b c) ps p fs f ps fs' r
   fields_face e l {fs'} {r} g =
       let w = g.grows ps q.rooms in
       record {

@@ -1,4 +1,5 @@
 -- The lines of a text, taken in one after the other. Assumes nothing.
+use Rattle.std.specs.Prelude as std
 use mathlib.Core.Path.{◌≡◌, refl, sym, ap, ◌∙◌}
 use mathlib.Core.Bool.{Bool, true, false, cond}
 use mathlib.Core.Option.{Option, none, some}
@@ -16,7 +17,6 @@ use Rattle.rules.specs.Lists.{through}
 use Rattle.rules.specs.Line.{bytes}
 use Rattle.rules.specs.Text.{Job, equal, real, whole, three, parted, lines_of, with_point, with_corners, with_line, and_line, first_line, job_of_lines, small, all_lines, read}
 use Rattle.text_in.specs.declared.Grown.{Grown}
-use Rattle.text_in.specs.declared.Grown.TheVariants as grown
 use Rattle.text_fields.specs.Fields.{Piece}
 use Rattle.text_in.specs.Asked.{RoomAsks, LinesAsks, Grows, job_of, grown_of, empty, ends, rest}
 use Rattle.text_in.proofs.Cuts.{Some, parted_some}
@@ -205,7 +205,7 @@ module _ {text : List ℕ} {from o : ℕ} {s : Float} {ps₀ : List Float} {fs�
         length_rest : length (part text at (end - at)) ≡ end - at
         length_rest = length_part text at (end - at) (omega (arith, q.begins, q.ends))
 
-    module _ (n : end ≡ length text → ⊥) {ps' : List Float} {fs' : List ℕ} {r : Grown} (g : Grows (parted 9 (part text at (end - at))) ps p fs f ps' fs' r) where
+    module _ (n : end ≡ length text → ⊥) {ps' : List Float} {fs' : List ℕ} {r : std.Option Grown} (g : Grows (parted 9 (part text at (end - at))) ps p fs f ps' fs' r) where
       -- the line is taken in
       next : rest (empty o s) (parted 10 (drop from text)) ≡ rest (grown_of o s r ps' fs') (parted 10 (drop (end + 1) text))
       next =
@@ -215,15 +215,15 @@ module _ {text : List ℕ} {from o : ℕ} {s : Float} {ps₀ : List Float} {fs�
           ∙ ap (λ (j : Option Job). rest j (parted 10 (drop (end + 1) text))) (sym (g.told o s))
 
       -- a bad one
-      pub bad : r ≡ grown.Bad → none ≡ rest (empty o s) (parted 10 (drop from text))
+      pub bad : r ≡ std.None → none ≡ rest (empty o s) (parted 10 (drop from text))
       bad e = sym (next ∙ rw e (rest_none (parted 10 (drop (end + 1) text))))
 
       -- a good one
-      pub again : {p' f' : ℕ} → r ≡ grown.Entries p' f' → Taken text from o s ps₀ fs₀ (end + 1) ps' p' fs' f'
-      again {p'} {f'} e =
+      pub again : {t : Grown} → r ≡ std.Some t → Taken text from o s ps₀ fs₀ (end + 1) ps' t.points fs' t.faces
+      again {t} e =
           let l = g.long_points in
           let m = g.long_faces in
-          let w : (p' ≤ 192) × (f' ≤ 192) = rw e at g.within in
+          let w : (t.points ≤ 192) × (t.faces ≤ 192) = rw e at g.within in
           let i = v.rooms.points in
           let k = v.rooms.faces in
           record {

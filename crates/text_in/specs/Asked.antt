@@ -1,17 +1,15 @@
 -- The words of this crate's contracts: pieces of a text, what a field holds, how a line adds to the rooms, and the job. Definitions only.
 use Rattle.std.specs.Prelude.{◌≡◌, Bool, cond, List, [], ◌∷◌, ℕ, ◌+◌, ◌-◌, ◌≤◌, ◌<◌, Float, length, get_or, take}
+use Rattle.std.specs.Prelude as std
 use Rattle.std.proofs.Math.Option.{Option, none, some}
-use Rattle.rows.specs.Region.{part, OnlyOf}
+use Rattle.rows.specs.Region.{part}
 use Rattle.rules.specs.Text as rule
 use Rattle.rules.specs.Text.{Job}
 use Rattle.text_in.specs.declared.Fields.{Fields}
-use Rattle.text_in.specs.declared.Fields.TheVariants as fields
+use Rattle.text_in.specs.declared.Fields.TheVariants.{Three, Four}
 use Rattle.text_in.specs.declared.Opened.{Opened}
-use Rattle.text_in.specs.declared.Opened.TheVariants as opened
 use Rattle.text_in.specs.declared.Grown.{Grown}
-use Rattle.text_in.specs.declared.Grown.TheVariants as grown
 use Rattle.text_in.specs.declared.Told.{Told}
-use Rattle.text_in.specs.declared.Told.TheVariants as told
 
 -- ---- pieces
 
@@ -49,30 +47,16 @@ pub record PartsOther (line : List ℕ) : Type 0 where
   pub first : rule.first_line (rule.parted 9 line) ≡ none
   pub further : (j : Job) → rule.with_line j (rule.parted 9 line) ≡ none
 
-abbrev pub Parts : List ℕ → Fields → Type 0
-Parts line (fields.Three a b) = PartsThree line a b
-Parts line (fields.Four a b c) = PartsFour line a b c
-Parts line fields.Other = PartsOther line
+abbrev pub Parts : List ℕ → std.Option Fields → Type 0
+Parts line (std.Some (Three a b)) = PartsThree line a b
+Parts line (std.Some (Four a b c)) = PartsFour line a b c
+Parts line std.None = PartsOther line
 
 -- ---- what a field holds
-
--- what a field holds is stored at `at`, all else stays; or it holds nothing
-pub record Stores {A : Type 0} (d : A) (o : Option A) (at : ℕ) (w w' : List A) (r : Bool) : Type 0 where
-  pub only : OnlyOf d at 1 w w'
-  pub told : o ≡ cond r (some (get_or w' at d)) none
 
 -- what three fields hold
 abbrev pub three_of : {A : Type 0} → (List ℕ → Option A) → List ℕ → ℕ → ℕ → ℕ → Option (List A)
 three_of f line a b c = rule.three (f (part line (a + 1) (b - (a + 1)))) (f (part line (b + 1) (c - (b + 1)))) (f (part line (c + 1) (length line - (c + 1))))
-
-pub record ThreeAsks {A : Type 0} (line : List ℕ) (a b c : ℕ) (w : List A) (at : ℕ) : Type 0 where
-  pub cuts : CutsAsk line a b c
-  pub room : at + 3 ≤ length w
-
--- what three fields hold is stored from `at` on, all else stays; or one holds nothing
-pub record StoresThree {A : Type 0} (d : A) (o : Option (List A)) (at : ℕ) (w w' : List A) (r : Bool) : Type 0 where
-  pub only : OnlyOf d at 3 w w'
-  pub told : o ≡ cond r (some (part w' at 3)) none
 
 -- ---- lines
 
@@ -81,9 +65,9 @@ abbrev pub job_of : ℕ → Float → List Float → ℕ → List ℕ → ℕ �
 job_of o s ps p fs f = record { options = o; threshold = s; points = take p ps; faces = take f fs }
 
 -- the job after a line
-abbrev pub grown_of : ℕ → Float → Grown → List Float → List ℕ → Option Job
-grown_of o s (grown.Entries p f) ps fs = some (job_of o s ps p fs f)
-grown_of o s grown.Bad ps fs = none
+abbrev pub grown_of : ℕ → Float → std.Option Grown → List Float → List ℕ → Option Job
+grown_of o s (std.Some g) ps fs = some (job_of o s ps g.points fs g.faces)
+grown_of o s std.None ps fs = none
 
 -- what stands in the rooms
 pub record RoomAsks (ps : List Float) (p : ℕ) (fs : List ℕ) (f : ℕ) : Type 0 where
@@ -93,12 +77,12 @@ pub record RoomAsks (ps : List Float) (p : ℕ) (fs : List ℕ) (f : ℕ) : Type
   pub few_faces : f ≤ 192
 
 -- still within the rooms after a line
-abbrev pub Within : Grown → Type 0
-Within (grown.Entries p f) = (p ≤ 192) × (f ≤ 192)
-Within grown.Bad = Unit {0}
+abbrev pub Within : std.Option Grown → Type 0
+Within (std.Some g) = (g.points ≤ 192) × (g.faces ≤ 192)
+Within std.None = Unit {0}
 
 -- a line of these fields is taken in, if no more than 64 points and 64 faces then stand there
-pub record Grows (fields : List (List ℕ)) (ps : List Float) (p : ℕ) (fs : List ℕ) (f : ℕ) (ps' : List Float) (fs' : List ℕ) (r : Grown) : Type 0 where
+pub record Grows (fields : List (List ℕ)) (ps : List Float) (p : ℕ) (fs : List ℕ) (f : ℕ) (ps' : List Float) (fs' : List ℕ) (r : std.Option Grown) : Type 0 where
   pub long_points : length ps' ≡ length ps
   pub long_faces : length fs' ≡ length fs
   pub within : Within r
@@ -110,11 +94,11 @@ pub record AddAsks {A : Type 0} (line : List ℕ) (a b c : ℕ) (w : List A) (n 
   pub room : 192 ≤ length w
   pub few : n ≤ 192
 
-pub record PointGives (o : Option (List Float)) (ps : List Float) (p f : ℕ) (ps' : List Float) (r : Grown) : Type 0 where
+pub record PointGives (o : Option (List Float)) (ps : List Float) (p f : ℕ) (ps' : List Float) (r : std.Option Grown) : Type 0 where
   pub long : length ps' ≡ length ps
   pub grows : (fs : List ℕ) → RoomAsks ps p fs f → Within r × ((n : ℕ) (s : Float) → grown_of n s r ps' fs ≡ rule.small (rule.with_point (job_of n s ps p fs f) o))
 
-pub record FaceGives (o : Option (List ℕ)) (fs : List ℕ) (p f : ℕ) (fs' : List ℕ) (r : Grown) : Type 0 where
+pub record FaceGives (o : Option (List ℕ)) (fs : List ℕ) (p f : ℕ) (fs' : List ℕ) (r : std.Option Grown) : Type 0 where
   pub long : length fs' ≡ length fs
   pub grows : (ps : List Float) → RoomAsks ps p fs f → Within r × ((n : ℕ) (s : Float) → grown_of n s r ps fs' ≡ rule.small (rule.with_corners (job_of n s ps p fs f) o))
 
@@ -124,9 +108,9 @@ pub record FieldsAsks (line : List ℕ) (a b c : ℕ) (ps : List Float) (p : ℕ
 
 -- ---- the text
 
-abbrev pub opened_of : Opened → Option Job
-opened_of (opened.Job o s) = some (record { options = o; threshold = s; points = []; faces = [] })
-opened_of opened.Bad = none
+abbrev pub opened_of : std.Option Opened → Option Job
+opened_of (std.Some j) = some (record { options = j.options; threshold = j.threshold; points = []; faces = [] })
+opened_of std.None = none
 
 -- a job with no point and no face yet
 abbrev pub empty : ℕ → Float → Option Job
@@ -144,14 +128,14 @@ rest j (l ∷ []) = ends l j
 rest j (l ∷ m ∷ ls) = rest (rule.and_line j (rule.parted 9 l)) (m ∷ ls)
 
 -- the answer, and what its rooms then hold, as the rules' job
-abbrev pub told_of : Told → List Float → List ℕ → Option Job
-told_of (told.Job o s p f) ps fs = some (job_of o s ps p fs f)
-told_of told.Bad ps fs = none
+abbrev pub told_of : std.Option Told → List Float → List ℕ → Option Job
+told_of (std.Some t) ps fs = some (job_of t.options t.threshold ps t.points fs t.faces)
+told_of std.None ps fs = none
 
 -- a job's entries are no more than 64 points and 64 faces have
-abbrev pub ToldWithin : Told → Type 0
-ToldWithin (told.Job o s p f) = (p ≤ 192) × (f ≤ 192)
-ToldWithin told.Bad = Unit {0}
+abbrev pub ToldWithin : std.Option Told → Type 0
+ToldWithin (std.Some t) = (t.points ≤ 192) × (t.faces ≤ 192)
+ToldWithin std.None = Unit {0}
 
 -- rooms for 64 points and 64 faces
 pub record ReadAsks (ps : List Float) (fs : List ℕ) : Type 0 where

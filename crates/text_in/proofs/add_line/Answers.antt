@@ -6,13 +6,13 @@ use Rattle.text_in.proofs.Growing.{grows_none}
 use Rattle.text_in.proofs.add_line.Goals as goal
 
 pub add_fields-requires : goal.add_fields-requires
-add_fields-requires c = record { cuts = (rw c.in-Four.is at c.cut.ensures).cuts; rooms = c.requires }
+add_fields-requires c = record { cuts = (rw c.in-Some-Four.field-0-is at c.in-Some-Four.ensures).cuts; rooms = c.requires }
 
-pub returns-in-Four : goal.returns-in-Four
-returns-in-Four c = rw (sym (rw c.in-Four.is at c.cut.ensures).fields) at c.add_fields.ensures
+pub returns-in-Some-Four : goal.returns-in-Some-Four
+returns-in-Some-Four c = rw (sym (rw c.in-Some-Four.field-0-is at c.in-Some-Four.ensures).fields) at c.add_fields.ensures
 
-pub returns-in-Three : goal.returns-in-Three
-returns-in-Three c = grows_none (λ j. ap (with_line j) (rw c.in-Three.is at c.cut.ensures).fields ∙ with_three j _ _ _)
+pub returns-in-Some-Three : goal.returns-in-Some-Three
+returns-in-Some-Three c = grows_none (λ j. ap (with_line j) (rw c.in-Some-Three.field-0-is at c.in-Some-Three.ensures).fields ∙ with_three j _ _ _)
 
-pub returns-in-Other : goal.returns-in-Other
-returns-in-Other c = grows_none (λ j. (rw c.in-Other.is at c.cut.ensures).further j)
+pub returns-in-None : goal.returns-in-None
+returns-in-None c = grows_none c.in-None.ensures.further

@@ -8,11 +8,11 @@ returns-then-a-ne1 c = open_long c.requires c.if-a-ne1.true
 pub returns-then-line-ne111 : goal.returns-then-line-ne111
 returns-then-line-ne111 c = open_other c.requires c.if-a-ne1.false c.if-line-ne111.true
 
-pub returns-in-Bad : goal.returns-in-Bad
-returns-in-Bad c = open_no_options c.requires c.if-a-ne1.false c.if-line-ne111.false (rw c.in-Bad.is at c.read_whole.ensures)
+pub returns-in_err-options : goal.returns-in_err-options
+returns-in_err-options c = rw c.from_residual.ensures (open_no_options c.requires c.if-a-ne1.false c.if-line-ne111.false c.in_err-options.ensures)
 
-pub returns-in-Bad-read_real : goal.returns-in-Bad-read_real
-returns-in-Bad-read_real c = open_no_threshold c.requires c.if-a-ne1.false c.if-line-ne111.false (rw c.in-Number.is at c.read_whole.ensures) (rw c.in-Bad-read_real.is at c.read_real.ensures)
+pub returns-in_err-threshold : goal.returns-in_err-threshold
+returns-in_err-threshold c = rw c.from_residual-in_err-threshold.ensures (open_no_threshold c.requires c.if-a-ne1.false c.if-line-ne111.false c.in_ok-options.ensures c.in_err-threshold.ensures)
 
-pub returns-in-Number-read_real : goal.returns-in-Number-read_real
-returns-in-Number-read_real c = open_both c.requires c.if-a-ne1.false c.if-line-ne111.false (rw c.in-Number.is at c.read_whole.ensures) (rw c.in-Number-read_real.is at c.read_real.ensures)
+pub returns : goal.returns
+returns c = open_both c.requires c.if-a-ne1.false c.if-line-ne111.false c.in_ok-options.ensures c.in_ok-threshold.ensures

@@ -14,8 +14,8 @@ returns-then-end-text c = record { faces_after = no_line c.if-text-gt8192.false 
 pub slice_bounds-first_line-end : goal.slice_bounds-first_line-end
 slice_bounds-first_line-end c = sym (length_part _ 0 _ (omega (arith, c.find-end.ensures.ends)))
 
-pub returns-in-Bad : goal.returns-in-Bad
-returns-in-Bad c = record { faces_after = not_opened c.if-text-gt8192.false c.find-end.ensures c.if-end-text.false (rw c.in-Bad.is at c.first_line.ensures); told_within = tt }
+pub returns-in_err-opened : goal.returns-in_err-opened
+returns-in_err-opened c = rw c.from_residual.ensures (record { faces_after = not_opened c.if-text-gt8192.false c.find-end.ensures c.if-end-text.false c.in_err-opened.ensures; told_within = tt })
 
-pub returns-in-Job : goal.returns-in-Job
-returns-in-Job c = record { faces_after = opened_read c.if-text-gt8192.false c.find-end.ensures c.if-end-text.false (rw c.in-Job.is at c.first_line.ensures) c.read_lines.ensures.faces_after; told_within = c.read_lines.ensures.told_within }
+pub returns : goal.returns
+returns c = record { faces_after = opened_read c.if-text-gt8192.false c.find-end.ensures c.if-end-text.false c.in_ok-opened.ensures c.read_lines.ensures.faces_after; told_within = c.read_lines.ensures.told_within }

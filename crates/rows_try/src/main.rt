@@ -12,20 +12,13 @@ fn whole(x: f64) -> u64 {
     if 1.0 / x < 0.0 {
         return 100;
     }
-    let mut y = 0.0;
-    for n in 0..100 {
-        if x == y {
-            return n;
-        }
-        y = y + 1.0;
-    }
-    100
+    (0..100).find(|n: &u64| x == *n as f64).unwrap_or(100)
 }
 
 // Writes the floats of a row, which are small whole numbers, and ends the line.
 fn show_points(rt: &impl Print, row: &[f64]) -> io::Result<()> {
-    for i in 0..row.len() {
-        show::number(rt, whole(row[i]))?;
+    for x in row {
+        show::number(rt, whole(*x))?;
     }
     show::end_line(rt)
 }

@@ -1,21 +1,20 @@
 -- The entries along a step or an edge, face by face: a face that has none of one corner has none. Assumes nothing.
 use mathlib.Core.Path.{◌≡◌, refl, sym, ap, ap₂, subst, ◌∙◌}
-use mathlib.Core.Logic.{◌⊎◌, inl, inr, ⊎_elim}
-use mathlib.Core.Bool.{Bool, true, false, not, ◌&&◌, ◌||◌, cond, or_comm, or_assoc}
+use mathlib.Core.Logic.{◌⊎◌, inl, inr}
+use mathlib.Core.Bool.{Bool, true, false, not, ◌&&◌, ◌||◌, cond}
 use mathlib.Core.List.{List, [], ◌∷◌, ◌++◌, map, append-nil, Memᴰ}
-use Prim.Native.Nat.{ℕ, zero, suc, ◌+◌, ◌≤◌, ◌<◌, min, max}
+use Prim.Native.Nat.{ℕ, suc, ◌+◌, ◌≤◌, ◌<◌, min, max}
 use native.Mathlib.Omega.{arith}
 use native.Mathlib.Decide.{dec_le, le_ind}
 use borrow.Author.Tests.{eq-eqb}
-use lib.Dec.{T, eqb, eqb→eq}
+use lib.Dec.{T, eqb}
 use lib.Ieee.Fits.{and_i}
-use lib.Ieee.Bits.{is_true}
 use lib.ListN.{length, length-append, length-map}
 use Rattle.rules.specs.Lists.{below, filter, any, each, has}
 use Rattle.rules.specs.Mesh.{Face, face, faces_of, corners, exchanged}
-use Rattle.rules.specs.Steps.{Step, step, steps, opposite, edge, same, walks}
+use Rattle.rules.specs.Steps.{Step, step, steps, opposite, edge, same}
 use Rattle.rule_laws.proofs.Tests.{or_left, or_right, or_elim, both_ways, and_elim}
-use Rattle.rule_laws.proofs.Lists.{each_append, filter_append, under_cond}
+use Rattle.rule_laws.proofs.Lists.{each_append, under_cond}
 use Rattle.rule_laws.proofs.Members.{mem_has, none_filter, any_mem, mem_three}
 use Rattle.rule_laws.proofs.Once.{same_is}
 use Rattle.orienting.proofs.Turns.{edge_opposite}

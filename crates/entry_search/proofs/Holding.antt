@@ -1,54 +1,60 @@
 -- The choice when one face more was looked at. Assumes nothing.
 use mathlib.Core.Path.{◌≡◌, refl, sym, ap, ◌∙◌}
 use mathlib.Core.Bool.{Bool, true, false, cond}
-use mathlib.Core.List.{List, [], ◌∷◌, ◌++◌, map}
-use Prim.Native.Nat.{ℕ, ◌+◌, ◌*◌, ◌/◌, ◌≤◌, ◌<◌}
+use mathlib.Core.List.{List}
+use Prim.Native.Nat.{ℕ, ◌+◌, ◌*◌, ◌/◌, ◌<◌}
 use native.Mathlib.Omega.{arith}
-use borrow.Author.Tests.{ne_eqb}
-use lib.Dec.{eqb}
 use lib.ListN.{length, get_or}
 use lib.Ieee.{Float}
 use Rattle.rules.specs.Float.{quality}
-use Rattle.rules.specs.Lists.{filter, through}
+use Rattle.rules.specs.Lists.{filter}
 use Rattle.rules.specs.Mesh.{Face, face, faces_of, points_of, exchanged}
 use Rattle.rules.specs.Steps.{Step, walks, quality_of}
-use Rattle.rules.specs.Rank.{outranks, better}
 use Rattle.rule_laws.proofs.Flat.{face_at}
-use Rattle.rank.specs.Ranks.{above, better_or, pick}
+use Rattle.rank.specs.Ranks.{above}
 use Rattle.rank.proofs.RankLaws.{better_none, better_some}
 use Rattle.measure.specs.Measure as measured
-use Rattle.face_words.specs.Words.{stands, straight, view, every_face}
+use Rattle.face_words.specs.Words.{stands, straight, view}
 use Rattle.face_words.specs.Views.{seen_as, ViewAsks}
 use Rattle.face_words.proofs.Places.{every_face_is}
 use Rattle.face_words.specs.declared.Corners.{Corners}
-use Rattle.entry_search.specs.declared.Choice.{Choice}
-use Rattle.entry_search.specs.Choosing.{value_at, wanted, admits, BestAsks, Chosen, BetterAsks, BetterGives, ConsiderAsks, ConsiderGives}
+use Rattle.std.specs.Prelude.{Option, None, Some}
+use Rattle.rank.specs.declared.Choice.{Choice}
+use Rattle.entry_search.specs.Choosing.{value_at, wanted, admits, Chosen, BetterGives, ConsiderAsks, ConsiderGives}
 
 -- ---- the better of two
 
-module _ {ps : List Float} {w : List ℕ} {g : Corners} {f : ℕ} {b : Choice} (p : BetterAsks ps w g f b) {x : Float} (e : x ≡ quality (points_of ps) (seen_as g 0)) where
-  -- the face is taken
-  fresh : (q : ℕ → Float) → q f ≡ quality (points_of ps) (seen_as g 0) → Chosen q (length w) (record { face = f; quality = x })
-  fresh q k = record { most = omega (arith, p.here); value = λ l. e ∙ sym k }
+-- what a comparison says of both qualities, it says of the values
+compared : {f : ℕ} {x : Float} {b : Choice} {r : Bool} → r ≡ above x f b.quality b.face → (q : ℕ → Float) → x ≡ q f → b.quality ≡ q b.face → r ≡ above (q f) f (q b.face) b.face
+compared o q k h = o ∙ cc (k, h)
 
+-- a face with its value
+fresh : {f : ℕ} {x : Float} (q : ℕ → Float) (F : ℕ) → f < F → x ≡ q f → Chosen q F (record { face = f; quality = x })
+fresh q F l k = record { here = l; value = k }
+
+module _ {ps : List Float} {g : Corners} {f : ℕ} {best : Option Choice} {x : Float} (e : x ≡ quality (points_of ps) (seen_as g 0)) where
   -- none so far
-  pub taken_first : b.face ≡ length w → BetterGives ps w g f b (record { face = f; quality = x })
-  taken_first n = record { chosen = λ q k h. fresh q k; picked = λ q k h. better_none (length w) q b.face f n }
+  pub taken_first : best ≡ None → BetterGives ps g f best (record { face = f; quality = x })
+  taken_first n = record { chosen = λ q F l k h. fresh q F l (e ∙ sym k); picked = λ q F l k h. rw n (better_none F q F f refl) }
 
-  module _ (n : b.face ≡ length w → ⊥) {r : Bool} (o : r ≡ above x f b.quality b.face) where
-    -- what the comparison says of both qualities, it says of the values
-    compared : (q : ℕ → Float) → q f ≡ quality (points_of ps) (seen_as g 0) → Chosen q (length w) b → r ≡ above (q f) f (q b.face) b.face
-    compared q k h = o ∙ cc (e, k, h.value (omega (arith, p.most)))
+  module _ {b : Choice} (n : best ≡ Some b) {r : Bool} (o : r ≡ above x f b.quality b.face) where
+    pub taken : r ≡ true → BetterGives ps g f best (record { face = f; quality = x })
+    taken t =
+        record {
+          chosen = λ q F l k h. fresh q F l (e ∙ sym k);
+          picked = λ q F l k h. let c = rw n at h in rw n (better_some F q b.face f (omega (arith, c.here)) true (sym t ∙ compared o q (e ∙ sym k) c.value));
+        }
 
-    pub taken : r ≡ true → BetterGives ps w g f b (record { face = f; quality = x })
-    taken t = record { chosen = λ q k h. fresh q k; picked = λ q k h. better_some (length w) q b.face f n true (sym t ∙ compared q k h) }
-
-    pub left : r ≡ false → BetterGives ps w g f b b
-    left t = record { chosen = λ q k h. h; picked = λ q k h. better_some (length w) q b.face f n false (sym t ∙ compared q k h) }
+    pub left : r ≡ false → BetterGives ps g f best b
+    left t =
+        record {
+          chosen = λ q F l k h. rw n at h;
+          picked = λ q F l k h. let c = rw n at h in rw n (better_some F q b.face f (omega (arith, c.here)) false (sym t ∙ compared o q (e ∙ sym k) c.value));
+        }
 
 -- ---- a face that is looked at
 
-module _ {ps : List Float} {xs w : List ℕ} {f : ℕ} {b : Choice} (p : ConsiderAsks ps xs w f b) where
+module _ {ps : List Float} {xs w : List ℕ} {f : ℕ} {b : Option Choice} (p : ConsiderAsks ps xs w f b) where
   view_ok : ViewAsks xs w f
   view_ok = record { worded = p.asks.worded; here = p.here }
 
@@ -78,10 +84,10 @@ module _ {ps : List Float} {xs w : List ℕ} {f : ℕ} {b : Choice} (p : Conside
   unfolding quality_of quality
   value_is {g} e = ap (quality (points_of ps)) (every_face_is xs w f p.here ∙ sym e)
 
-  pub better_ok : {g : Corners} → seen_as g f ≡ view xs w f → BetterAsks ps w g f b
-  better_ok {g} e = record { corners = corners_in (seen_as g f) e; here = p.here; most = p.chosen.most }
+  pub better_ok : {g : Corners} → seen_as g f ≡ view xs w f → measured.Corners ps g.a g.b g.c
+  better_ok {g} e = corners_in (seen_as g f) e
 
-  module _ (d : Bool) (t : Step) (walk but : ℕ) where
+  module _ (d : Bool) (t : Step) (walk : Option Bool) (but : Option ℕ) where
     -- it is gone
     pub gone : {r : Bool} → r ≡ stands w f → r ≡ false → ConsiderGives ps xs w f d t walk but b b
     gone e k = record { chosen = p.chosen; picked = rw (← e, k) }
@@ -95,9 +101,9 @@ module _ {ps : List Float} {xs w : List ℕ} {f : ℕ} {b : Choice} (p : Conside
       pub unwanted : y ≡ false → ConsiderGives ps xs w f d t walk but b b
       unwanted n = record { chosen = p.chosen; picked = rw (← e, k, ← of_view, n) }
 
-      pub taken_in : {c : Choice} → y ≡ true → BetterGives ps w g f b c → ConsiderGives ps xs w f d t walk but b c
+      pub taken_in : {c : Choice} → y ≡ true → BetterGives ps g f b c → ConsiderGives ps xs w f d t walk but b (Some c)
       taken_in n h =
           record {
-            chosen = h.chosen (value_at ps xs w) (value_is s) p.chosen;
-            picked = h.picked (value_at ps xs w) (value_is s) p.chosen ∙ rw (← e, k, ← of_view, n);
+            chosen = h.chosen (value_at ps xs w) (length w) p.here (value_is s) p.chosen;
+            picked = h.picked (value_at ps xs w) (length w) p.here (value_is s) p.chosen ∙ rw (← e, k, ← of_view, n);
           }

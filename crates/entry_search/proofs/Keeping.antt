@@ -1,30 +1,30 @@
 -- Who is kept at an edge, by what is picked of its entries: all, those that walk otherwise, all but one. Assumes nothing.
 use mathlib.Core.Path.{◌≡◌, refl, sym, ap, ap₂, subst, ◌∙◌}
-use mathlib.Core.Bool.{Bool, true, false, not, ◌||◌, beq, cond, not-not}
+use mathlib.Core.Bool.{Bool, true, false, not, beq, cond, not-not}
 use mathlib.Core.List.{List, [], ◌∷◌, ◌++◌, map}
-use Prim.Native.Nat.{ℕ, zero, suc, ◌≤◌, ◌<◌, min, max}
+use Prim.Native.Nat.{ℕ, suc, ◌<◌, min, max}
 use native.Mathlib.Omega.{arith}
 use native.Mathlib.Decide.{ℕ_discrete}
 use borrow.Author.Tests.{eq-eqb, ne_eqb}
 use lib.Dec.{T, eqb}
 use lib.ListN.{length, drop}
 use lib.Ieee.{Float}
+use Rattle.std.specs.Prelude.{Option, None, Some, IsSome}
 use Rattle.rules.specs.Lists.{below, filter, each}
-use Rattle.rules.specs.Mesh.{Face, face}
+use Rattle.rules.specs.Mesh.{face}
 use Rattle.rules.specs.Steps.{Step, step, steps, edge, walks}
 use Rattle.rules.specs.Rank.{best, without}
-use Rattle.rules.specs.Pass3.{second, kept}
-use Rattle.rule_laws.proofs.Lists.{stay_at}
+use Rattle.rules.specs.Pass3.{kept}
 use Rattle.rule_laws.proofs.Rising.{All, all_imp, all_map, all_each, all_filter, Up, stay_up}
 use Rattle.rule_laws.proofs.Members.{in_all}
 use Rattle.rank.specs.Ranks.{pick}
-use Rattle.rank.proofs.RankLaws.{pick_some, second_some, second_none}
+use Rattle.rank.proofs.RankLaws.{pick_some, second_some, second_none, all_without, without_long}
 use Rattle.face_words.specs.Words.{stands, view, there, every_face}
 use Rattle.face_words.specs.Views.{seen_as}
 use Rattle.face_words.specs.declared.Corners.{Corners}
 use Rattle.face_words.proofs.Places.{there_all, every_face_is, each_agree, filter_each}
 use Rattle.entry_search.specs.Searching.{along}
-use Rattle.entry_search.specs.Choosing.{wanted, wanted_at, users_at, value_at, second_at, kept_at, BestAsks, BestGives, SecondAsks, KeptAsks}
+use Rattle.entry_search.specs.Choosing.{number_or, wanted, wanted_at, users_at, value_at, second_at, kept_at, BestGives, SecondAsks, KeptAsks}
 use Rattle.entry_search.proofs.Entries.{list_of}
 
 -- ---- the entries as a list
@@ -128,28 +128,26 @@ module _ (xs w : List ℕ) (d : Bool) (t : Step) where
   ss f = filter (along d t) (steps (view xs w f))
 
   -- all entries
-  pub wanted_all : wanted_at 0 (length w) d t xs w (length w) ≡ list_of ss w (length w)
+  pub wanted_all : wanted_at None None d t xs w (length w) ≡ list_of ss w (length w)
   unfolding wanted
-  wanted_all =
-      list_agree (λ f. wanted 0 (length w) d t (view xs w f) f) ss w (length w)
-      (λ f h. ap (λ b. cond b (drop 1 (ss f)) (ss f)) (ne_eqb f (length w) (omega arith)))
+  wanted_all = refl
 
   -- all but one of a face
-  pub wanted_without : (one : ℕ) → wanted_at 0 one d t xs w (length w) ≡ without one (list_of ss w (length w))
+  pub wanted_without : (one : ℕ) → wanted_at None (Some one) d t xs w (length w) ≡ without one (list_of ss w (length w))
   unfolding wanted
   wanted_without one = sym (without_each one ss 0 (there w (length w)) (there_up w (length w)))
 
   -- those that walk otherwise than `forward`
   pub wanted_other :
-      (forward : Bool) (walk : ℕ) → walk ≡ cond forward 1 2
-      → wanted_at walk (length w) d t xs w (length w) ≡ filter (λ j. not (beq (walks (face (every_face xs w) j) (edge t)) forward)) (list_of ss w (length w))
+      (forward : Bool)
+      → wanted_at (Some (not forward)) None d t xs w (length w) ≡ filter (λ j. not (beq (walks (face (every_face xs w) j) (edge t)) forward)) (list_of ss w (length w))
   unfolding wanted
-  wanted_other forward walk e =
-      list_agree (λ f. wanted walk (length w) d t (view xs w f) f) (λ f. cond (not (beq (walks (face (every_face xs w) f) (edge t)) forward)) (ss f) []) w (length w)
-      (λ f h. rw (ne_eqb f (length w) (omega arith), every_face_is xs w f h, e) (go forward (walks (view xs w f) (edge t)) (ss f)))
+  wanted_other forward =
+      list_agree (λ f. wanted (Some (not forward)) None d t (view xs w f) f) (λ f. cond (not (beq (walks (face (every_face xs w) f) (edge t)) forward)) (ss f) []) w (length w)
+      (λ f h. rw (every_face_is xs w f h) (go forward (walks (view xs w f) (edge t)) (ss f)))
       ∙ sym (list_filter (λ j. not (beq (walks (face (every_face xs w) j) (edge t)) forward)) ss w (length w))
     where
-      go : (x y : Bool) (us : List Step) → cond (eqb (cond x 1 2) 0) us (cond (beq y (eqb (cond x 1 2) 2)) us []) ≡ cond (not (beq y x)) us []
+      go : (x y : Bool) (us : List Step) → cond (beq y (not x)) us [] ≡ cond (not (beq y x)) us []
       go true true us = refl
       go true false us = refl
       go false true us = refl
@@ -161,30 +159,41 @@ users_in xs w t =
     all_imp (λ x. (x < length w) × T (stands w x)) (λ x. x < length w) (λ x h. h.0) (users_at xs w t)
     (list_all (λ f. filter (along false t) (steps (view xs w f))) w (length w))
 
+-- a number below F is one
+number_some : {F : ℕ} (o : Option ℕ) → number_or F o < F → IsSome o
+number_some None h = absurd (omega arith)
+number_some (Some f) h = refl
+
 -- ---- the first choice
 
-module _ {ps : List Float} {xs w : List ℕ} {t : Step} (p : KeptAsks ps xs w t) {one : ℕ} (g : BestGives ps xs w false t 0 (length w) one) where
-  first_pick : one ≡ pick (length w) (value_at ps xs w) (length w) (users_at xs w t)
+module _ {ps : List Float} {xs w : List ℕ} {t : Step} (p : KeptAsks ps xs w t) {o : Option ℕ} (g : BestGives ps xs w false t None None o) where
+  first_pick : number_or (length w) o ≡ pick (length w) (value_at ps xs w) (length w) (users_at xs w t)
   first_pick = g.picked ∙ ap (pick (length w) (value_at ps xs w) (length w)) (wanted_all xs w false t)
 
-  first_is : one ≡ best (value_at ps xs w) (users_at xs w t)
+  first_is : number_or (length w) o ≡ best (value_at ps xs w) (users_at xs w t)
   first_is = first_pick ∙ (pick_some (length w) (value_at ps xs w) (users_at xs w t) (users_in xs w t) (omega (arith, p.two))).0
 
-  pub second_ok : SecondAsks ps xs w t one
-  second_ok =
-      record {
-        asks = p.asks;
-        two = p.two;
-        here = rw (← first_pick) at (pick_some (length w) (value_at ps xs w) (users_at xs w t) (users_in xs w t) (omega (arith, p.two))).1;
-      }
+  first_here : number_or (length w) o < length w
+  first_here = rw (← first_pick) at (pick_some (length w) (value_at ps xs w) (users_at xs w t) (users_in xs w t) (omega (arith, p.two))).1
 
-  pub kept_first : (f : ℕ) → f ≡ one → true ≡ kept_at ps xs w t f
-  unfolding kept
-  kept_first f e = rw (← first_is, eq-eqb f one e)
+  -- there is one
+  pub first_some : IsSome o
+  first_some = number_some o first_here
 
-  pub kept_second : (f : ℕ) → (f ≡ one → ⊥) → {two : ℕ} → two ≡ second_at ps xs w t one → eqb f two ≡ kept_at ps xs w t f
-  unfolding kept
-  kept_second f n e = rw (← first_is, ne_eqb f one n, e)
+  module _ {one : ℕ} (s : o ≡ Some one) where
+    pub second_ok : SecondAsks ps xs w t one
+    second_ok = record { asks = p.asks; two = p.two; here = rw s at first_here }
+
+    one_is : one ≡ best (value_at ps xs w) (users_at xs w t)
+    one_is = rw s at first_is
+
+    pub kept_first : (f : ℕ) → f ≡ one → true ≡ kept_at ps xs w t f
+    unfolding kept
+    kept_first f e = rw (← one_is, eq-eqb f one e)
+
+    pub kept_second : (f : ℕ) → (f ≡ one → ⊥) → {two : ℕ} → two ≡ second_at ps xs w t one → eqb f two ≡ kept_at ps xs w t f
+    unfolding kept
+    kept_second f n e = rw (← one_is, ne_eqb f one n, e)
 
 -- ---- the second choice
 
@@ -203,20 +212,29 @@ module _ {ps : List Float} {xs w : List ℕ} {t : Step} {one : ℕ} (p : SecondA
   unfolding edge walks
   walk_of {g} s el eh e = e ∙ rw (el, eh, every_face_is xs w one p.here, ← s)
 
-  module _ {forward : Bool} (ef : forward ≡ walks (face (every_face xs w) one) (edge t)) {walk : ℕ} (ew : walk ≡ cond forward 1 2) {o : ℕ} (g : BestGives ps xs w false t walk (length w) o) where
-    others_pick : o ≡ pick (length w) (value_at ps xs w) (length w) (os (walks (face (every_face xs w) one) (edge t)))
-    others_pick = rw (← ef) (g.picked ∙ ap (pick (length w) (value_at ps xs w) (length w)) (wanted_other xs w false t forward walk ew))
+  -- there is one of the rest
+  pub rest_some : {r : Option ℕ} → BestGives ps xs w false t None (Some one) r → IsSome r
+  rest_some {r} k =
+      let a = all_without (λ x. x < length w) one (users_at xs w t) (users_in xs w t) in
+      number_some {F = length w} r (
+      rw (k.picked, wanted_without xs w false t one)
+      (pick_some (length w) (value_at ps xs w) (without one (users_at xs w t)) a (omega (arith, p.two, without_long one (users_at xs w t)))).1
+      )
+
+  module _ {forward : Bool} (ef : forward ≡ walks (face (every_face xs w) one) (edge t)) {o : Option ℕ} (g : BestGives ps xs w false t (Some (not forward)) None o) where
+    others_pick : number_or (length w) o ≡ pick (length w) (value_at ps xs w) (length w) (os (walks (face (every_face xs w) one) (edge t)))
+    others_pick = rw (← ef) (g.picked ∙ ap (pick (length w) (value_at ps xs w) (length w)) (wanted_other xs w false t forward))
 
     -- some walk otherwise
-    pub some : o < length w → o ≡ second_at ps xs w t one
-    some h =
+    pub some : {f : ℕ} → o ≡ Some f → f ≡ second_at ps xs w t one
+    some {f} e =
         second_some (length w) (value_at ps xs w) one (users_at xs w t) (users_in xs w t) p.two (os (walks (face (every_face xs w) one) (edge t)))
-        (os_in (walks (face (every_face xs w) one) (edge t))) o others_pick h
+        (os_in (walks (face (every_face xs w) one) (edge t))) f (rw e at others_pick) (rw e at g.here)
 
     -- none does
-    pub rest : length w ≤ o → {r : ℕ} → BestGives ps xs w false t 0 one r → r ≡ second_at ps xs w t one
-    rest h {r} k =
-        k.picked
+    pub rest : o ≡ None → {r : Option ℕ} → BestGives ps xs w false t None (Some one) r → {f : ℕ} → r ≡ Some f → f ≡ second_at ps xs w t one
+    rest n {r} k {f} e =
+        rw e at k.picked
         ∙ ap (pick (length w) (value_at ps xs w) (length w)) (wanted_without xs w false t one)
         ∙ second_none (length w) (value_at ps xs w) one (users_at xs w t) (users_in xs w t) p.two (os (walks (face (every_face xs w) one) (edge t)))
-        (os_in (walks (face (every_face xs w) one) (edge t))) o others_pick h
+        (os_in (walks (face (every_face xs w) one) (edge t))) (length w) (rw n at others_pick) (omega arith)

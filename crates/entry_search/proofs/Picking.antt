@@ -1,8 +1,8 @@
 -- The best of the wanted entries, picked face by face: that a face has several entries changes nothing. Assumes nothing.
-use mathlib.Core.Path.{◌≡◌, refl, sym, ap, ap₂, ◌∙◌}
-use mathlib.Core.Bool.{Bool, true, false, beq, cond}
-use mathlib.Core.List.{List, [], ◌∷◌, ◌++◌, map}
-use Prim.Native.Nat.{ℕ, zero, suc, ◌+◌, ◌≤◌, ◌<◌}
+use mathlib.Core.Path.{◌≡◌, refl, sym, ap, ◌∙◌}
+use mathlib.Core.Bool.{Bool, true, false, cond}
+use mathlib.Core.List.{List, [], ◌∷◌, map}
+use Prim.Native.Nat.{ℕ, suc, ◌+◌, ◌≤◌, ◌<◌}
 use native.Mathlib.Omega.{arith}
 use borrow.Author.Tests.{lt-ltb}
 use lib.Dec.{eqb, ltb}
@@ -12,12 +12,13 @@ use Rattle.rules.specs.Lists.{filter, through}
 use Rattle.rules.specs.Mesh.{Face}
 use Rattle.rules.specs.Steps.{Step, step, steps, edge, walks}
 use Rattle.rules.specs.Rank.{outranks, better}
-use Rattle.rank.specs.Ranks.{better_or, pick}
+use Rattle.rank.specs.Ranks.{better_or, pick, face_or}
 use Rattle.rank.proofs.RankLaws.{pick_none, pick_append}
 use Rattle.face_words.specs.Words.{stands, view}
-use Rattle.entry_search.specs.declared.Choice.{Choice}
+use Rattle.std.specs.Prelude.{Option, None, Some, IfSome, option_map}
+use Rattle.rank.specs.declared.Choice.{Choice}
 use Rattle.entry_search.specs.Searching.{along, CandidateGives}
-use Rattle.entry_search.specs.Choosing.{wanted, admits, wanted_at, value_at, BestAsks, Chosen, ConsiderAsks, ConsiderGives, BestGives}
+use Rattle.entry_search.specs.Choosing.{walks_so, is_but, number_or, wanted, admits, wanted_at, value_at, BestAsks, Chosen, ConsiderAsks, ConsiderGives, BestGives}
 use Rattle.entry_search.proofs.Entries.{none_along, list_none, list_next, list_skip}
 
 -- ---- one face several times
@@ -50,45 +51,43 @@ module _ (F : ℕ) (q : ℕ → Float) where
       more c e (t ∷ ts) = ap (λ x. through (better_or F q) x (map (λ y. f) ts)) e ∙ more c e ts
 
 -- where no step is along t none is wanted
-wanted_none : (walk but : ℕ) (d : Bool) (t : Step) (v : Face) (f : ℕ) → filter (along d t) (steps v) ≡ [] → wanted walk but d t v f ≡ []
+wanted_none : (walk : Option Bool) (but : Option ℕ) (d : Bool) (t : Step) (v : Face) (f : ℕ) → filter (along d t) (steps v) ≡ [] → wanted walk but d t v f ≡ []
 unfolding wanted
-wanted_none walk but d t v f e = rw e (go (eqb walk 0) (beq (walks v (edge t)) (eqb walk 2)) (eqb f but))
+wanted_none walk but d t v f e = rw e (go (walks_so walk (walks v (edge t))) (is_but but f))
   where
-    go : (x y z : Bool) → cond x (cond z (drop {A = Step} 1 []) []) (cond y (cond z (drop {A = Step} 1 []) []) []) ≡ []
-    go true y true = refl
-    go true y false = refl
-    go false true true = refl
-    go false true false = refl
-    go false false z = refl
+    go : (x y : Bool) → cond x (cond y (drop {A = Step} 1 []) []) [] ≡ []
+    go true true = refl
+    go true false = refl
+    go false y = refl
 
 -- ---- the loop
 
 -- the choice is the best of the wanted entries of the faces that were passed
-pub record Picked (ps : List Float) (xs w : List ℕ) (d : Bool) (t : Step) (walk but : ℕ) (b : Choice) (f : ℕ) : Type 0 where
+pub record Picked (ps : List Float) (xs w : List ℕ) (d : Bool) (t : Step) (walk : Option Bool) (but : Option ℕ) (b : Option Choice) (f : ℕ) : Type 0 where
   pub most : f ≤ length w
-  pub chosen : Chosen (value_at ps xs w) (length w) b
-  pub picked : b.face ≡ pick (length w) (value_at ps xs w) (length w) (wanted_at walk but d t xs w f)
+  pub chosen : IfSome b (Chosen (value_at ps xs w) (length w))
+  pub picked : face_or (length w) b ≡ pick (length w) (value_at ps xs w) (length w) (wanted_at walk but d t xs w f)
 
-module _ {ps : List Float} {xs w : List ℕ} (p : BestAsks ps xs w) (d : Bool) (a b walk but : ℕ) where
+module _ {ps : List Float} {xs w : List ℕ} (p : BestAsks ps xs w) (d : Bool) (a b : ℕ) (walk : Option Bool) (but : Option ℕ) where
   abbrev ss : ℕ → List Step
   ss f = wanted walk but d (step a b) (view xs w f) f
 
   none_wanted : {from r : ℕ} → CandidateGives xs a b from r → (g : ℕ) → from ≤ g → g < r → ss g ≡ []
   none_wanted c g l h = wanted_none walk but d (step a b) (view xs w g) g (none_along xs w d a b g (c.none g l h))
 
-  pub begin : {x : Float} {r : ℕ} → CandidateGives xs a b 0 r → Picked ps xs w d (step a b) walk but (record { face = length w; quality = x }) r
-  begin {x} {r} c =
+  pub begin : {r : ℕ} → CandidateGives xs a b 0 r → Picked ps xs w d (step a b) walk but None r
+  begin {r} c =
       record {
         most = omega (arith, p.worded.long, c.most);
-        chosen = record { most = omega arith; value = λ l. absurd (omega arith) };
+        chosen = tt;
         picked = pick_none (length w) (value_at ps xs w) (length w) ∙ ap (pick (length w) (value_at ps xs w) (length w)) (sym (list_skip ss w 0 r (omega arith) (none_wanted c) ∙ list_none ss w));
       }
 
-  module _ {best : Choice} {f : ℕ} (v : Picked ps xs w d (step a b) walk but best f) (h : f < length w) where
+  module _ {best : Option Choice} {f : ℕ} (v : Picked ps xs w d (step a b) walk but best f) (h : f < length w) where
     pub consider_ok : ConsiderAsks ps xs w f best
     consider_ok = record { asks = p; here = h; chosen = v.chosen }
 
-    pub again : {c : Choice} → ConsiderGives ps xs w f d (step a b) walk but best c → {r : ℕ} → CandidateGives xs a b (f + 1) r → Picked ps xs w d (step a b) walk but c r
+    pub again : {c : Option Choice} → ConsiderGives ps xs w f d (step a b) walk but best c → {r : ℕ} → CandidateGives xs a b (f + 1) r → Picked ps xs w d (step a b) walk but c r
     unfolding admits
     again {c} g {r} n =
         record {
@@ -109,7 +108,15 @@ module _ {ps : List Float} {xs w : List ℕ} (p : BestAsks ps xs w) (d : Bool) (
         one true x = sym (pick_copies (length w) q x f (ss f))
         one false x = pick_none (length w) q x
 
-  pub done : {best : Choice} {f : ℕ} → Picked ps xs w d (step a b) walk but best f → length w ≤ f → BestGives ps xs w d (step a b) walk but best.face
-  done {best} {f} v h =
+  pub done : (best : Option Choice) (f : ℕ) → Picked ps xs w d (step a b) walk but best f → length w ≤ f → BestGives ps xs w d (step a b) walk but (option_map (λ c. c.face) best)
+  done best f v h =
       let e : f ≡ length w = omega (arith, v.most) in
-      record { most = v.chosen.most; picked = v.picked ∙ ap (λ k. pick (length w) (value_at ps xs w) (length w) (wanted_at walk but d (step a b) xs w k)) e }
+      record { here = inside best v.chosen; picked = number best ∙ v.picked ∙ ap (λ k. pick (length w) (value_at ps xs w) (length w) (wanted_at walk but d (step a b) xs w k)) e }
+    where
+      inside : (o : Option Choice) → IfSome o (Chosen (value_at ps xs w) (length w)) → IfSome (option_map (λ c. c.face) o) (λ f. f < length w)
+      inside None i = tt
+      inside (Some c) i = i.here
+
+      number : (o : Option Choice) → number_or (length w) (option_map (λ c. c.face) o) ≡ face_or (length w) o
+      number None = refl
+      number (Some c) = refl

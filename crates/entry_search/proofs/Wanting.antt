@@ -1,32 +1,44 @@
 -- Which entries are wanted: how many steps a face has is enough to tell. Assumes nothing.
-use mathlib.Core.Path.{◌≡◌, refl, sym, ap, ◌∙◌}
-use mathlib.Core.Bool.{Bool, true, false, not, beq, cond}
+use mathlib.Core.Path.{◌≡◌, refl, sym, ◌∙◌}
+use mathlib.Core.Bool.{Bool, true, false, beq, cond}
 use mathlib.Core.List.{List, [], ◌∷◌}
-use Prim.Native.Nat.{ℕ, zero, suc, ◌-◌, ◌≤◌, ◌<◌, min, max}
+use Prim.Native.Nat.{ℕ, ◌-◌, ◌≤◌, ◌<◌, min, max}
 use native.Mathlib.Omega.{arith}
-use borrow.Author.Tests.{eq-eqb, ne_eqb, lt-ltb, le-ltb}
+use borrow.Author.Tests.{lt-ltb, le-ltb}
 use lib.Dec.{eqb, ltb}
 use lib.ListN.{length, drop}
+use mir.Val.{bool_byte}
+use Rattle.std.specs.Option.{option_eq}
+use Rattle.std.specs.Prelude.{Option, None, Some}
 use Rattle.rules.specs.Lists.{filter}
 use Rattle.rules.specs.Mesh.{Face}
 use Rattle.rules.specs.Steps.{Step, step, steps, edge, walks}
 use Rattle.entry_search.specs.Searching.{along}
-use Rattle.entry_search.specs.Choosing.{wanted, admits}
+use Rattle.entry_search.specs.Choosing.{walks_so, is_but, wanted, admits}
+
+-- the face of which an entry is not counted is compared
+pub passed_is : (but : Option ℕ) (f : ℕ) {b : Bool} {n : ℕ} → n ≡ bool_byte b → b ≡ option_eq eqb (Some f) but → n ≡ cond (is_but but f) 1 0
+passed_is None f e g = rw (e, g)
+passed_is (Some h) f e g = rw (e, g) (go (eqb f h))
+  where
+    go : (b : Bool) → bool_byte b ≡ cond b 1 0
+    go true = refl
+    go false = refl
 
 -- one fewer
 drop_length : (ss : List Step) → length (drop 1 ss) ≡ length ss - 1
 drop_length [] = refl
 drop_length (s ∷ ss) = omega arith
 
-module _ (walk but : ℕ) (d : Bool) (t : Step) (v : Face) (f : ℕ) {u passed : ℕ} (eu : u ≡ length (filter (along d t) (steps v))) (ep : passed ≡ cond (eqb f but) 1 0) where
+module _ (walk : Option Bool) (but : Option ℕ) (d : Bool) (t : Step) (v : Face) (f : ℕ) {u passed : ℕ} (eu : u ≡ length (filter (along d t) (steps v))) (ep : passed ≡ cond (is_but but f) 1 0) where
   abbrev us : List Step
   us = filter (along d t) (steps v)
 
   abbrev rest : List Step
-  rest = cond (eqb f but) (drop 1 us) us
+  rest = cond (is_but but f) (drop 1 us) us
 
   rest_long : length rest ≡ u - passed
-  rest_long = go (eqb f but) ep
+  rest_long = go (is_but but f) ep
     where
       go : (b : Bool) → passed ≡ cond b 1 0 → length (cond b (drop 1 us) us) ≡ u - passed
       go true e = drop_length us ∙ rw (← eu, e)
@@ -35,47 +47,29 @@ module _ (walk but : ℕ) (d : Bool) (t : Step) (v : Face) (f : ℕ) {u passed :
   -- nothing is left
   pub admits_none : u ≤ passed → false ≡ admits walk but d t v f
   unfolding admits wanted
-  admits_none h = sym (le-ltb 0 (length (cond (eqb walk 0) rest (cond (beq (walks v (edge t)) (eqb walk 2)) rest []))) (go (eqb walk 0) (beq (walks v (edge t)) (eqb walk 2))))
+  admits_none h = sym (le-ltb 0 (length (cond (walks_so walk (walks v (edge t))) rest [])) (go (walks_so walk (walks v (edge t)))))
     where
-      go : (x y : Bool) → length (cond x rest (cond y rest [])) ≤ 0
-      go true y = omega (arith, rest_long)
-      go false true = omega (arith, rest_long)
-      go false false = omega arith
+      go : (x : Bool) → length (cond x rest []) ≤ 0
+      go true = omega (arith, rest_long)
+      go false = omega arith
 
   module _ (h : passed < u) where
     some : ltb 0 (length rest) ≡ true
     some = lt-ltb 0 (length rest) (omega (arith, rest_long))
 
     -- any face is wanted
-    pub admits_any : walk ≡ 0 → true ≡ admits walk but d t v f
+    pub admits_any : walk ≡ None → true ≡ admits walk but d t v f
     unfolding admits wanted
-    admits_any e = rw (eq-eqb walk 0 e) (sym some)
+    admits_any e = rw e (sym some)
 
-    module _ (n : walk ≡ 0 → ⊥) {lo hi : ℕ} (el : lo ≡ min t.from t.to) (eh : hi ≡ max t.from t.to) {r : Bool} (e : r ≡ walks v (step lo hi)) where
-      by_edge : r ≡ walks v (edge t)
-      unfolding edge
-      by_edge = rw (el, eh) at e
+    -- only one that walks the edge so
+    pub admits_so : {x : Bool} → walk ≡ Some x → {lo hi : ℕ} → lo ≡ min t.from t.to → hi ≡ max t.from t.to → {r : Bool} → r ≡ walks v (step lo hi) → beq r x ≡ admits walk but d t v f
+    unfolding admits wanted
+    admits_so {x} k el eh {r} e = rw (k, ← by_edge) (go (beq r x))
+      where
+        by_edge : r ≡ walks v (edge t)
+        by_edge = unfold edge in (rw (el, eh) at e)
 
-      by_walk : (b : Bool) → eqb walk 2 ≡ b → beq r b ≡ admits walk but d t v f
-      unfolding admits wanted
-      by_walk b g = rw (ne_eqb walk 0 n, ← by_edge, g) (go (beq r b))
-        where
-          go : (c : Bool) → c ≡ ltb 0 (length (cond c rest []))
-          go true = sym some
-          go false = refl
-
-      -- only one that walks the edge
-      pub admits_walking : walk ≡ 2 → r ≡ admits walk but d t v f
-      admits_walking g = same r ∙ by_walk true (eq-eqb walk 2 g)
-        where
-          same : (b : Bool) → b ≡ beq b true
-          same true = refl
-          same false = refl
-
-      -- only one that does not: it does
-      pub admits_not : (walk ≡ 2 → ⊥) → r ≡ true → false ≡ admits walk but d t v f
-      admits_not g k = ap (λ b. beq b false) (sym k) ∙ by_walk false (ne_eqb walk 2 g)
-
-      -- and it does not
-      pub admits_other : (walk ≡ 2 → ⊥) → r ≡ false → true ≡ admits walk but d t v f
-      admits_other g k = ap (λ b. beq b false) (sym k) ∙ by_walk false (ne_eqb walk 2 g)
+        go : (c : Bool) → c ≡ ltb 0 (length (cond c rest []))
+        go true = sym some
+        go false = refl

@@ -1,7 +1,6 @@
 -- Which faces are looked at when the entries of a step or an edge are searched, and how many entries they have. Definitions only.
-use Rattle.std.specs.Prelude.{◌≡◌, Bool, false, ◌&&◌, cond, List, ℕ, ◌/◌, ◌%◌, ◌≤◌, ◌<◌, length}
-use Rattle.rules.specs.Lists.{filter, has}
-use Rattle.rules.specs.Mesh.{face, faces_of, corners}
+use Rattle.std.specs.Prelude.{Bool, cond, List, ℕ, length}
+use Rattle.rules.specs.Lists.{filter}
 use Rattle.rules.specs.Steps.{Step, steps, same, edge}
 use Rattle.face_words.specs.Words.{stands, view}
 -- both are corners of a face, and the next one that may have both

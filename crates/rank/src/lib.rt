@@ -11,13 +11,13 @@ ghost use Rattle.rank.specs.Ranks.{faces_in, value_of, above, others, WalksAsks,
 
 // A face, and its quality.
 #[derive(Clone, Copy, Debug, PartialEq)]
-struct Choice {
-    face: usize,
-    quality: f64,
+pub struct Choice {
+    pub face: usize,
+    pub quality: f64,
 }
 
 // Whether face i with the quality a ranks before face j with the quality b.
-fn outranks(a: f64, i: usize, b: f64, j: usize) -> bool
+pub fn outranks(a: f64, i: usize, b: f64, j: usize) -> bool
     ensures { result ≡ above a i b j }
 {
     b < a || !(a < b) && i < j
@@ -78,7 +78,7 @@ pub fn place(run: &[u32], one: usize) -> Option<usize>
 }
 
 // Whether the step from x to y is the one from a to b.
-fn same(x: u32, y: u32, a: u32, b: u32) -> bool
+pub fn same(x: u32, y: u32, a: u32, b: u32) -> bool
     ensures { result ≡ steps.same (steps.step x y) (steps.step a b) }
 {
     x == a && y == b

@@ -1,7 +1,7 @@
 -- One face and its word while a group is searched: whether it is met, and that waiting changes nothing else. Assumes nothing.
 use mathlib.Core.Path.{◌≡◌, refl, sym, ap, ◌∙◌, subst}
 use mathlib.Core.Bool.{Bool, true, false, not, ◌&&◌, ◌||◌, cond}
-use mathlib.Core.List.{List, [], ◌∷◌}
+use mathlib.Core.List.{List}
 use Prim.Native.Nat.{ℕ, ◌+◌, ◌/◌, ◌%◌, ◌≤◌}
 use native.Mathlib.Omega.{arith}
 use borrow.Author.Tests.{eq-eqb, ne_eqb}
@@ -15,25 +15,6 @@ use Rattle.face_words.specs.Words.{stands, straight, view}
 use Rattle.searched_fans.specs.Reaching.{state, meets, joins, flags_of}
 
 -- ---- three corners
-
--- the first of three
-pub among_first : (v a b c : ℕ) → v ≡ a → true ≡ has v (a ∷ b ∷ c ∷ [])
-unfolding has any
-among_first v a b c e = rw (eq-eqb v a e)
-
--- the second
-pub among_second : (v a b c : ℕ) → (v ≡ a → ⊥) → v ≡ b → true ≡ has v (a ∷ b ∷ c ∷ [])
-unfolding has any
-among_second v a b c n e = rw (ne_eqb v a n, eq-eqb v b e)
-
--- or the third
-pub among_third : (v a b c : ℕ) → (v ≡ a → ⊥) → (v ≡ b → ⊥) → eqb v c ≡ has v (a ∷ b ∷ c ∷ [])
-unfolding has any
-among_third v a b c n m = rw (ne_eqb v a n, ne_eqb v b m) (last (eqb v c))
-  where
-    last : (b : Bool) → b ≡ (b || false)
-    last true = refl
-    last false = refl
 
 -- an exchange does not change which corners a face has
 pub has_view : (xs w : List ℕ) (g p : ℕ) → has p (corners (view xs w g)) ≡ has p (corners (face (faces_of xs) g))

@@ -1,14 +1,14 @@
 -- Pass 1's mark by faces. Assumes nothing.
 use mathlib.Core.Path.{◌≡◌, refl, sym, ap, subst, ◌∙◌}
-use mathlib.Core.Bool.{Bool, true, false, not, ◌&&◌, ◌||◌}
+use mathlib.Core.Bool.{Bool, true, not, ◌&&◌, ◌||◌}
 use mathlib.Core.List.{List}
-use Prim.Native.Nat.{ℕ, ◌<◌}
+use Prim.Native.Nat.{ℕ}
 use lib.Dec.{T}
 use denote.Enum.Bare.{sameb}
 use lib.ListN.{length}
 use lib.Ieee.{Float}
 use Rattle.rules.specs.Float.{Shape, repeats, shape, is_repeated, is_thin}
-use Rattle.rules.specs.Mesh.{face, points_of}
+use Rattle.rules.specs.Mesh.{points_of}
 use Rattle.rules.specs.Pass1.{repeated1, thin1, marked1}
 use Rattle.rule_laws.proofs.Once.{CornersBelow}
 use Rattle.rule_laws.proofs.Flat.{length_points}

@@ -1,41 +1,39 @@
 -- The rules' marks of the faces that stand, by faces. Assumes nothing.
-use mathlib.Core.Path.{◌≡◌, refl, sym, ap, ap₂, subst, ◌∙◌}
-use mathlib.Core.Logic.{inl, inr}
+use mathlib.Core.Path.{◌≡◌, refl, sym, ap, subst, ◌∙◌}
 use mathlib.Core.Bool.{Bool, true, false, not, ◌&&◌, ◌||◌, cond}
 use mathlib.Core.List.{List, [], ◌∷◌, map, Memᴰ}
-use Prim.Native.Nat.{ℕ, zero, suc, ◌+◌, ◌*◌, ◌/◌, ◌≤◌, ◌<◌}
+use Prim.Native.Nat.{ℕ, ◌+◌, ◌*◌, ◌/◌, ◌≤◌, ◌<◌}
 use native.Mathlib.Omega.{arith}
 use borrow.Author.Tests.{lt-ltb, le-ltb}
-use lib.Dec.{T, eqb, ltb, ltb→lt}
-use lib.Ieee.Bits.{is_true}
+use lib.Dec.{T, ltb, ltb→lt}
 use lib.ListN.{length, get_or, length-map}
 use lib.Ieee.{Float}
 use Rattle.rules.specs.Float.{quality}
-use Rattle.rules.specs.Lists.{below, filter, any, each, has}
+use Rattle.std.specs.Prelude.{Option, None, Some}
+use Rattle.rules.specs.Lists.{below, filter, any, has}
 use Rattle.rules.specs.Mesh.{Face, face, faces_of, points_of, exchanged}
-use Rattle.rules.specs.Steps.{Step, step, steps, edge, same, users, walkers, walks, quality_of}
+use Rattle.rules.specs.Steps.{Step, step, steps, edge, users, walkers, walks, quality_of}
 use Rattle.rules.specs.Rank.{best, without}
 use Rattle.rules.specs.Pass3.{kept, marked3}
 use Rattle.rules.specs.Pass4.{marked4}
 use Rattle.rule_laws.proofs.Flat.{face_at, length_points}
 use Rattle.rule_laws.proofs.Rising.{All, all_imp, all_map}
-use Rattle.rule_laws.proofs.Tests.{both_ways, or_left}
-use Rattle.rule_laws.proofs.Members.{mem_each, mem_each_of, mem_filter, mem_below, has_mem, mem_has, mem_at, some_length, any_intro, any_mem}
+use Rattle.rule_laws.proofs.Tests.{both_ways}
+use Rattle.rule_laws.proofs.Members.{mem_each, mem_each_of, mem_filter, mem_below, has_mem, mem_has, some_length, any_intro, any_mem}
 use Rattle.rule_laws.proofs.Once.{Inside, CornersBelow}
 use Rattle.rule_laws.proofs.Takers.{users_takers, walkers_takers}
-use Rattle.rank.specs.Ranks.{pick}
 use Rattle.rank.proofs.RankLaws.{pick_some}
-use Rattle.face_words.specs.Words.{stands, straight, view, there, viewed, place, every_face, takers_at}
+use Rattle.face_words.specs.Words.{stands, straight, view, there, viewed, place, every_face}
 use Rattle.face_words.specs.Views.{seen_as}
 use Rattle.face_words.specs.declared.Corners.{Corners}
 use Rattle.face_words.proofs.Places.{there_all, viewed_face, place_in, every_face_is, takers_place}
 use Rattle.face_words.proofs.Ranking.{Standing, place_keeps, has_map, without_map, without_all, best_map, best_in, kept_map}
 use Rattle.entry_search.specs.Searching.{along}
-use Rattle.entry_search.specs.Choosing.{wanted, admits, wanted_at, users_at, value_at, kept_at, BestAsks, BestGives, KeptAsks}
+use Rattle.entry_search.specs.Choosing.{number_or, wanted, admits, users_at, value_at, kept_at, BestAsks, BestGives, KeptAsks}
 use Rattle.entry_search.proofs.Entries.{list_of, same_self}
 use Rattle.entry_search.proofs.Keeping.{list_all, wanted_all, wanted_without}
 use Rattle.searched_marks.specs.Marks.{mark_at, lost_at_edge, walkers_at, lost_at_step, FaceAsks, StepAsks}
-use Rattle.searched_marks.proofs.Own.{lost3, lost4, marked3_own, marked4_own, mem_map, mem_same}
+use Rattle.searched_marks.proofs.Own.{lost3, lost4, marked3_own, marked4_own, mem_same}
 
 -- ---- the faces over their points
 
@@ -229,18 +227,19 @@ module _ {ps : List Float} {xs w : List ℕ} {g : Corners} {f : ℕ} {t : Step} 
       let l : 0 < length (ss f) = some_length r.0 (ss f) (mem_filter (along true t) r.0 (steps (view xs w f)) r.1 r.2) in
       some_length f (walkers_at xs w t) (has_mem f (walkers_at xs w t) (subst T (sym (list_has ss w (length w) f p.face.here p.there ∙ lt-ltb 0 (length (ss f)) l)) tt))
 
-  pub step_lost : {first : ℕ} → BestGives ps xs w true t 0 (length w) first → {r : Bool} → r ≡ admits 0 first true t (seen_as g 0) f → r ≡ lost_at_step ps xs w f t
+  -- the first in rank is a face
+  first_is : {o : Option ℕ} → BestGives ps xs w true t None None o → (number_or (length w) o ≡ best (value_at ps xs w) (walkers_at xs w t)) × (number_or (length w) o < length w)
+  first_is b =
+      rw (b.picked, wanted_all xs w true t)
+      (pick_some (length w) (value_at ps xs w) (walkers_at xs w t)
+      (all_imp (Standing w) (λ x. x < length w) (λ x h. h.0) (walkers_at xs w t) (list_all ss w (length w))) walkers_some)
+
+  pub step_lost : (o : Option ℕ) → BestGives ps xs w true t None None o → {r : Bool} → r ≡ admits None o true t (seen_as g 0) f → r ≡ lost_at_step ps xs w f t
   unfolding admits wanted filter walks
-  step_lost {first} b e =
+  step_lost None b e = absurd (omega (arith, (first_is b).1))
+  step_lost (Some first) b e =
       e
-      ∙ ap (λ v. admits 0 first true t v f) p.seen
-      ∙ sym (list_has (λ j. wanted 0 first true t (view xs w j) j) w (length w) f p.face.here p.there)
+      ∙ ap (λ v. admits None (Some first) true t v f) p.seen
+      ∙ sym (list_has (λ j. wanted None (Some first) true t (view xs w j) j) w (length w) f p.face.here p.there)
       ∙ ap (has f) (wanted_without xs w true t first)
-      ∙ ap (λ x. has f (without x (walkers_at xs w t))) first_is
-    where
-      first_is : first ≡ best (value_at ps xs w) (walkers_at xs w t)
-      first_is =
-          b.picked
-          ∙ ap (pick (length w) (value_at ps xs w) (length w)) (wanted_all xs w true t)
-          ∙ (pick_some (length w) (value_at ps xs w) (walkers_at xs w t)
-          (all_imp (Standing w) (λ x. x < length w) (λ x h. h.0) (walkers_at xs w t) (list_all ss w (length w))) walkers_some).0
+      ∙ ap (λ x. has f (without x (walkers_at xs w t))) (first_is b).0

@@ -1,8 +1,8 @@
 -- The loop that marks face after face, and the one that sweeps. Assumes nothing.
-use mathlib.Core.Path.{◌≡◌, refl, sym, ap, ap₂, subst, ◌∙◌}
+use mathlib.Core.Path.{◌≡◌, refl, sym, ap, ap₂, ◌∙◌}
 use mathlib.Core.Bool.{Bool, true, false, not, ◌&&◌, cond}
 use mathlib.Core.List.{List}
-use Prim.Native.Nat.{ℕ, zero, suc, ◌+◌, ◌-◌, ◌/◌, ◌%◌, ◌≤◌, ◌<◌}
+use Prim.Native.Nat.{ℕ, ◌+◌, ◌-◌, ◌/◌, ◌%◌, ◌≤◌, ◌<◌}
 use native.Mathlib.Omega.{arith}
 use native.Mathlib.Numerals.{add-one}
 use native.Mathlib.Decide.{dec_lt}
@@ -16,7 +16,7 @@ use Rattle.rules.specs.Mesh.{Face}
 use Rattle.rule_laws.proofs.Lists.{count_below}
 use Rattle.rule_laws.proofs.Counting.{count_below_le}
 use Rattle.face_words.specs.Words.{stands, straight, viewed, place}
-use Rattle.face_words.proofs.Places.{count_places, Fewer, left_list}
+use Rattle.face_words.proofs.Places.{count_places, left_list}
 use Rattle.face_words.specs.Views.{Worded, ViewAsks}
 use Rattle.entry_search.specs.Choosing.{BestAsks}
 use Rattle.searched_marks.specs.Marks.{mark_at, FaceAsks, Plain, MarkAsks, MarkedGives, MarkGives, PassGives, SweepAsks, SweepGives}

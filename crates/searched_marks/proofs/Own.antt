@@ -3,21 +3,20 @@ use mathlib.Core.Path.{◌≡◌, refl, sym, ap, ap₂, subst, ◌∙◌}
 use mathlib.Core.Logic.{◌⊎◌, inl, inr}
 use mathlib.Core.Bool.{Bool, true, false, not, ◌&&◌, ◌||◌, cond}
 use mathlib.Core.List.{List, [], ◌∷◌, map, Memᴰ}
-use Prim.Native.Nat.{ℕ, zero, suc, ◌≤◌, ◌<◌, min, max}
+use Prim.Native.Nat.{ℕ, ◌<◌}
 use native.Mathlib.Omega.{arith}
 use lib.Dec.{T, eqb, ltb}
 use lib.Ieee.Bits.{is_true}
-use lib.Ieee.Fits.{and_i}
 use lib.ListN.{length}
-use Rattle.rules.specs.Lists.{below, filter, any, each, has}
+use Rattle.rules.specs.Lists.{below, filter, any, has}
 use Rattle.rules.specs.Mesh.{Point, Face, face}
-use Rattle.rules.specs.Steps.{Step, step, steps, edge, same, Entry, entries, users, walkers, pairs, edges, directed, quality_of}
+use Rattle.rules.specs.Steps.{Step, step, steps, edge, same, entries, users, walkers, pairs, edges, directed, quality_of}
 use Rattle.rules.specs.Rank.{best, without}
 use Rattle.rules.specs.Pass3.{crowded, kept, marked3}
 use Rattle.rules.specs.Pass4.{marked4}
 use Rattle.rule_laws.proofs.Tests.{both_ways, and_elim}
 use Rattle.rule_laws.proofs.Rising.{All, all_imp}
-use Rattle.rule_laws.proofs.Members.{all_members, all_in, mem_each, mem_each_of, mem_below, below_mem, mem_filter, mem_left, any_intro, any_mem, mem_has, has_mem, mem_three}
+use Rattle.rule_laws.proofs.Members.{all_members, mem_each, mem_each_of, mem_below, mem_filter, mem_left, any_intro, any_mem, mem_has, has_mem, mem_three}
 use Rattle.rule_laws.proofs.Once.{Inside, CornersBelow, face_inside, mem_pairs, same_is}
 use Rattle.rule_laws.proofs.Takers.{takers, users_takers, walkers_takers}
 use Rattle.face_words.proofs.Places.{takers_each, any_filter}

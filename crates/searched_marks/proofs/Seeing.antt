@@ -1,14 +1,14 @@
 -- Words that agree in their two lowest bits stand for the same list. Assumes nothing.
-use mathlib.Core.Path.{◌≡◌, refl, ap, ap₂, ◌∙◌}
-use mathlib.Core.Bool.{Bool, ◌&&◌, cond}
-use mathlib.Core.List.{List, map}
+use mathlib.Core.Path.{◌≡◌, ap}
+use mathlib.Core.Bool.{Bool, cond}
+use mathlib.Core.List.{List}
 use Prim.Native.Nat.{ℕ, ◌/◌, ◌%◌}
 use native.Mathlib.Omega.{arith}
 use lib.Dec.{eqb}
 use lib.ListN.{length, get_or}
-use Rattle.rules.specs.Lists.{below, filter, count}
+use Rattle.rules.specs.Lists.{below, count}
 use Rattle.rules.specs.Mesh.{Face, face, faces_of, exchanged}
-use Rattle.face_words.specs.Words.{stands, straight, view, there, viewed, place}
+use Rattle.face_words.specs.Words.{stands, straight, view, viewed, place}
 use Rattle.searched_marks.specs.Marks.{mark_at}
 
 -- as many words, which agree in bits 0 and 1

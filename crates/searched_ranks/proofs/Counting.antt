@@ -5,8 +5,6 @@ use mathlib.Core.List.{List}
 use Prim.Native.Nat.{ℕ, ◌+◌, ◌*◌, ◌≤◌, ◌<◌}
 use native.Mathlib.Omega.{arith}
 use native.Mathlib.Numerals.{add-one}
-use borrow.Author.Tests.{eq-eqb, ne_eqb, lt-ltb, le-ltb}
-use lib.Dec.{ltb}
 use lib.ListN.{length, get_or}
 use Rattle.rules.specs.Lists.{below, filter}
 use Rattle.fan_laws.specs.Sums.{sum_of}
@@ -17,21 +15,6 @@ use Rattle.searched_splits.proofs.Flags.{one_most}
 use Rattle.searched_ranks.specs.Ranks.{marked_in, before_in, count_at, face_count, rank_by}
 
 -- ---- the order
-
--- a lower point
-pub lower : (x v y id : ℕ) → x < v → true ≡ before_in x v y id
-unfolding before_in
-lower x v y id h = rw (lt-ltb x v h)
-
--- the same point
-pub level : (x v y id : ℕ) → (x < v → ⊥) → x ≡ v → ltb y id ≡ before_in x v y id
-unfolding before_in
-level x v y id n e = rw (le-ltb x v (omega arith), eq-eqb x v e)
-
--- a higher one
-pub higher : (x v y id : ℕ) → (x < v → ⊥) → (x ≡ v → ⊥) → false ≡ before_in x v y id
-unfolding before_in
-higher x v y id n m = rw (le-ltb x v (omega arith), ne_eqb x v m)
 
 -- ---- one corner
 

@@ -1,12 +1,11 @@
 -- `entry_search::best_entry` meets its contract. The invariant: the choice is the best of the wanted entries of the faces that were passed. Assumes nothing.
-use Prim.Native.Nat.{◌+◌, ◌-◌}
+use Prim.Native.Nat.{◌+◌}
+use mathlib.Core.Path.{◌≡◌}
 use native.Mathlib.Omega.{arith}
+use Rattle.std.proofs.Common.{rules}
+use Rattle.std.specs.Prelude.{option_map}
 use Rattle.entry_search.proofs.Counting.{candidate_ok}
 use Rattle.entry_search.proofs.Picking.{begin, consider_ok, again, done}
-use Rattle.entry_search.proofs.best_entry.Reads as reads
-use Rattle.entry_search.proofs.best_entry.Lts as lts
-use Rattle.entry_search.proofs.consider.Reads as consider-reads
-use Rattle.face_index.proofs.next_indexed.Reads as next-indexed-reads
 use Rattle.entry_search.proofs.best_entry.Goals as goal
 
 -- src/lib.rt:270:9
@@ -15,11 +14,11 @@ next_indexed-f-requires c = (record { indexed = c.requires.indexed; candidate_as
 
 -- src/lib.rt:271:5
 pub loop-f-init : goal.loop-f-init
-loop-f-init c = let start = c.before.before.before.before.before in begin start.requires.best_asks start.args.directed start.args.a start.args.b start.args.walk start.args.but c.next_indexed-f.ensures
+loop-f-init c = begin c.requires.best_asks c.args.directed c.args.a c.args.b c.args.walk c.args.but c.next_indexed-f.ensures
 
 -- src/lib.rt:272:9
 pub consider-best-requires : goal.consider-best-requires
-consider-best-requires c = let at = c.before in let start = at.before.before.before.before.before.before in consider_ok start.requires.best_asks start.args.directed start.args.a start.args.b start.args.walk start.args.but at.loop-f.invariant c.loop-f-test.true
+consider-best-requires c = consider_ok c.requires.best_asks c.args.directed c.args.a c.args.b c.args.walk c.args.but c.loop-f.invariant c.loop-f-test.true
 
 -- src/lib.rt:273:9
 pub next_indexed-f-requires-in-loop-f : goal.next_indexed-f-requires-in-loop-f
@@ -31,8 +30,9 @@ loop-f-smaller c = omega (arith, c.next_indexed-f-in-loop-f.ensures.least)
 
 -- src/lib.rt:271:5
 pub loop-f-preserved : goal.loop-f-preserved
-loop-f-preserved c = let at = c.before.before.before in let start = at.before.before.before.before.before.before in again start.requires.best_asks start.args.directed start.args.a start.args.b start.args.walk start.args.but at.loop-f.invariant c.loop-f-test.true c.consider-best.ensures c.next_indexed-f-in-loop-f.ensures
+loop-f-preserved c = again c.requires.best_asks c.args.directed c.args.a c.args.b c.args.walk c.args.but c.loop-f.invariant c.loop-f-test.true c.consider-best.ensures c.next_indexed-f-in-loop-f.ensures
 
--- src/lib.rt:253:1
 pub returns : goal.returns
-returns c = let at = c.before in let start = at.before.before.before.before.before.before in done start.requires.best_asks start.args.directed start.args.a start.args.b start.args.walk start.args.but at.loop-f.invariant c.loop-f-test.false
+returns c =
+    let e : c.map.result ≡ option_map (λ k. k.face) c.loop-f.best = search rules in
+    rw e (done c.requires.best_asks c.args.directed c.args.a c.args.b c.args.walk c.args.but c.loop-f.best c.loop-f.f c.loop-f.invariant c.loop-f-test.false)

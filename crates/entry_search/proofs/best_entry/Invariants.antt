@@ -3,10 +3,6 @@ use Prim.Native.Nat.{◌-◌}
 use lib.ListN.{length}
 use Rattle.rules.specs.Steps.{step}
 use Rattle.entry_search.proofs.Picking.{Picked}
-use Rattle.entry_search.proofs.best_entry.Reads as reads
-use Rattle.entry_search.proofs.best_entry.Lts as lts
-use Rattle.entry_search.proofs.consider.Reads as consider-reads
-use Rattle.face_index.proofs.next_indexed.Reads as next-indexed-reads
 use Rattle.entry_search.proofs.best_entry.Given as goal
 
 abbrev pub invariant-loop-f : goal.invariant-loop-f

@@ -1,13 +1,9 @@
 -- `entry_search::count_entries` meets its contract. The invariant: the entries of the faces that were passed are counted. Assumes nothing.
-use Prim.Native.Nat.{◌+◌, ◌-◌}
+use Prim.Native.Nat.{◌+◌}
 use native.Mathlib.Omega.{arith}
 use Rattle.rules.specs.Steps.{step}
 use Rattle.entry_search.specs.Searching.{along}
 use Rattle.entry_search.proofs.Counting.{uses_most, candidate_ok, begin, view_ok, again, done}
-use Rattle.entry_search.proofs.count_entries.Reads as reads
-use Rattle.entry_search.proofs.count_entries.Lts as lts
-use Rattle.entry_search.proofs.entries_of.Reads as entries-of-reads
-use Rattle.face_index.proofs.next_indexed.Reads as next-indexed-reads
 use Rattle.entry_search.proofs.count_entries.Goals as goal
 
 -- src/lib.rt:130:9
@@ -24,7 +20,7 @@ entries_of-n-requires c = view_ok c.requires.worded c.loop-f.invariant c.loop-f-
 
 -- src/lib.rt:132:9
 pub overflow_add-n : goal.overflow_add-n
-overflow_add-n c = let at = c.before.before in let start = at.before.before.before.before.before in omega (arith, at.loop-f.invariant, start.requires.worded, uses_most (along start.args.directed (step start.args.a start.args.b)) start.args.faces.now start.args.words.now at.loop-f.f, c.entries_of-n.ensures)
+overflow_add-n c = omega (arith, c.loop-f.invariant, c.requires.worded, uses_most (along c.args.directed (step c.args.a c.args.b)) c.args.faces.now c.args.words.now c.loop-f.f, c.entries_of-n.ensures)
 
 -- src/lib.rt:133:9
 pub next_indexed-f-requires-in-loop-f : goal.next_indexed-f-requires-in-loop-f
@@ -36,7 +32,7 @@ loop-f-smaller c = omega (arith, c.next_indexed-f-in-loop-f.ensures.least)
 
 -- src/lib.rt:131:5
 pub loop-f-preserved : goal.loop-f-preserved
-loop-f-preserved c = let at = c.before.before.before in again at.requires.worded at.loop-f.invariant c.loop-f-test.true c.entries_of-n.ensures c.next_indexed-f-in-loop-f.ensures
+loop-f-preserved c = again c.requires.worded c.loop-f.invariant c.loop-f-test.true c.entries_of-n.ensures c.next_indexed-f-in-loop-f.ensures
 
 -- src/lib.rt:125:1
 pub returns : goal.returns

@@ -2,10 +2,6 @@
 use Prim.Native.Nat.{◌-◌}
 use lib.ListN.{length}
 use Rattle.entry_search.proofs.Counting.{Counted}
-use Rattle.entry_search.proofs.count_entries.Reads as reads
-use Rattle.entry_search.proofs.count_entries.Lts as lts
-use Rattle.entry_search.proofs.entries_of.Reads as entries-of-reads
-use Rattle.face_index.proofs.next_indexed.Reads as next-indexed-reads
 use Rattle.entry_search.proofs.count_entries.Given as goal
 
 abbrev pub invariant-loop-f : goal.invariant-loop-f

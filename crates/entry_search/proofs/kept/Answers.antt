@@ -1,23 +1,20 @@
 -- `entry_search::kept` meets its contract: the first choice, or the second. Assumes nothing.
-use Rattle.entry_search.proofs.Keeping.{second_ok, kept_first, kept_second}
-use Rattle.entry_search.proofs.kept.Reads as reads
-use Rattle.entry_search.proofs.kept.Lts as lts
-use Rattle.entry_search.proofs.best_entry.Reads as best-entry-reads
-use Rattle.entry_search.proofs.second.Reads as second_reads
+use mathlib.Core.Path.{◌∙◌}
+use borrow.Author.Tests.{eq-eqb}
+use Rattle.entry_search.proofs.Keeping.{first_some, second_ok, kept_first, kept_second}
 use Rattle.entry_search.proofs.kept.Goals as goal
 
--- src/lib.rt:298:9
-pub best_entry-first-requires : goal.best_entry-first-requires
-best_entry-first-requires c = (record { best_asks = c.requires.kept_asks.asks; indexed = c.requires.indexed })
+pub best_entry-requires : goal.best_entry-requires
+best_entry-requires c = (record { best_asks = c.requires.kept_asks.asks; indexed = c.requires.indexed })
 
--- src/lib.rt:300:9
+pub unwrap-first-requires : goal.unwrap-first-requires
+unwrap-first-requires c = first_some c.requires.kept_asks c.best_entry.ensures
+
 pub returns-then-f-first : goal.returns-then-f-first
-returns-then-f-first c = let start = c.before.before.before.before.before.before in kept_first start.requires.kept_asks c.best_entry-first.ensures start.args.f c.if-f-first.true
+returns-then-f-first c = eq-eqb c.args.f c.unwrap-first.result c.if-f-first.true ∙ kept_first c.requires.kept_asks c.best_entry.ensures c.unwrap-first.ensures c.args.f c.if-f-first.true
 
--- src/lib.rt:302:10
 pub second-requires : goal.second-requires
-second-requires c = (record { second_asks = second_ok c.requires.kept_asks c.best_entry-first.ensures; indexed = c.requires.indexed })
+second-requires c = (record { second_asks = second_ok c.requires.kept_asks c.best_entry.ensures c.unwrap-first.ensures; indexed = c.requires.indexed })
 
--- src/lib.rt:294:1
-pub returns : goal.returns
-returns c = let start = c.before.before.before.before.before.before.before in kept_second start.requires.kept_asks c.best_entry-first.ensures start.args.f c.if-f-first.false c.second.ensures
+pub returns-else-f-first : goal.returns-else-f-first
+returns-else-f-first c = kept_second c.requires.kept_asks c.best_entry.ensures c.unwrap-first.ensures c.args.f c.if-f-first.false c.second.ensures

@@ -9,7 +9,7 @@ ghost use Rattle.edges_refusal.specs.Checks.{edges_list};
 ghost use Rattle.loops_refusal.specs.Checks.{loops_list};
 ghost use Rattle.patches_refusal.specs.Checks.{patches_list};
 
-use refuse::Verdict;
+use refuse::Refusal;
 
 // The largest coordinate, 2^100.
 const FAR: f64 = 1267650600228229401496703205376.0;
@@ -18,36 +18,31 @@ const FAR: f64 = 1267650600228229401496703205376.0;
 const BEYOND: f64 = 1267650600228229682971679916032.0;
 
 // The largest number that a length or a count can be.
-const HUGE: usize = 18446744073709551615;
+const HUGE: usize = usize::MAX;
 
-// The verdict accepts.
-fn accepted(verdict: Verdict)
-    requires { check_of verdict ≡ ok }
+// Nothing is refused.
+fn accepted(checked: Result<(), Refusal>)
+    requires { check_of checked ≡ ok }
 {
-    match verdict {
-        Verdict::Fine => {}
-        Verdict::Refused(_, _) => {
+    check::expect(checked.is_ok());
+}
+
+// What is refused has this number and place.
+fn refused(checked: Result<(), Refusal>, number: u32, place: usize)
+    requires { check_of checked ≡ no number place }
+{
+    match checked {
+        Ok(()) => {
             check::expect(false);
+        }
+        Err(refusal) => {
+            check::expect(refusal.number() == number);
+            check::expect(refusal.place() == place);
         }
     }
 }
 
-// The verdict refuses with this number and place.
-fn refused(verdict: Verdict, number: u32, place: usize)
-    requires { check_of verdict ≡ no number place }
-{
-    match verdict {
-        Verdict::Fine => {
-            check::expect(false);
-        }
-        Verdict::Refused(n, p) => {
-            check::expect(n == number);
-            check::expect(p == place);
-        }
-    }
-}
-
-// The verdict on a repair, with the lengths of its five rooms.
+// What the repair refuses, with the lengths of its five rooms.
 fn repair(
     points: &[f64],
     faces: &[u32],
@@ -58,7 +53,7 @@ fn repair(
     third: usize,
     fourth: usize,
     work: usize,
-) -> Verdict
+) -> Result<(), Refusal>
     ensures { check_of result ≡ decided (repair_list points.now faces.now s options first second third fourth work) }
 {
     let rooms = repair_refusal::Rooms {
@@ -66,37 +61,49 @@ fn repair(
         out_faces: second,
         report: third,
         origins: fourth,
-        work: work,
+        work,
     };
     repair_refusal::repair_refusal(points, faces, s, options, rooms)
 }
 
-// The verdict on the edge call, with the lengths of its rooms: edges, the two others alike, work.
-fn edges(points: &[f64], faces: &[u32], first: usize, others: usize, work: usize) -> Verdict
+// What the edge call refuses, with the lengths of its rooms: edges, the two others alike, work.
+fn edges(
+    points: &[f64],
+    faces: &[u32],
+    first: usize,
+    others: usize,
+    work: usize,
+) -> Result<(), Refusal>
     ensures { check_of result ≡ decided (edges_list points.now faces.now first others others work) }
 {
     let rooms = edges_refusal::Rooms {
         edges: first,
         lengths: others,
         face_edges: others,
-        work: work,
+        work,
     };
     edges_refusal::edges_refusal(points, faces, rooms)
 }
 
-// The verdict on the loop call, with the lengths of its rooms.
-fn loops(points: &[f64], faces: &[u32], first: usize, second: usize, work: usize) -> Verdict
+// What the loop call refuses, with the lengths of its rooms.
+fn loops(
+    points: &[f64],
+    faces: &[u32],
+    first: usize,
+    second: usize,
+    work: usize,
+) -> Result<(), Refusal>
     ensures { check_of result ≡ decided (loops_list points.now faces.now first second work) }
 {
     let rooms = loops_refusal::Rooms {
         loop_vertices: first,
         loop_ends: second,
-        work: work,
+        work,
     };
     loops_refusal::loops_refusal(points, faces, rooms)
 }
 
-// The verdict on the patch call for a number of patches, with the lengths of its four rooms.
+// What the patch call refuses for a number of patches, with the lengths of its four rooms.
 fn patches(
     points: &[f64],
     faces: &[u32],
@@ -106,14 +113,14 @@ fn patches(
     second: usize,
     third: usize,
     work: usize,
-) -> Verdict
+) -> Result<(), Refusal>
     ensures { check_of result ≡ decided (patches_list points.now faces.now labels.now count first second third work) }
 {
     let rooms = patches_refusal::Rooms {
         face_counts: first,
         numbers: second,
         flags: third,
-        work: work,
+        work,
     };
     patches_refusal::patches_refusal(points, faces, labels, count, rooms)
 }
@@ -122,7 +129,7 @@ fn patches(
 fn settings() {
     let points = [0.0, 0.0, 0.0, 0.0, 0.0, 0.0, 0.0, 0.0, 0.0];
     let faces = [0, 1, 2];
-    let nan = 0.0 / 0.0;
+    let nan = f64::NAN;
     accepted(repair(&points, &faces, 1.0, 63, 18, 3, 11, 1, 176));
     accepted(repair(&points, &faces, -0.0, 0, 18, 3, 11, 1, 176));
     refused(
@@ -157,8 +164,8 @@ fn domain() {
     let faces = [0, 1, 2];
     let far = [FAR, -FAR, FAR, 0.0, 0.0, 0.0, -FAR, -0.0, 1.0];
     let beyond = [FAR, 0.0, 0.0, 0.0, -BEYOND, 0.0, BEYOND, 0.0, 0.0];
-    let infinite = [0.0, 0.0, 1.0 / 0.0, 0.0, 0.0, 0.0, 0.0, 0.0, 0.0];
-    let nan = [0.0, 0.0, 0.0, 0.0, 0.0, 0.0, 0.0, 0.0, 0.0 / 0.0];
+    let infinite = [0.0, 0.0, f64::INFINITY, 0.0, 0.0, 0.0, 0.0, 0.0, 0.0];
+    let nan = [0.0, 0.0, 0.0, 0.0, 0.0, 0.0, 0.0, 0.0, f64::NAN];
     accepted(repair(&far, &faces, 0.0, 0, 18, 3, 11, 1, 176));
     refused(repair(&beyond, &faces, 0.0, 0, 18, 3, 11, 1, 176), 4, 1);
     refused(repair(&infinite, &faces, 0.0, 0, 18, 3, 11, 1, 176), 4, 0);

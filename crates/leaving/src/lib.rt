@@ -5,7 +5,7 @@ ghost use Rattle.std.specs.Prelude.{ℕ, Bool};
 ghost use Rattle.leaving.specs.Pass.{Flagged, LeaveAsks, LeaveGives};
 
 // What a pass that marks gives back: where its flags begin in the work room, and how much it found at fault.
-#[derive(Drop)]
+#[derive(Clone, Copy, Debug, PartialEq, Eq)]
 pub struct Marked {
     pub at: usize,
     pub found: usize,

@@ -1,5 +1,4 @@
 -- `verdict_try::fan` is safe and ends. The invariant: the list keeps its length. Assumes nothing.
-use Prim.Native.Nat.{◌-◌}
 use native.Mathlib.Omega.{arith}
 use lib.ListN.{length-set}
 use Rattle.verdict_try.proofs.fan.Goals as goal

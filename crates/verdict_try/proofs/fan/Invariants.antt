@@ -1,6 +1,6 @@
 -- `verdict_try::fan` is safe and ends. The invariant: the list keeps its length. Assumes nothing.
 use mathlib.Core.Path.{◌≡◌}
-use Prim.Native.Nat.{◌-◌, ◌≤◌}
+use Prim.Native.Nat.{◌≤◌}
 use lib.ListN.{length}
 use Rattle.verdict_try.proofs.fan.Given as goal
 

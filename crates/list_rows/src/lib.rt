@@ -71,12 +71,12 @@ pub fn prepare(
     Rows {
         points: p,
         faces: f,
-        fates: fates,
-        splits: splits,
-        olds: olds,
-        left: left,
+        fates,
+        splits,
+        olds,
+        left,
         column: 0,
-        sorted: sorted,
-        unused: unused,
+        sorted,
+        unused,
     }
 }

@@ -16,7 +16,9 @@ use Rattle.rules.specs.Text.{text_line}
 use Rattle.rules.specs.Mending.{Reason, Line, dropped_face, exchange, isolated_point, for_repeated, for_thin, for_duplicate, for_edge, for_direction, pass_of, word_of, line_text}
 use Rattle.rule_laws.proofs.Lists.{each_append, each_same}
 use Rattle.mending_rows.specs.Told.{code, drop_told, drops_told, first_told, exchanges_told}
-use Rattle.list_text.specs.Written.{kind_of, letter_of, tail_with, tail_of, field, kind_text, row_text}
+use Rattle.list_text.specs.declared.Kind.{Kind}
+use Rattle.list_text.specs.declared.Kind.TheVariants as kind
+use Rattle.list_text.specs.Written.{code_of, kind_of, letter_of, tail_with, tail_of, field, kind_text, row_text}
 
 -- ---- one line
 
@@ -150,9 +152,9 @@ module _ (w : List ℕ) (row : ℕ) where
 -- ---- how long a line is
 
 -- what follows the number is at most 13 bytes
-pub tail_most : (kind : ℕ) → length (tail_of kind) ≤ 13
+pub tail_most : (k : ℕ) → length (tail_of k) ≤ 13
 unfolding bytes
-tail_most kind = go (eqb kind 1) (eqb kind 2) (eqb kind 3) (eqb kind 4) (eqb kind 5)
+tail_most k = go (eqb k 1) (eqb k 2) (eqb k 3) (eqb k 4) (eqb k 5)
   where
     go : (a b c d e : Bool) → length (cond a (tail_with 1 "repeated") (cond b (tail_with 1 "thin") (cond c (tail_with 2 "duplicate") (cond d (tail_with 3 "edge") (cond e (tail_with 4 "direction") (10 ∷ [])))))) ≤ 13
     go true b c d e = omega arith
@@ -163,24 +165,30 @@ tail_most kind = go (eqb kind 1) (eqb kind 2) (eqb kind 3) (eqb kind 4) (eqb kin
     go false false false false false = omega arith
 
 -- a line that is one
-pub line_text_is : (kind n : ℕ) → (kind ≡ 0 → ⊥) → kind_text kind n ≡ letter_of kind ∷ (field n ++ tail_of kind)
-line_text_is kind n h = rw (ne_eqb kind 0 h) refl
+pub line_text_is : (k n : ℕ) → (k ≡ 0 → ⊥) → kind_text k n ≡ letter_of k ∷ (field n ++ tail_of k)
+line_text_is k n h = rw (ne_eqb k 0 h) refl
 
 -- none
-pub no_line : (kind n : ℕ) → kind ≡ 0 → kind_text kind n ≡ []
-no_line kind n h = rw h refl
+pub no_line : (k n : ℕ) → k ≡ 0 → kind_text k n ≡ []
+no_line k n h = rw h refl
 
 -- a line's parts
-pub line_parts : (kind n : ℕ) → (kind ≡ 0 → ⊥) → length (kind_text kind n) ≡ 2 + length (decimal n) + length (tail_of kind)
-line_parts kind n h = ap length (line_text_is kind n h) ∙ omega (arith, length-append (field n) (tail_of kind))
+pub line_parts : (k n : ℕ) → (k ≡ 0 → ⊥) → length (kind_text k n) ≡ 2 + length (decimal n) + length (tail_of k)
+line_parts k n h = ap length (line_text_is k n h) ∙ omega (arith, length-append (field n) (tail_of k))
 
--- what follows the number where there is no reason
-pub tail_rest : (kind : ℕ) → (kind ≡ 1 → ⊥) → (kind ≡ 2 → ⊥) → (kind ≡ 3 → ⊥) → (kind ≡ 4 → ⊥) → (kind ≡ 5 → ⊥) → tail_of kind ≡ 10 ∷ []
-tail_rest kind a b c d e = rw (ne_eqb kind 1 a, ne_eqb kind 2 b, ne_eqb kind 3 c, ne_eqb kind 4 d, ne_eqb kind 5 e) refl
+-- a kind of line is some line
+pub code_some : (k : Kind) → code_of k ≡ 0 → ⊥
+code_some kind.Repeated e = absurd (omega arith)
+code_some kind.Thin e = absurd (omega arith)
+code_some kind.Duplicate e = absurd (omega arith)
+code_some kind.Edge e = absurd (omega arith)
+code_some kind.Direction e = absurd (omega arith)
+code_some kind.Exchange e = absurd (omega arith)
+code_some kind.Isolated e = absurd (omega arith)
 
 -- ---- a line is put
 
-module _ (kind n : ℕ) (h : kind ≡ 0 → ⊥) where
+module _ (k n : ℕ) (h : k ≡ 0 → ⊥) where
   -- letter, number and tail
-  pub line_put : {at l mid end : ℕ} {w w' w'' : List ℕ} → at < length w → l ≡ letter_of kind → Puts (set w at l) (at + 1) (field n) w' mid → Puts w' mid (tail_of kind) w'' end → Puts w at (kind_text kind n) w'' end
-  line_put {at} {l} {w = w} r e p q = rw (line_text_is kind n h, ← e) (puts_both (puts_one w at l r) (puts_both p q))
+  pub line_put : {at l mid end : ℕ} {w w' w'' : List ℕ} → at < length w → l ≡ letter_of k → Puts (set w at l) (at + 1) (field n) w' mid → Puts w' mid (tail_of k) w'' end → Puts w at (kind_text k n) w'' end
+  line_put {at} {l} {w = w} r e p q = rw (line_text_is k n h, ← e) (puts_both (puts_one w at l r) (puts_both p q))

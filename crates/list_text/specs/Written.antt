@@ -1,5 +1,5 @@
 -- The words of this crate's contracts: the lines that rows tell, as bytes, and what the functions ask of the rows. Definitions only.
-use Rattle.std.specs.Prelude.{◌≡◌, ◌&&◌, cond, List, [], ◌∷◌, ◌++◌, map, ℕ, ◌+◌, ◌-◌, ◌*◌, ◌/◌, ◌%◌, ◌≤◌, ◌<◌, eqb, leb, length, get_or}
+use Rattle.std.specs.Prelude.{Option, Some, None, ◌≡◌, ◌&&◌, cond, List, [], ◌∷◌, ◌++◌, map, ℕ, ◌+◌, ◌-◌, ◌*◌, ◌/◌, ◌%◌, ◌≤◌, ◌<◌, eqb, leb, length, get_or}
 use Prim.Native.String.{String}
 use Rattle.rows.specs.Region.{part}
 use Rattle.rows.specs.Retain.{up_to}
@@ -11,6 +11,10 @@ use Rattle.rules.specs.Line.{bytes, decimal}
 use Rattle.rules.specs.Mending.{line_text}
 use Rattle.mending_rows.specs.Told.{Fates, splits_told, told}
 use Rattle.list_text.specs.declared.Rows.{Rows}
+use Rattle.list_text.specs.declared.Kind.{Kind}
+use Rattle.list_text.specs.declared.Kind.TheVariants as kind
+use Rattle.list_text.specs.declared.Section.{Section}
+use Rattle.list_text.specs.declared.Section.TheVariants as section
 
 -- ---- what the rows tell
 
@@ -42,9 +46,41 @@ kind_of entry first last =
     (cond (eqb first 7) (cond (eqb entry 1) 7 0)
     (cond (leb first (entry % 8) && leb (entry % 8) last) (entry % 8) 0))
 
+-- the number of a kind that the code knows
+abbrev pub code_of : Kind → ℕ
+code_of kind.Repeated = 1
+code_of kind.Thin = 2
+code_of kind.Duplicate = 3
+code_of kind.Edge = 4
+code_of kind.Direction = 5
+code_of kind.Exchange = 6
+code_of kind.Isolated = 7
+
+-- 0 for none
+abbrev pub told_code : Option Kind → ℕ
+told_code None = 0
+told_code (Some k) = code_of k
+
+-- the kinds of a section
+abbrev pub first_of : Section → ℕ
+first_of section.Degenerate = 1
+first_of section.Duplicate = 3
+first_of section.Edge = 4
+first_of section.Exchange = 6
+first_of section.Direction = 5
+first_of section.Isolated = 7
+
+abbrev pub last_of : Section → ℕ
+last_of section.Degenerate = 2
+last_of section.Duplicate = 3
+last_of section.Edge = 4
+last_of section.Exchange = 6
+last_of section.Direction = 5
+last_of section.Isolated = 7
+
 -- its letter
 abbrev pub letter_of : ℕ → ℕ
-letter_of kind = cond (eqb kind 6) 111 (cond (eqb kind 7) 117 100)
+letter_of k = cond (eqb k 6) 111 (cond (eqb k 7) 117 100)
 
 -- a pass, a reason and the newline
 abbrev pub tail_with : ℕ → String → List ℕ
@@ -52,12 +88,12 @@ tail_with pass word = 9 ∷ (48 + pass) ∷ 9 ∷ (bytes word ++ (10 ∷ []))
 
 -- what follows the number
 abbrev pub tail_of : ℕ → List ℕ
-tail_of kind =
-    cond (eqb kind 1) (tail_with 1 "repeated")
-    (cond (eqb kind 2) (tail_with 1 "thin")
-    (cond (eqb kind 3) (tail_with 2 "duplicate")
-    (cond (eqb kind 4) (tail_with 3 "edge")
-    (cond (eqb kind 5) (tail_with 4 "direction") (10 ∷ [])))))
+tail_of k =
+    cond (eqb k 1) (tail_with 1 "repeated")
+    (cond (eqb k 2) (tail_with 1 "thin")
+    (cond (eqb k 3) (tail_with 2 "duplicate")
+    (cond (eqb k 4) (tail_with 3 "edge")
+    (cond (eqb k 5) (tail_with 4 "direction") (10 ∷ [])))))
 
 -- a tab and a number
 abbrev pub field : ℕ → List ℕ
@@ -65,7 +101,7 @@ field n = 9 ∷ decimal n
 
 -- the line
 abbrev pub kind_text : ℕ → ℕ → List ℕ
-kind_text kind n = cond (eqb kind 0) [] ((letter_of kind ∷ field n) ++ tail_of kind)
+kind_text k n = cond (eqb k 0) [] ((letter_of k ∷ field n) ++ tail_of k)
 
 -- the line that entry i of the row tells
 abbrev pub line_at : List ℕ → ℕ → ℕ → ℕ → ℕ → List ℕ

@@ -9,7 +9,7 @@ ghost use Rattle.list_text.specs.Written as by;
 // Where the rows stand in the work room, for `points` points and `faces` faces of the input: the fate of each face from `fates` on; `splits` old
 // points from `olds` on; of the `left` faces that stand after pass 5 the point at each corner from `column` on, and the corners sorted by it from
 // `sorted` on; and from `unused` on 1 for each point that is told as isolated.
-#[derive(Clone, Copy)]
+#[derive(Clone, Copy, Debug, PartialEq, Eq)]
 pub struct Rows {
     pub points: usize,
     pub faces: usize,
@@ -20,6 +20,29 @@ pub struct Rows {
     pub column: usize,
     pub sorted: usize,
     pub unused: usize,
+}
+
+// What a line of a face or a point tells: the face leaves for a reason, it was exchanged, or the point is isolated.
+#[derive(Clone, Copy, Debug, PartialEq, Eq)]
+enum Kind {
+    Repeated,
+    Thin,
+    Duplicate,
+    Edge,
+    Direction,
+    Exchange,
+    Isolated,
+}
+
+// The lines of a row that stand together in the list: of one pass, of its exchanges, or of the points.
+#[derive(Clone, Copy, Debug, PartialEq, Eq)]
+enum Section {
+    Degenerate,
+    Duplicate,
+    Edge,
+    Exchange,
+    Direction,
+    Isolated,
 }
 
 // ---- one line of a face or a point
@@ -37,64 +60,64 @@ fn number_length(n: u32) -> usize
     k
 }
 
-// The kind of line that an entry of a row tells, of those from `first` to `last`: 1 to 5 for that reason, 6 for an exchange, 7 for an isolated
-// point; 0 if it tells none.
-fn told_kind(entry: u32, first: u32, last: u32) -> u32
-    ensures { result ≡ by.kind_of entry first last }
+// The kind of line of a section that an entry of a row tells, if it tells one: a fate is the number of a reason, and 8 more for an exchange.
+#[tactic(auto, using(std::proofs::lemmas::Bool::Decides::nat_tests))]
+fn told_kind(entry: u32, section: Section) -> Option<Kind>
+    ensures { by.told_code result ≡ by.kind_of entry (by.first_of section) (by.last_of section) }
 {
-    if first == 6 {
-        return if entry >= 8 { 6 } else { 0 };
+    match section {
+        Section::Degenerate => match entry % 8 {
+            1 => Some(Kind::Repeated),
+            2 => Some(Kind::Thin),
+            _ => None,
+        },
+        Section::Duplicate => (entry % 8 == 3).then_some(Kind::Duplicate),
+        Section::Edge => (entry % 8 == 4).then_some(Kind::Edge),
+        Section::Exchange => (entry >= 8).then_some(Kind::Exchange),
+        Section::Direction => (entry % 8 == 5).then_some(Kind::Direction),
+        Section::Isolated => (entry == 1).then_some(Kind::Isolated),
     }
-    if first == 7 {
-        return if entry == 1 { 7 } else { 0 };
-    }
-    let reason = entry % 8;
-    if reason < first {
-        return 0;
-    }
-    if reason > last {
-        return 0;
-    }
-    reason
 }
 
 // The letter of a kind of line.
-fn letter(kind: u32) -> u8
-    ensures { result ≡ by.letter_of kind }
+fn letter(kind: Kind) -> u8
+    ensures { result ≡ by.letter_of (by.code_of kind) }
 {
     match kind {
-        6 => b'o',
-        7 => b'u',
-        _ => b'd',
+        Kind::Repeated | Kind::Thin | Kind::Duplicate | Kind::Edge | Kind::Direction => b'd',
+        Kind::Exchange => b'o',
+        Kind::Isolated => b'u',
     }
 }
 
 // How many bytes follow the number in a line of a kind.
-fn tail_length(kind: u32) -> usize
-    ensures { result ≡ length (by.tail_of kind) }
+#[tactic(auto, unfolding(rules::specs::Line::bytes))]
+fn tail_length(kind: Kind) -> usize
+    ensures { result ≡ length (by.tail_of (by.code_of kind)) }
 {
     match kind {
-        1 => 12,
-        2 => 8,
-        3 => 13,
-        4 => 8,
-        5 => 13,
-        _ => 1,
+        Kind::Repeated => 12,
+        Kind::Thin => 8,
+        Kind::Duplicate => 13,
+        Kind::Edge => 8,
+        Kind::Direction => 13,
+        Kind::Exchange | Kind::Isolated => 1,
     }
 }
 
 // Puts what follows the number in a line of a kind: pass, reason and newline, or the newline alone. Returns where the text goes on.
-fn put_tail(text: &mut [u8], at: usize, kind: u32) -> usize
-    requires { at + length (by.tail_of kind) ≤ length text.old }
-    ensures { Puts text.old at (by.tail_of kind) text.new result }
+#[tactic(auto, unfolding(rules::specs::Line::bytes))]
+fn put_tail(text: &mut [u8], at: usize, kind: Kind) -> usize
+    requires { at + length (by.tail_of (by.code_of kind)) ≤ length text.old }
+    ensures { Puts text.old at (by.tail_of (by.code_of kind)) text.new result }
 {
     match kind {
-        1 => byte_rows::put_text(text, at, b"\t1\trepeated\n"),
-        2 => byte_rows::put_text(text, at, b"\t1\tthin\n"),
-        3 => byte_rows::put_text(text, at, b"\t2\tduplicate\n"),
-        4 => byte_rows::put_text(text, at, b"\t3\tedge\n"),
-        5 => byte_rows::put_text(text, at, b"\t4\tdirection\n"),
-        _ => byte_rows::put_text(text, at, b"\n"),
+        Kind::Repeated => byte_rows::put_text(text, at, b"\t1\trepeated\n"),
+        Kind::Thin => byte_rows::put_text(text, at, b"\t1\tthin\n"),
+        Kind::Duplicate => byte_rows::put_text(text, at, b"\t2\tduplicate\n"),
+        Kind::Edge => byte_rows::put_text(text, at, b"\t3\tedge\n"),
+        Kind::Direction => byte_rows::put_text(text, at, b"\t4\tdirection\n"),
+        Kind::Exchange | Kind::Isolated => byte_rows::put_text(text, at, b"\n"),
     }
 }
 
@@ -108,62 +131,63 @@ fn put_field(text: &mut [u8], at: usize, n: u32) -> usize
 }
 
 // How long a line of a kind is, with the number n; no line, 0.
-fn line_length(kind: u32, n: u32) -> usize
-    ensures value { result ≡ length (by.kind_text kind n) }
+fn line_length(kind: Option<Kind>, n: u32) -> usize
+    ensures value { result ≡ length (by.kind_text (by.told_code kind) n) }
     ensures upper_bound { result ≤ 25 }
 {
-    if kind == 0 {
-        return 0;
+    match kind {
+        None => 0,
+        Some(kind) => 2 + number_length(n) + tail_length(kind),
     }
-    2 + number_length(n) + tail_length(kind)
 }
 
 // Puts a line of a kind, with the number n, if it is one. Returns where the text goes on.
-fn put_line(text: &mut [u8], at: usize, kind: u32, n: u32) -> usize
-    requires { at + length (by.kind_text kind n) ≤ length text.old }
-    ensures { Puts text.old at (by.kind_text kind n) text.new result }
+fn put_line(text: &mut [u8], at: usize, kind: Option<Kind>, n: u32) -> usize
+    requires { at + length (by.kind_text (by.told_code kind) n) ≤ length text.old }
+    ensures { Puts text.old at (by.kind_text (by.told_code kind) n) text.new result }
 {
-    if kind == 0 {
-        return at;
+    match kind {
+        None => at,
+        Some(kind) => {
+            text[at] = letter(kind);
+            let next = put_field(text, at + 1, n);
+            put_tail(text, next, kind)
+        }
     }
-    text[at] = letter(kind);
-    let next = put_field(text, at + 1, n);
-    put_tail(text, next, kind)
 }
 
 // ---- the lines of a row
 
-// How long the lines are that the n entries from `row` on tell, of the kinds from `first` to `last`.
-fn row_length(work: &[u32], row: usize, n: usize, first: u32, last: u32) -> usize
+// How long the lines are that the n entries from `row` on tell, of a section.
+fn row_length(work: &[u32], row: usize, n: usize, section: Section) -> usize
     requires { by.RowAsks work.now row n }
-    ensures value { result ≡ length (by.row_text work.now row n first last) }
+    ensures value { result ≡ length (by.row_text work.now row n (by.first_of section) (by.last_of section)) }
     ensures upper_bound { result ≤ 25 * n }
 {
     let mut total = 0;
     for i in 0..n {
-        let kind = told_kind(work[row + i], first, last);
+        let kind = told_kind(work[row + i], section);
         total += line_length(kind, i as u32);
     }
     total
 }
 
-// Puts the lines that the n entries from `row` on tell, of the kinds from `first` to `last`. Returns where the text goes on.
+// Puts the lines that the n entries from `row` on tell, of a section. Returns where the text goes on.
 fn put_row(
     text: &mut [u8],
     at: usize,
     work: &[u32],
     row: usize,
     n: usize,
-    first: u32,
-    last: u32,
+    section: Section,
 ) -> usize
     requires row_asks { by.RowAsks work.now row n }
-    requires last_in_bounds { at + length (by.row_text work.now row n first last) ≤ length text.old }
-    ensures { Puts text.old at (by.row_text work.now row n first last) text.new result }
+    requires last_in_bounds { at + length (by.row_text work.now row n (by.first_of section) (by.last_of section)) ≤ length text.old }
+    ensures { Puts text.old at (by.row_text work.now row n (by.first_of section) (by.last_of section)) text.new result }
 {
     let mut next = at;
     for i in 0..n {
-        let kind = told_kind(work[row + i], first, last);
+        let kind = told_kind(work[row + i], section);
         next = put_line(text, next, kind, i as u32);
     }
     next
@@ -330,13 +354,18 @@ pub fn list_length(work: &[u32], origins: &[u32], rows: Rows) -> usize
     ensures { result ≡ length (by.list_text_by_rows work.now origins.now rows) }
 {
     let f = rows.faces;
-    let first = row_length(work, rows.fates, f, 1, 2);
-    let second = row_length(work, rows.fates, f, 3, 3);
-    let third = row_length(work, rows.fates, f, 4, 4);
-    let exchanges = row_length(work, rows.fates, f, 6, 6);
-    let fourth = row_length(work, rows.fates, f, 5, 5);
+    let first = row_length(work, rows.fates, f, Section::Degenerate);
+    let second = row_length(work, rows.fates, f, Section::Duplicate);
+    let third = row_length(work, rows.fates, f, Section::Edge);
+    let exchanges = row_length(work, rows.fates, f, Section::Exchange);
+    let fourth = row_length(work, rows.fates, f, Section::Direction);
     let splits = splits_length(work, origins, rows);
-    let unused = row_length(work, rows.unused, rows.points + rows.splits, 7, 7);
+    let unused = row_length(
+        work,
+        rows.unused,
+        rows.points + rows.splits,
+        Section::Isolated,
+    );
     first + second + third + exchanges + fourth + splits + unused
 }
 
@@ -347,11 +376,11 @@ pub fn list_text(work: &[u32], origins: &[u32], rows: Rows, text: &mut [u8]) -> 
     ensures { Puts text.old 0 (by.list_text_by_rows work.now origins.now rows) text.new result }
 {
     let f = rows.faces;
-    let second = put_row(text, 0, work, rows.fates, f, 1, 2);
-    let third = put_row(text, second, work, rows.fates, f, 3, 3);
-    let exchanges = put_row(text, third, work, rows.fates, f, 4, 4);
-    let fourth = put_row(text, exchanges, work, rows.fates, f, 6, 6);
-    let splits = put_row(text, fourth, work, rows.fates, f, 5, 5);
+    let second = put_row(text, 0, work, rows.fates, f, Section::Degenerate);
+    let third = put_row(text, second, work, rows.fates, f, Section::Duplicate);
+    let exchanges = put_row(text, third, work, rows.fates, f, Section::Edge);
+    let fourth = put_row(text, exchanges, work, rows.fates, f, Section::Exchange);
+    let splits = put_row(text, fourth, work, rows.fates, f, Section::Direction);
     let unused = put_splits(text, splits, work, origins, rows);
     put_row(
         text,
@@ -359,7 +388,6 @@ pub fn list_text(work: &[u32], origins: &[u32], rows: Rows, text: &mut [u8]) -> 
         work,
         rows.unused,
         rows.points + rows.splits,
-        7,
-        7,
+        Section::Isolated,
     )
 }

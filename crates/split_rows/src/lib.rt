@@ -7,7 +7,7 @@
 ghost use Rattle.split_rows.specs.Rows.{VertexAsks, VertexGives, AllAsks, AllGives, SplitAsks, SplitGives, TakersAsks, TakersGives, FlagsAsks, FlagsGives};
 
 // Where the run of the corners at a vertex ends, and the next number that is free.
-#[derive(Drop)]
+#[derive(Clone, Copy, Debug, PartialEq, Eq)]
 struct Run {
     end: usize,
     next: usize,
@@ -40,7 +40,7 @@ fn split_vertex(
     );
     rows::fill(work, olds + (next - count), free - next, v as u32);
     Run {
-        end: end,
+        end,
         next: free,
     }
 }

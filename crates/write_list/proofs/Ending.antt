@@ -9,15 +9,16 @@ use lib.Dec.{leb, ltb}
 use lib.Ieee.{Float}
 use lib.ListN.{length, length-append}
 use borrow.Author.Tests.{leb-true, ltb-true, ltb-false, le-ltb}
-use Rattle.rules.specs.Refusal.{no, decided, no6}
+use Rattle.rules.specs.Refusal.{ok, no, decided, no6}
 use Rattle.rules.specs.Rooms.{work_room, filled, cleared, accepted, outcome}
 use Rattle.rules.specs.ListCall.{list_rooms, ListRooms, list_check, write_list}
 use Rattle.rule_laws.proofs.Decided.{decided_some, decided_none}
 use Rattle.refuse.specs.Accepted.{Accepted}
-use Rattle.refuse.specs.Verdicts.{check_of, Limits}
-use Rattle.refuse.specs.declared.Verdict.{Verdict}
-use Rattle.refuse.specs.declared.Verdict.TheVariants.{Fine, Refused}
-use Rattle.refuse.proofs.Groups.{found_none, last}
+use Rattle.std.specs.Prelude.{Result, Ok, Err}
+use Rattle.refuse.specs.Verdicts.{number_of, place_of, Limits}
+use Rattle.refuse.specs.declared.Refusal.{Refusal}
+use Rattle.refuse.specs.declared.Refusal.TheVariants.{ShortRoom}
+use Rattle.refuse.proofs.Groups.{hand_on, last}
 use Rattle.list_refusal.specs.Checks.{input_list, ReadyTold}
 use Rattle.list_refusal.proofs.Short.{short_text, short_work, long}
 use Rattle.list_refusal.proofs.Parts.{ready_parted, ready_long, parted_short}
@@ -26,8 +27,6 @@ use Rattle.list_rows.specs.Prepared.{PrepareAsks}
 use Rattle.list_room.specs.Parts.{joined, Uniform, UniformTold, Changed, FillGives}
 use Rattle.list_room.specs.Put.{text_of, PutGives}
 use Rattle.write_list.specs.Called.{LongAsks, LongTold, rooms_of, outcome_of, ThereAsks, ThereGives, Kept, ListGives}
-use Rattle.write_list.specs.declared.Listed.{Listed}
-use Rattle.write_list.specs.declared.Listed.TheVariants as listed
 use Rattle.list_room.proofs.Uniforms.{clash}
 use Rattle.list_room.proofs.Joined.{refilled}
 
@@ -93,22 +92,22 @@ module _ (ps : List Float) (fs : List ℕ) (s : Float) (options : ℕ) (text : L
       last six six refl ∙ sym (decided_none (input_list ps fs s options) (six ∷ []) q.fine) ∙ list_is ps fs s options (rooms_of text work)
 
   -- a refusal changes no buffer
-  refused_by : (work : List ℕ) (n p : ℕ) → no n p ≡ list_check ps fs s options (rooms_of text work) → outcome_of (listed.Refused n p) text work ≡ write_list ps fs s options (rooms_of text work)
+  refused_by : (work : List ℕ) (r : Refusal) → no (number_of r) (place_of r) ≡ list_check ps fs s options (rooms_of text work) → outcome_of (Err r) text work ≡ write_list ps fs s options (rooms_of text work)
   unfolding write_list outcome
-  refused_by work n p e = ap (λ c. outcome c (rooms_of text work) (length made ∷ []) (after work)) e
+  refused_by work r e = ap (λ c. outcome c (rooms_of text work) (length made ∷ []) (after work)) e
 
   -- the text does not fit
-  no_room : LongAsks ps fs s options → length text < length made → (work : List ℕ) → outcome_of (listed.Refused 6 0) text work ≡ write_list ps fs s options (rooms_of text work)
-  no_room q h work = refused_by work 6 0 (short_text made P F (length text) (length work) h ∙ six_is q work)
+  no_room : LongAsks ps fs s options → length text < length made → (work : List ℕ) → outcome_of (Err (ShortRoom 0)) text work ≡ write_list ps fs s options (rooms_of text work)
+  no_room q h work = refused_by work (ShortRoom 0) (short_text made P F (length text) (length work) h ∙ six_is q work)
 
   -- it fits, and the work room is too short
-  no_work : LongAsks ps fs s options → length made ≤ length text → (work : List ℕ) → length work < work_room P F → outcome_of (listed.Refused 6 1) text work ≡ write_list ps fs s options (rooms_of text work)
-  no_work q h work l = refused_by work 6 1 (short_work made P F (length text) (length work) h l ∙ six_is q work)
+  no_work : LongAsks ps fs s options → length made ≤ length text → (work : List ℕ) → length work < work_room P F → outcome_of (Err (ShortRoom 1)) text work ≡ write_list ps fs s options (rooms_of text work)
+  no_work q h work l = refused_by work (ShortRoom 1) (short_work made P F (length text) (length work) h l ∙ six_is q work)
 
   -- nothing is refused
   accepted-by :
       LongAsks ps fs s options → length made ≤ length text → (work : List ℕ) → work_room P F ≤ length work → {text' work' : List ℕ} {r : ℕ} → r ≡ length made
-      → text' ≡ filled 0 r made text → work' ≡ cleared (work_room P F) work → outcome_of (listed.Done r) text' work' ≡ write_list ps fs s options (rooms_of text work)
+      → text' ≡ filled 0 r made text → work' ≡ cleared (work_room P F) work → outcome_of (Ok r) text' work' ≡ write_list ps fs s options (rooms_of text work)
   unfolding write_list outcome
   accepted-by q h work l {text'} {work'} {r} e t w =
       let u : text' ≡ filled 0 (length made) made text = t ∙ ap (λ k. filled 0 k made text) e in
@@ -132,12 +131,12 @@ module _ {ps : List Float} {fs : List ℕ} {s : Float} {options : ℕ} {xs os w 
 
   module _ {text : List ℕ} {n c : ℕ} {r : Bool} (l : LongTold ps fs s options (length text) xs os w n c r) where
     -- it was found too long
-    pub there_long : r ≡ true → ThereGives ps fs s options text xs os w text xs os w (listed.Refused 6 0)
+    pub there_long : r ≡ true → ThereGives ps fs s options text xs os w text xs os w (Err (ShortRoom 0))
     there_long t = no_room ps fs s options text q.asks (l.so t) (joined xs os w)
 
     module _ {text₁ xs₁ os₁ w₁ : List ℕ} {bytes : ℕ} (g : PutGives ps fs s options text xs os w text₁ xs₁ os₁ w₁ bytes) where
       -- it is written
-      pub there_done : bytes ≤ length text₁ → ThereGives ps fs s options text xs os w text₁ xs₁ os₁ w₁ (listed.Done bytes)
+      pub there_done : bytes ≤ length text₁ → ThereGives ps fs s options text xs os w text₁ xs₁ os₁ w₁ (Ok bytes)
       there_done h =
           let f : bytes ≤ length text = omega (arith, g.long_text) in
           accepted-by ps fs s options text q.asks (omega (arith, g.long)) (joined xs os w) (omega (arith, joined_long xs os w, ready_long q.ready)) g.long (g.written f) (g.wiped f)
@@ -145,13 +144,13 @@ module _ {ps : List Float} {fs : List ℕ} {s : Float} {options : ℕ} {xs os w 
       -- it is too long, and the parts are filled again
       pub there_refilled :
           r ≡ false → n ≡ 16 * (length ps / 3) + 60 * (length fs / 3) + 64 → length text₁ < bytes → {xs₂ os₂ w₂ : List ℕ} → FillGives xs₁ os₁ w₁ n c xs₂ os₂ w₂
-          → ThereGives ps fs s options text xs os w text₁ xs₂ os₂ w₂ (listed.Refused 6 0)
+          → ThereGives ps fs s options text xs os w text₁ xs₂ os₂ w₂ (Err (ShortRoom 0))
       there_refilled t m h {xs₂} {os₂} {w₂} f =
           let k : length text < bytes = omega (arith, g.long_text) in
           let e : text₁ ≡ text = g.kept k in
           let j : joined xs₂ os₂ w₂ ≡ joined xs os w =
           refilled (rest_fits m) (subst (λ z. Changed xs os w z xs₁ os₁ w₁) (sym m) g.changed) f (⊎_elim (λ (z : length (text_of ps fs s options) ≤ length text). absurd (omega (arith, g.long))) (λ (u : Uniform xs os w n c). u) (l.not_so t)) in
-          ap₂ (λ a b. outcome_of (listed.Refused 6 0) a b) e j ∙ no_room ps fs s options text q.asks (omega (arith, g.long)) (joined xs os w)
+          ap₂ (λ a b. outcome_of (Err (ShortRoom 0)) a b) e j ∙ no_room ps fs s options text q.asks (omega (arith, g.long)) (joined xs os w)
 
 -- ---- the whole call
 
@@ -159,21 +158,21 @@ module _ {ps : List Float} {fs : List ℕ} {s : Float} {options : ℕ} {xs os w 
 as_before : (text xs os w : List ℕ) → Kept text xs os w text xs os w
 as_before text xs os w = record { text_is = refl; corners_are = refl; origins_are = refl; rest_is = refl }
 
-module _ (ps : List Float) (fs : List ℕ) (s : Float) (options : ℕ) (text xs os w : List ℕ) {v : Verdict} (e : check_of v ≡ decided (input_list ps fs s options)) where
+module _ (ps : List Float) (fs : List ℕ) (s : Float) (options : ℕ) (text xs os w : List ℕ) where
   -- the input is refused
-  pub is_refused : (n p : ℕ) → v ≡ Refused n p → ListGives ps fs s options text xs os w text xs os w (listed.Refused n p)
-  is_refused n p t =
+  pub is_refused : (r : Refusal) → no (number_of r) (place_of r) ≡ decided (input_list ps fs s options) → ListGives ps fs s options text xs os w text xs os w (Err r)
+  is_refused r e =
       record { parted = λ d. here (joined xs os w); apart = λ d. here []; apart_kept = λ d. as_before text xs os w }
     where
-      here : (work : List ℕ) → outcome_of (listed.Refused n p) text work ≡ write_list ps fs s options (rooms_of text work)
+      here : (work : List ℕ) → outcome_of (Err r) text work ≡ write_list ps fs s options (rooms_of text work)
       here work =
-          refused_by ps fs s options text work n p
-          (sym (decided_some (input_list ps fs s options) _ n p (sym e ∙ ap check_of t)) ∙ list_is ps fs s options (rooms_of text work))
+          refused_by ps fs s options text work r
+          (hand_on (input_list ps fs s options) _ _ _ e ∙ list_is ps fs s options (rooms_of text work))
 
-  module _ (t : v ≡ Fine) where
+  module _ (e : ok ≡ decided (input_list ps fs s options)) where
     -- it is not
     pub fine : LongAsks ps fs s options
-    fine = record { fine = found_none (decided (input_list ps fs s options)) v e t }
+    fine = record { fine = sym e }
 
     module _ {b : Bool} (r : ReadyTold (length ps / 3) (length fs / 3) (length xs) (length os) (length w) b) where
       -- the parts are ready
@@ -181,7 +180,7 @@ module _ (ps : List Float) (fs : List ℕ) (s : Float) (options : ℕ) (text xs 
       there_asks y = record { asks = fine; ready = r.so y }
 
       -- so they are those of one room
-      pub is_there : b ≡ true → {text' xs' os' w' : List ℕ} {a : Listed} → ThereGives ps fs s options text xs os w text' xs' os' w' a → ListGives ps fs s options text xs os w text' xs' os' w' a
+      pub is_there : b ≡ true → {text' xs' os' w' : List ℕ} {a : Result ℕ Refusal} → ThereGives ps fs s options text xs os w text' xs' os' w' a → ListGives ps fs s options text xs os w text' xs' os' w' a
       is_there y g =
           record {
             parted = λ d. g;
@@ -191,7 +190,7 @@ module _ (ps : List Float) (fs : List ℕ) (s : Float) (options : ℕ) (text xs 
 
       module _ {f : Bool} (h : f ≡ ltb (length text) (length (text_of ps fs s options))) where
         -- the text does not fit
-        pub is_long : f ≡ true → ListGives ps fs s options text xs os w text xs os w (listed.Refused 6 0)
+        pub is_long : f ≡ true → ListGives ps fs s options text xs os w text xs os w (Err (ShortRoom 0))
         is_long y =
             let k = ltb-true (length text) (length (text_of ps fs s options)) (sym h ∙ y) in
             record {
@@ -201,7 +200,7 @@ module _ (ps : List Float) (fs : List ℕ) (s : Float) (options : ℕ) (text xs 
             }
 
         -- it fits, and there is no work room
-        pub is_short : b ≡ false → f ≡ false → ListGives ps fs s options text xs os w text xs os w (listed.Refused 6 1)
+        pub is_short : b ≡ false → f ≡ false → ListGives ps fs s options text xs os w text xs os w (Err (ShortRoom 1))
         is_short x y =
             let k = ltb-false (length text) (length (text_of ps fs s options)) (sym h ∙ y) in
             record {

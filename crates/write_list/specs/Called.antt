@@ -1,13 +1,13 @@
 -- The words of this crate's contracts: what the call asks of itself on its way, and what it gives back as the rules' outcome. Definitions only.
-use Rattle.std.specs.Prelude.{◌≡◌, Bool, true, false, ◌⊎◌, List, [], ◌∷◌, ℕ, ◌/◌, ◌≤◌, ◌<◌, length, Float}
+use Rattle.std.specs.Prelude.{Result, Ok, Err, ◌≡◌, Bool, true, false, ◌⊎◌, List, [], ◌∷◌, ℕ, ◌/◌, ◌≤◌, ◌<◌, length, Float}
 use Rattle.rules.specs.Refusal.{ok, decided}
 use Rattle.rules.specs.Rooms.{Answer, accepted, refused, Outcome}
 use Rattle.rules.specs.ListCall.{ListRooms, write_list}
 use Rattle.list_refusal.specs.Checks.{input_list, Parted, Ready}
 use Rattle.list_room.specs.Parts.{joined, Uniform}
 use Rattle.list_room.specs.Put.{text_of}
-use Rattle.write_list.specs.declared.Listed.{Listed}
-use Rattle.write_list.specs.declared.Listed.TheVariants.{Done, Refused}
+use Rattle.refuse.specs.Verdicts.{number_of, place_of}
+use Rattle.refuse.specs.declared.Refusal.{Refusal}
 
 -- ---- on the way
 
@@ -27,12 +27,12 @@ abbrev pub rooms_of : List ℕ → List ℕ → ListRooms
 rooms_of text work = record { text = text; work = work }
 
 -- document 01's answer: how many bytes the text has, or a number and a place
-abbrev pub answer_of : Listed → Answer
-answer_of (Done n) = accepted (n ∷ [])
-answer_of (Refused n p) = refused n p
+abbrev pub answer_of : Result ℕ Refusal → Answer
+answer_of (Ok n) = accepted (n ∷ [])
+answer_of (Err r) = refused (number_of r) (place_of r)
 
 -- with the rooms as the call leaves them
-abbrev pub outcome_of : Listed → List ℕ → List ℕ → Outcome ListRooms
+abbrev pub outcome_of : Result ℕ Refusal → List ℕ → List ℕ → Outcome ListRooms
 outcome_of r text work = record { answer = answer_of r; rooms = rooms_of text work }
 
 -- the input is accepted, and the parts are ready
@@ -41,7 +41,7 @@ pub record ThereAsks (points : List Float) (faces : List ℕ) (s : Float) (optio
   pub ready : Ready (length points / 3) (length faces / 3) (length corners) (length origins) (length rest)
 
 -- the rules' outcome, of the parts as one room
-abbrev pub ThereGives : List Float → List ℕ → Float → ℕ → List ℕ → List ℕ → List ℕ → List ℕ → List ℕ → List ℕ → List ℕ → List ℕ → Listed → Type 0
+abbrev pub ThereGives : List Float → List ℕ → Float → ℕ → List ℕ → List ℕ → List ℕ → List ℕ → List ℕ → List ℕ → List ℕ → List ℕ → Result ℕ Refusal → Type 0
 ThereGives points faces s options text corners origins rest text' corners' origins' rest' r =
     outcome_of r text' (joined corners' origins' rest') ≡ write_list points faces s options (rooms_of text (joined corners origins rest))
 
@@ -54,7 +54,7 @@ pub record Kept (text corners origins rest text' corners' origins' rest' : List 
 
 -- Where the parts are those of one work room, answer and rooms are what the rules say of that room. Where they are not, the answer is what the rules say of a work
 -- room of no entries, and nothing is changed.
-pub record ListGives (points : List Float) (faces : List ℕ) (s : Float) (options : ℕ) (text corners origins rest text' corners' origins' rest' : List ℕ) (r : Listed) : Type 0 where
+pub record ListGives (points : List Float) (faces : List ℕ) (s : Float) (options : ℕ) (text corners origins rest text' corners' origins' rest' : List ℕ) (r : Result ℕ Refusal) : Type 0 where
   pub parted : Parted (length faces / 3) (length corners) (length origins) (length rest) → ThereGives points faces s options text corners origins rest text' corners' origins' rest' r
   pub apart : (Parted (length faces / 3) (length corners) (length origins) (length rest) → ⊥) → outcome_of r text' [] ≡ write_list points faces s options (rooms_of text [])
   pub apart_kept : (Parted (length faces / 3) (length corners) (length origins) (length rest) → ⊥) → Kept text corners origins rest text' corners' origins' rest'

@@ -10,14 +10,7 @@ ghost use Rattle.rules.specs.Mesh.{points_of, faces_of};
 ghost use Rattle.rules.specs.Mending.{list_text};
 ghost use Rattle.write_list.specs.Called.{LongAsks, LongTold, ThereAsks, ThereGives, ListGives};
 
-use refuse::Verdict;
-
-// What writing a list gives back: how many bytes the text has, or a refusal's number and place.
-#[derive(Drop)]
-pub enum Listed {
-    Done(usize),
-    Refused(u32, usize),
-}
+use refuse::Refusal;
 
 // ---- 6, of the text
 
@@ -58,7 +51,7 @@ fn is_too_long(
     is_longer(points, faces, s, options, room)
 }
 
-// The call where the input is accepted, and the work room is parted as it must be and long enough.
+// The call where the input is accepted, and the work room is parted as it must be and long enough. Returns how many bytes the text has.
 fn write_there(
     points: &[f64],
     faces: &[u32],
@@ -68,7 +61,7 @@ fn write_there(
     corners: &mut [u32],
     origins: &mut [u32],
     rest: &mut [u32],
-) -> Listed
+) -> Result<usize, Refusal>
     requires { ThereAsks points.now faces.now s options corners.old origins.old rest.old }
     ensures { ThereGives points.now faces.now s options text.old corners.old origins.old rest.old text.new corners.new origins.new rest.new result }
 {
@@ -86,17 +79,17 @@ fn write_there(
         n,
         c,
     ) {
-        return Listed::Refused(6, 0);
+        return Err(Refusal::ShortRoom(0));
     }
     let bytes = list_room::put_list(points, faces, s, options, text, corners, origins, rest);
     if bytes <= text.len() {
-        return Listed::Done(bytes);
+        return Ok(bytes);
     }
     list_room::fill_parts(corners, origins, rest, n, c);
-    Listed::Refused(6, 0)
+    Err(Refusal::ShortRoom(0))
 }
 
-// Writes the mending list of a repair. The text fills its stated room, what lies behind is as it was, and the stated work room is all zero. Parts that are not
+// Writes the mending list of a repair, and returns how many bytes it has. The text fills its stated room, what lies behind is as it was, and the stated work room is all zero. Parts that are not
 // those of one room are refused as no work room at all is.
 pub fn write_list(
     points: &[f64],
@@ -107,22 +100,17 @@ pub fn write_list(
     corners: &mut [u32],
     origins: &mut [u32],
     rest: &mut [u32],
-) -> Listed
+) -> Result<usize, Refusal>
     ensures { ListGives points.now faces.now s options text.old corners.old origins.old rest.old text.new corners.new origins.new rest.new result }
 {
-    match list_refusal::input_refusal(points, faces, s, options) {
-        Verdict::Fine => {}
-        Verdict::Refused(number, place) => {
-            return Listed::Refused(number, place);
-        }
-    }
+    list_refusal::input_refusal(points, faces, s, options)?;
     let p = points.len() / 3;
     let f = faces.len() / 3;
     if list_refusal::is_ready(p, f, corners.len(), origins.len(), rest.len()) {
         return write_there(points, faces, s, options, text, corners, origins, rest);
     }
     if is_longer(points, faces, s, options, text.len()) {
-        return Listed::Refused(6, 0);
+        return Err(Refusal::ShortRoom(0));
     }
-    Listed::Refused(6, 1)
+    Err(Refusal::ShortRoom(1))
 }

@@ -4,8 +4,8 @@
 
 ghost use Rattle.std.specs.Prelude.{◌≤◌, length};
 
+use refuse::Refusal;
 use std::io;
-use write_list::Listed;
 
 // How long the rooms are that are lent, and what entry 3 of the last part holds.
 #[derive(Clone, Copy)]
@@ -32,9 +32,9 @@ fn show_hex(rt: &impl Print, text: &[u8], n: usize) -> io::Result<()>
 }
 
 // What the call gives back, and the text, if there is one.
-fn show_answer(rt: &impl Print, answer: Listed, text: &[u8]) -> io::Result<()> {
+fn show_answer(rt: &impl Print, answer: Result<usize, Refusal>, text: &[u8]) -> io::Result<()> {
     match answer {
-        Listed::Done(n) => {
+        Ok(n) => {
             print!(rt; "done ")?;
             show::number(rt, n as u64)?;
             show::end_line(rt)?;
@@ -42,10 +42,10 @@ fn show_answer(rt: &impl Print, answer: Listed, text: &[u8]) -> io::Result<()> {
                 show_front(rt, text, n)?;
             }
         }
-        Listed::Refused(number, place) => {
+        Err(refusal) => {
             print!(rt; "refused ")?;
-            show::number(rt, number as u64)?;
-            show::number(rt, place as u64)?;
+            show::number(rt, u64::from(refusal.number()))?;
+            show::number(rt, refusal.place() as u64)?;
             show::end_line(rt)?;
         }
     }
@@ -62,7 +62,7 @@ fn lend(
     corners: &mut [u32],
     origins: &mut [u32],
     rest: &mut [u32],
-) -> Listed
+) -> Result<usize, Refusal>
     requires { (lent.text ≤ length text.old) × (lent.corners ≤ length corners.old) × (lent.origins ≤ length origins.old) × (lent.rest ≤ length rest.old) }
 {
     write_list::write_list(
@@ -119,11 +119,11 @@ fn stated(
     if p <= 5 {
         if f <= 5 {
             let lent = Lent {
-                text: text,
+                text,
                 corners: 3 * f,
                 origins: f,
                 rest: 16 * p + 60 * f + 65,
-                spot: spot,
+                spot,
             };
             run(rt, points, faces, options, lent)?;
         }
@@ -223,11 +223,11 @@ fn point(
     requires { (text ≤ 700) × (corners ≤ 16) × (origins ≤ 16) × (rest ≤ 460) }
 {
     let lent = Lent {
-        text: text,
-        corners: corners,
-        origins: origins,
-        rest: rest,
-        spot: spot,
+        text,
+        corners,
+        origins,
+        rest,
+        spot,
     };
     run(rt, &[0.0, 0.0, 0.0], &[], 32, lent)
 }

@@ -76,9 +76,6 @@ offset_bounds-work-at-in-loop-i c = omega (arith, turn c.requires.flag_asks.add 
 pub bounds-work-at-in-loop-i : goal.bounds-work-at-in-loop-i
 bounds-work-at-in-loop-i c = omega (arith, turn c.requires.flag_asks.add c.loop-i.invariant c.loop-i-test.true, c.requires.flag_asks.flags, c.requires.n_in_bounds)
 
-pub overflow_add-i-in-loop-i-2 : goal.overflow_add-i-in-loop-i-2
-overflow_add-i-in-loop-i-2 c = omega (arith, turn c.requires.flag_asks.add c.loop-i.invariant c.loop-i-test.true, c.requires.flag_asks.flags, c.requires.n_in_bounds)
-
 pub loop-i-preserved : goal.loop-i-preserved
 loop-i-preserved c = again c.requires.flag_asks.add c.loop-i.invariant c.loop-i-test.true _ (why_read c.requires.flag_asks c.loop-i.invariant c.loop-i-test.true c.args.faces.now _ _ c.flagged-told.ensures c.why-reason.ensures)
 

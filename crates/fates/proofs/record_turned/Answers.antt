@@ -58,9 +58,6 @@ offset_bounds-work-at-in-loop-i c = omega (arith, turn c.requires.add_asks c.loo
 pub bounds-work-at-in-loop-i : goal.bounds-work-at-in-loop-i
 bounds-work-at-in-loop-i c = omega (arith, turn c.requires.add_asks c.loop-i.invariant c.loop-i-test.true, c.requires.n_in_bounds, c.requires.input_len)
 
-pub overflow_add-i-in-loop-i : goal.overflow_add-i-in-loop-i
-overflow_add-i-in-loop-i c = omega (arith, turn c.requires.add_asks c.loop-i.invariant c.loop-i-test.true, c.requires.n_in_bounds, c.requires.input_len)
-
 pub loop-i-preserved : goal.loop-i-preserved
 loop-i-preserved c = again c.requires.add_asks c.loop-i.invariant c.loop-i-test.true _ c.turned-told.ensures
 

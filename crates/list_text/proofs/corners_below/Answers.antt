@@ -21,14 +21,11 @@ module _ {w : List ℕ} {rows : Rows} {from v : ℕ} (a : BelowAsks w rows from 
   stops : {q : ℕ} → Inv w rows v q → q < 3 * rows.left → v ≤ get_or w (rows.column + get_or w (rows.sorted + q) 0) 0 → q ≡ start_of w rows v
   stops {q} i h l = omega (arith, i.most, not_ahead a.sorted v a.most q h l)
 
-  done : {q : ℕ} → Inv w rows v q → 3 * rows.left ≤ q → q ≡ start_of w rows v
+  done : {q : ℕ} → Inv w rows v q → 3 * rows.left ≤ q → 3 * rows.left ≡ start_of w rows v
   done i h = omega (arith, i.most, start_most a.sorted v a.most)
 
 pub loop-q-init : goal.loop-q-init
 loop-q-init c = record { most = c.requires.begun }
-
-pub overflow_mul-rows : goal.overflow_mul-rows
-overflow_mul-rows c = omega (arith, c.requires.sorted.few)
 
 pub overflow_add-id : goal.overflow_add-id
 overflow_add-id c = omega (arith, turn c.requires c.loop-q.q c.loop-q-test.true)

@@ -3,23 +3,24 @@ use mathlib.Core.Path.{◌∙◌}
 use native.Mathlib.Omega.{arith}
 use lib.ListN.{length-set}
 use Rattle.byte_rows.proofs.Putting.{puts_none}
-use Rattle.list_text.proofs.EachKind.{no_line, line_parts, line_put}
+use Rattle.list_text.specs.Written.{code_of}
+use Rattle.list_text.proofs.EachKind.{code_some, line_parts, line_put}
 use Rattle.list_text.proofs.put_line.Goals as goal
 
-pub returns-then-kind-eq0 : goal.returns-then-kind-eq0
-returns-then-kind-eq0 c = rw (no_line _ c.args.n c.if-kind-eq0.true) (puts_none (omega (arith, c.requires)))
+pub returns-in-None : goal.returns-in-None
+returns-in-None c = rw c.in-None.is (puts_none (omega (arith, c.requires)))
 
 pub bounds-text-at : goal.bounds-text-at
-bounds-text-at c = omega (arith, line_parts c.args.kind c.args.n c.if-kind-eq0.false, c.requires)
+bounds-text-at c = omega (arith, line_parts (code_of c.in-Some.kind) c.args.n (code_some c.in-Some.kind), rw c.in-Some.is at c.requires)
 
 pub put_field-next-requires : goal.put_field-next-requires
-put_field-next-requires c = simp length-set (omega (arith, line_parts c.args.kind c.args.n c.if-kind-eq0.false, c.requires))
+put_field-next-requires c = simp length-set (omega (arith, line_parts (code_of c.in-Some.kind) c.args.n (code_some c.in-Some.kind), rw c.in-Some.is at c.requires))
 
 pub put_tail-requires : goal.put_tail-requires
-put_tail-requires c = omega (arith, line_parts c.args.kind c.args.n c.if-kind-eq0.false, c.requires, c.put_field-next.ensures.ends, c.put_field-next.ensures.only.long, length-set c.args.text.now c.args.at c.letter.result)
+put_tail-requires c = omega (arith, line_parts (code_of c.in-Some.kind) c.args.n (code_some c.in-Some.kind), rw c.in-Some.is at c.requires, c.put_field-next.ensures.ends, c.put_field-next.ensures.only.long, length-set c.args.text.now c.args.at c.letter.result)
 
 pub shape_of-text : goal.shape_of-text
 shape_of-text c = c.put_tail.ensures.only.long ∙ c.put_field-next.ensures.only.long ∙ length-set c.args.text.now c.args.at c.letter.result
 
-pub returns : goal.returns
-returns c = line_put c.args.kind c.args.n c.if-kind-eq0.false (omega (arith, line_parts c.args.kind c.args.n c.if-kind-eq0.false, c.requires)) c.letter.ensures c.put_field-next.ensures c.put_tail.ensures
+pub returns-in-Some : goal.returns-in-Some
+returns-in-Some c = rw c.in-Some.is (line_put (code_of c.in-Some.kind) c.args.n (code_some c.in-Some.kind) (omega (arith, line_parts (code_of c.in-Some.kind) c.args.n (code_some c.in-Some.kind), rw c.in-Some.is at c.requires)) c.letter.ensures c.put_field-next.ensures c.put_tail.ensures)

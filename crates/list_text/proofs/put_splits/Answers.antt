@@ -21,9 +21,6 @@ corners_below-to-requires c = next_asks c.requires.splits_ask c.loop-j.invariant
 pub put_split-next-requires : goal.put_split-next-requires
 put_split-next-requires c = record { split_asks = split_asks c.requires.splits_ask c.loop-j.invariant.cursor c.loop-j-test.true c.corners_below-to.ensures; to_in_bounds = place_room c.requires.splits_ask c.loop-j.invariant c.loop-j-test.true c.corners_below-to.ensures }
 
-pub overflow_add-j : goal.overflow_add-j
-overflow_add-j c = omega (arith, c.loop-j-test.true)
-
 pub loop-j-preserved : goal.loop-j-preserved
 loop-j-preserved c = place_on c.requires.splits_ask c.loop-j.invariant c.loop-j-test.true c.corners_below-to.ensures c.put_split-next.ensures
 

@@ -24,9 +24,6 @@ split_length-total-requires c = split_asks c.requires c.loop-j.invariant.cursor 
 pub overflow_add-total : goal.overflow_add-total
 overflow_add-total c = omega (arith, total_small c.requires (total_on c.requires c.loop-j.invariant c.loop-j-test.true c.corners_below-to.ensures c.split_length-total.ensures.value c.split_length-total.ensures.from_bound) (omega (arith, c.loop-j-test.true)), c.loop-j-test.true, c.requires.few_points, c.requires.sorted.few)
 
-pub overflow_add-j : goal.overflow_add-j
-overflow_add-j c = omega (arith, c.loop-j-test.true)
-
 pub loop-j-preserved : goal.loop-j-preserved
 loop-j-preserved c = total_on c.requires c.loop-j.invariant c.loop-j-test.true c.corners_below-to.ensures c.split_length-total.ensures.value c.split_length-total.ensures.from_bound
 

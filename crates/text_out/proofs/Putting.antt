@@ -49,34 +49,25 @@ unfolding hex
 hex_last k m = refl
 
 module _ {w₀ : List ℕ} {at n : ℕ} {w : List ℕ} {k m : ℕ} (p : at + 16 ≤ length w₀) (v : Left w₀ at n w k m) where
-  -- the next digit is in the room
-  pub turn : 0 < k → at + (k - 1) < length w
-  turn h =
-      let l = v.only.long in
-      omega (arith, v.at_most)
-
   -- the digit before is put
-  pub again : 0 < k → (d : ℕ) → d ≡ byte (m % 16) → Left w₀ at n (set w (at + (k - 1)) d) (k - 1) (m / 16)
-  again h d e = go (k - 1) (omega arith)
-    where
-      go : (j : ℕ) → k ≡ suc j → Left w₀ at n (set w (at + j) d) j (m / 16)
-      go j f =
-          let l = v.only.long in
-          let a = v.at_most in
-          let r : 16 - j ≡ suc (16 - suc j) = omega arith in
-          let s : suc (at + j) ≡ at + suc j = omega arith in
-          let q : part (set w (at + j) d) (at + j) (16 - j) ≡ d ∷ part w (at + suc j) (16 - suc j) =
-          rw r (part_cons (set w (at + j) d) (at + j) (16 - suc j) (simp length-set (omega arith))
-          ∙ ap (λ (z : ℕ). z ∷ part (set w (at + j) d) (suc (at + j)) (16 - suc j)) (get_or-set_same w (at + j) d 0 (omega arith))
-          ∙ ap (λ (z : List ℕ). d ∷ z) (part_set w (suc (at + j)) (16 - suc j) (at + j) d (omega arith) (λ i b. omega arith) ∙ ap (λ (i : ℕ). part w i (16 - suc j)) s)) in
-          record {
-            at_most = omega arith;
-            only = only_both v.only (only_set w (at + j) d (omega arith) (omega arith));
-            digits = rw f at v.digits ∙ ap (λ (z : List ℕ). z ++ part w (at + suc j) (16 - suc j)) (hex_last j m)
-                ∙ behind (hex j (m / 16)) (byte (m % 16) ∷ []) (part w (at + suc j) (16 - suc j))
-                ∙ ap (λ (z : ℕ). hex j (m / 16) ++ (z ∷ part w (at + suc j) (16 - suc j))) (sym e)
-                ∙ ap (λ (z : List ℕ). hex j (m / 16) ++ z) (sym q);
-          }
+  pub again : (j : ℕ) → k ≡ suc j → (d : ℕ) → d ≡ byte (m % 16) → Left w₀ at n (set w (at + j) d) j (m / 16)
+  again j f d e =
+      let l = v.only.long in
+      let a = v.at_most in
+      let r : 16 - j ≡ suc (16 - suc j) = omega arith in
+      let s : suc (at + j) ≡ at + suc j = omega arith in
+      let q : part (set w (at + j) d) (at + j) (16 - j) ≡ d ∷ part w (at + suc j) (16 - suc j) =
+      rw r (part_cons (set w (at + j) d) (at + j) (16 - suc j) (simp length-set (omega arith))
+      ∙ ap (λ (z : ℕ). z ∷ part (set w (at + j) d) (suc (at + j)) (16 - suc j)) (get_or-set_same w (at + j) d 0 (omega arith))
+      ∙ ap (λ (z : List ℕ). d ∷ z) (part_set w (suc (at + j)) (16 - suc j) (at + j) d (omega arith) (λ i b. omega arith) ∙ ap (λ (i : ℕ). part w i (16 - suc j)) s)) in
+      record {
+        at_most = omega arith;
+        only = only_both v.only (only_set w (at + j) d (omega arith) (omega arith));
+        digits = rw f at v.digits ∙ ap (λ (z : List ℕ). z ++ part w (at + suc j) (16 - suc j)) (hex_last j m)
+            ∙ behind (hex j (m / 16)) (byte (m % 16) ∷ []) (part w (at + suc j) (16 - suc j))
+            ∙ ap (λ (z : ℕ). hex j (m / 16) ++ (z ∷ part w (at + suc j) (16 - suc j))) (sym e)
+            ∙ ap (λ (z : List ℕ). hex j (m / 16) ++ z) (sym q);
+      }
 
   -- all digits are put
   pub done : k ≤ 0 → Puts w₀ at (hex 16 n) w (at + 16)

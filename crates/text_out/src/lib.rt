@@ -25,12 +25,10 @@ fn put_hex(out: &mut [u8], at: usize, n: u64) -> usize
     requires { at + 16 ≤ length out.old }
     ensures { Puts out.old at (rule.hex 16 n) out.new result }
 {
-    let mut k = 16;
     let mut m = n;
-    while k > 0 {
-        k -= 1;
-        out[at + k] = hex_byte(m % 16);
-        m = m / 16;
+    for k in 0..16 {
+        out[at + (15 - k)] = hex_byte(m % 16);
+        m /= 16;
     }
     at + 16
 }
@@ -109,8 +107,8 @@ fn put_counts(out: &mut [u8], at: usize, report: &[u32]) -> usize
     ensures { by.LinesGive out.old at (by.counts report.now) 11 (length report.now) out.new result }
 {
     let mut next = at;
-    for i in 0..report.len() {
-        next = put_whole(out, next, report[i]);
+    for count in report {
+        next = put_whole(out, next, *count);
     }
     next
 }

@@ -1,5 +1,4 @@
 -- `text_out::put_faces` meets its contract: the lines of the first i faces are put. Assumes nothing.
-use Prim.Native.Nat.{◌-◌}
 use native.Mathlib.Omega.{arith}
 use Rattle.rule_laws.proofs.Flat.{length_faces}
 use Rattle.text_out.specs.Printed.{face_line}

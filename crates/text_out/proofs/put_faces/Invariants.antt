@@ -1,6 +1,4 @@
 -- `text_out::put_faces` meets its contract: the lines of the first i faces are put. Assumes nothing.
-use Prim.Native.Nat.{◌-◌, ◌/◌}
-use lib.ListN.{length}
 use Rattle.rules.specs.Mesh.{faces_of}
 use Rattle.text_out.specs.Printed.{face_line}
 use Rattle.text_out.proofs.Lines.{SoFar}

@@ -1,5 +1,4 @@
 -- `text_out::put_points` meets its contract: the lines of the first i points are put. Assumes nothing.
-use Prim.Native.Nat.{◌-◌}
 use native.Mathlib.Omega.{arith}
 use Rattle.rule_laws.proofs.Flat.{length_points}
 use Rattle.text_out.specs.Printed.{point_line}

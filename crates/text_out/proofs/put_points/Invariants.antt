@@ -1,6 +1,4 @@
 -- `text_out::put_points` meets its contract: the lines of the first i points are put. Assumes nothing.
-use Prim.Native.Nat.{◌-◌, ◌/◌}
-use lib.ListN.{length}
 use Rattle.rules.specs.Mesh.{points_of}
 use Rattle.text_out.specs.Printed.{point_line}
 use Rattle.text_out.proofs.Lines.{SoFar}

@@ -32,8 +32,8 @@ fn add(work: &mut [u32], count: usize, row: usize, v: usize, u: usize)
     requires { AddAsks work.old count row v u }
     ensures { AddGives work.old count row v u work.new }
 {
-    work[row + v] = work[row + v] + 1;
-    work[row + count + u] = work[row + count + u] + 1;
+    work[row + v] += 1;
+    work[row + count + u] += 1;
     work[row + 2 * count + v] = u as u32;
 }
 

@@ -2,13 +2,12 @@
 use mathlib.Core.Path.{◌≡◌, refl, sym, ap, ap₂, subst, ◌∙◌}
 use mathlib.Core.Bool.{Bool, true, false, not, cond}
 use mathlib.Core.List.{List, [], ◌∷◌, map}
-use Prim.Native.Nat.{ℕ, zero, suc, ◌+◌, ◌-◌, ◌*◌, ◌/◌, ◌%◌, ◌≤◌, ◌<◌}
+use Prim.Native.Nat.{ℕ, suc, ◌+◌, ◌-◌, ◌*◌, ◌/◌, ◌%◌, ◌≤◌, ◌<◌}
 use native.Mathlib.Omega.{arith}
 use native.Mathlib.Numerals.{add-one}
 use borrow.Author.Tests.{ne_eqb}
-use lib.Dec.{T, eqb}
-use lib.Ieee.Bits.{is_true}
-use lib.ListN.{length, get_or, set, replicate, length-map, length-replicate}
+use lib.Dec.{T}
+use lib.ListN.{length, get_or, set, replicate, length-map}
 use Rattle.rules.specs.Lists.{below, filter, count, through}
 use Rattle.rules.specs.Pass4 as pass4
 use Rattle.rules.specs.Pass4.{Walk, Oriented, run, started, oriented}
@@ -17,10 +16,9 @@ use Rattle.rule_laws.proofs.Rising.{All, all_imp}
 use Rattle.rule_laws.proofs.Counting.{filter_le, count_next, count_stay}
 use Rattle.orienting.proofs.Room.{Sound, started_sound}
 use Rattle.face_words.specs.Words.{stands, view, there, viewed, place}
-use Rattle.face_words.specs.Views.{Worded}
 use Rattle.face_words.proofs.Places.{viewed_length, place_in, there_all, there_length}
 use Rattle.searched_walk.specs.declared.Hand.{Hand}
-use Rattle.searched_walk.specs.Walking.{seen, chain, walk_of, oriented_of, Visited, Ready, Kept, WalkGives, MeetAsks, EmptyGives, StartAsks, ComponentGives, BeginAsks, BeginGives, WalkAsks, AllAsks, AllGives}
+use Rattle.searched_walk.specs.Walking.{seen, chain, walk_of, oriented_of, Ready, Kept, MeetAsks, EmptyGives, StartAsks, ComponentGives, BeginAsks, BeginGives, AllAsks, AllGives}
 use Rattle.searched_walk.proofs.Noting.{kept_none, kept_both, place_kept, number_kept, more_most, Noted, noted, noted_fresh, noted_links, noted_here}
 use Rattle.searched_walk.proofs.Visiting.{seen_at}
 

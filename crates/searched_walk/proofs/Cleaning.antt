@@ -15,8 +15,7 @@ use Rattle.rule_laws.proofs.Counting.{count_next, count_stay, count_below_le}
 use Rattle.face_words.specs.Words.{stands, viewed, place}
 use Rattle.searched_marks.proofs.Seeing.{Sight, stands_same, viewed_same}
 use Rattle.searched_walk.specs.declared.Hand.{Hand}
-use Rattle.searched_walk.specs.declared.Turned.{Turned}
-use Rattle.searched_walk.specs.Walking.{walk_of, oriented_of, WalkAsks, AllAsks, AllGives, CleanGives, TurnedGives}
+use Rattle.searched_walk.specs.Walking.{walk_of, AllGives, CleanGives, TurnedGives}
 
 -- ---- the words below f are cleaned
 

@@ -1,28 +1,28 @@
 -- Face after face is met across a step: the users of its edge, which stay the same when faces are exchanged. Assumes nothing.
 use mathlib.Core.Path.{◌≡◌, refl, sym, ap, ap₂, subst, ◌∙◌}
-use mathlib.Core.Bool.{Bool, true, false, not, ◌&&◌, ◌||◌, cond}
-use mathlib.Core.List.{List, [], ◌∷◌, ◌++◌, map, map-append, map-map, append-nil}
-use Prim.Native.Nat.{ℕ, zero, suc, ◌+◌, ◌*◌, ◌/◌, ◌%◌, ◌≤◌, ◌<◌}
+use mathlib.Core.Bool.{Bool, true, false, not, cond}
+use mathlib.Core.List.{List, [], ◌∷◌, ◌++◌, map, map-append, map-map}
+use Prim.Native.Nat.{ℕ, suc, ◌+◌, ◌≤◌, ◌<◌}
 use native.Mathlib.Omega.{arith}
 use native.Mathlib.Numerals.{add-one}
 use borrow.Author.Tests.{eq-eqb, ne_eqb}
 use lib.Dec.{T, eqb}
 use lib.ListN.{length, replicate, replicate-append-replicate}
-use Rattle.rules.specs.Lists.{below, filter, through}
+use Rattle.rules.specs.Lists.{filter, through}
 use Rattle.rules.specs.Mesh.{Face, face, faces_of, exchanged}
 use Rattle.rules.specs.Steps.{Step, step, steps, opposite, edge, same, users}
 use Rattle.rules.specs.Pass4 as pass4
 use Rattle.rules.specs.Pass4.{Walk}
 use Rattle.rule_laws.proofs.Lists.{filter_append, filter_map, through_append}
-use Rattle.rule_laws.proofs.Rising.{All, all_imp}
+use Rattle.rule_laws.proofs.Rising.{all_imp}
 use Rattle.rule_laws.proofs.Takers.{users_takers}
 use Rattle.orienting.proofs.Turns.{edge_opposite}
-use Rattle.face_words.specs.Words.{stands, straight, view, there, viewed, place, takers_at}
-use Rattle.face_words.specs.Views.{seen_as, ViewAsks}
+use Rattle.face_words.specs.Words.{stands, straight, view, viewed, place, takers_at}
+use Rattle.face_words.specs.Views.{seen_as}
 use Rattle.face_words.specs.declared.Corners.{Corners}
 use Rattle.face_words.proofs.Places.{takers_place, eqb_place, filter_agree}
 use Rattle.face_words.proofs.Ranking.{Standing}
-use Rattle.entry_search.specs.Searching.{along, CandidateAsks, CandidateGives}
+use Rattle.entry_search.specs.Searching.{along, CandidateGives}
 use Rattle.entry_search.proofs.Entries.{list_of, list_none, list_next, list_skip, none_along}
 use Rattle.entry_search.proofs.Keeping.{list_all}
 use Rattle.searched_walk.specs.declared.Hand.{Hand}

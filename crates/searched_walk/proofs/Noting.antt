@@ -1,27 +1,21 @@
 -- The word of one face when it is visited, and what the words say then. Assumes nothing.
-use mathlib.Core.Path.{◌≡◌, refl, sym, ap, ap₂, subst, ◌∙◌}
+use mathlib.Core.Path.{◌≡◌, refl, sym, ap, subst, ◌∙◌}
 use mathlib.Core.Logic.{◌⊎◌, inl, inr, ⊎_elim}
-use mathlib.Core.Bool.{Bool, true, false, not, ◌&&◌, ◌||◌, cond}
-use mathlib.Core.List.{List, [], ◌∷◌, map}
-use Prim.Native.Nat.{ℕ, zero, suc, ◌+◌, ◌*◌, ◌/◌, ◌%◌, ◌^◌, ◌≤◌, ◌<◌}
+use mathlib.Core.Bool.{Bool, true, false, cond}
+use mathlib.Core.List.{List, map}
+use Prim.Native.Nat.{ℕ, ◌+◌, ◌*◌, ◌/◌, ◌%◌, ◌≤◌, ◌<◌}
 use native.Mathlib.Omega.{arith}
 use native.Mathlib.Decide.{ℕ_discrete}
-use borrow.Author.Tests.{eq-eqb, ne_eqb, eqb-true}
+use borrow.Author.Tests.{eq-eqb, ne_eqb}
 use lib.Dec.{T, eqb}
-use native.Mathlib.Numerals.{add-one}
-use lib.ListN.{length, get_or, set, length-set, length-map}
-use Rattle.rule_laws.proofs.Counting.{count_below_le}
+use lib.ListN.{length, get_or, set, length-set}
 use lib.Seq.{get_or-set_same, get_or-set_other}
-use Rattle.rules.specs.Lists.{below, filter, count}
+use Rattle.rules.specs.Lists.{below, count}
 use Rattle.rules.specs.Mesh.{Face, face, faces_of, exchanged}
-use Rattle.rules.specs.Steps.{Step, step, opposite, walks}
 use Rattle.rule_laws.proofs.Rising.{All, all_imp}
 use Rattle.orienting.proofs.Reached.{not_both}
 use Rattle.face_words.specs.Words.{stands, straight, view, there, viewed, place}
-use Rattle.face_words.specs.Views.{seen_as, Worded, ViewAsks}
-use Rattle.face_words.specs.declared.Corners.{Corners}
-use Rattle.face_words.proofs.Places.{viewed_face, place_in, viewed_length}
-use Rattle.searched_walk.specs.declared.Hand.{Hand}
+use Rattle.face_words.proofs.Places.{viewed_face}
 use Rattle.searched_walk.specs.Walking.{seen, chain, Visited, Kept}
 use Rattle.searched_walk.proofs.Setting.{map_there_set, chain_same}
 

@@ -1,24 +1,21 @@
 -- A face crosses its edges, is taken off the stack, and so on until the stack is empty. Assumes nothing.
 use mathlib.Core.Path.{◌≡◌, refl, sym, ap, ap₂, subst, ◌∙◌}
-use mathlib.Core.Bool.{Bool, true, false}
 use mathlib.Core.List.{List, [], ◌∷◌, map}
-use Prim.Native.Nat.{ℕ, zero, suc, ◌+◌, ◌-◌, ◌/◌, ◌≤◌, ◌<◌}
+use Prim.Native.Nat.{ℕ, zero, suc, ◌-◌, ◌/◌, ◌≤◌, ◌<◌}
 use native.Mathlib.Omega.{arith}
-use lib.Dec.{T}
 use lib.ListN.{length, get_or}
-use Rattle.rules.specs.Lists.{below, count, through}
-use Rattle.rules.specs.Mesh.{Face, face}
+use Rattle.rules.specs.Lists.{through}
+use Rattle.rules.specs.Mesh.{face}
 use Rattle.rules.specs.Steps.{Step, step, steps}
-use Rattle.rules.specs.Pass4 as pass4
 use Rattle.rules.specs.Pass4.{Walk, across, popped, run}
 use Rattle.rule_laws.proofs.Rising.{All}
 use Rattle.orienting.proofs.Room.{Sound, popped_sound}
-use Rattle.face_words.specs.Words.{stands, view, there, viewed, place}
+use Rattle.face_words.specs.Words.{view, place}
 use Rattle.face_words.specs.Views.{seen_as}
 use Rattle.face_words.specs.declared.Corners.{Corners}
 use Rattle.face_words.proofs.Places.{viewed_face}
 use Rattle.searched_walk.specs.declared.Hand.{Hand}
-use Rattle.searched_walk.specs.Walking.{seen, chain, walk_of, Visited, Ready, Kept, WalkGives, MeetAsks, AcrossGives, CrossGives, PopAsks, PopGives, EmptyGives}
+use Rattle.searched_walk.specs.Walking.{chain, walk_of, Visited, Ready, Kept, WalkGives, MeetAsks, AcrossGives, CrossGives, PopAsks, PopGives, EmptyGives}
 use Rattle.searched_walk.proofs.Noting.{kept_none, kept_both, place_kept, up_kept}
 use Rattle.searched_walk.proofs.Meeting.{walk_then, walk_as}
 

@@ -1,15 +1,14 @@
 -- Lists by the faces that stand, when what is said of one face is changed. Assumes nothing.
-use mathlib.Core.Path.{◌≡◌, refl, sym, ap, ap₂, subst, ◌∙◌}
+use mathlib.Core.Path.{◌≡◌, refl, sym, ap, ap₂, ◌∙◌}
 use mathlib.Core.Bool.{Bool, true, false, cond}
 use mathlib.Core.List.{List, [], ◌∷◌, ◌++◌, map, map-append}
-use Prim.Native.Nat.{ℕ, zero, suc, ◌+◌, ◌/◌, ◌≤◌, ◌<◌}
+use Prim.Native.Nat.{ℕ, zero, suc, ◌/◌, ◌<◌}
 use native.Mathlib.Omega.{arith}
 use native.Mathlib.Nat.{le_of_suc-le-suc, not-suc-le-zero}
-use native.Mathlib.Decide.{dec_lt, ℕ_discrete}
+use native.Mathlib.Decide.{ℕ_discrete}
 use lib.Dec.{T}
 use lib.Ieee.Bits.{is_true}
 use lib.ListN.{length, get_or, set, length-map}
-use Rattle.rules.specs.Lists.{below, filter, count}
 use Rattle.rule_laws.proofs.Rising.{All, all_imp, map_same}
 use Rattle.rule_laws.proofs.Lists.{get_or_map_in}
 use Rattle.rule_laws.proofs.Counting.{count_strict}

@@ -1,32 +1,25 @@
 -- One face that is met: visited already, or pushed and exchanged where it disagrees. Assumes nothing.
-use mathlib.Core.Path.{◌≡◌, refl, sym, ap, ap₂, subst, ◌∙◌}
-use mathlib.Core.Logic.{◌⊎◌, inl, inr, ⊎_elim}
-use mathlib.Core.Bool.{Bool, true, false, not, ◌&&◌, ◌||◌, cond}
-use mathlib.Core.List.{List, [], ◌∷◌, map}
-use Prim.Native.Nat.{ℕ, zero, suc, ◌+◌, ◌*◌, ◌/◌, ◌%◌, ◌^◌, ◌≤◌, ◌<◌}
+use mathlib.Core.Path.{◌≡◌, refl, sym, ap, subst, ◌∙◌}
+use mathlib.Core.Bool.{Bool, true, false, not, ◌||◌, cond}
+use mathlib.Core.List.{List, ◌∷◌, map}
+use Prim.Native.Nat.{ℕ, suc, ◌+◌, ◌*◌, ◌≤◌, ◌<◌}
 use native.Mathlib.Omega.{arith}
-use native.Mathlib.Decide.{ℕ_discrete}
-use borrow.Author.Tests.{eq-eqb, ne_eqb, eqb-true}
-use lib.Dec.{T, eqb}
 use native.Mathlib.Numerals.{add-one}
-use lib.ListN.{length, get_or, set, length-set, length-map}
+use lib.ListN.{length, get_or, set, length-map}
 use Rattle.rule_laws.proofs.Counting.{count_below_le}
-use lib.Seq.{get_or-set_same, get_or-set_other}
-use Rattle.rules.specs.Lists.{below, filter, count}
-use Rattle.rules.specs.Mesh.{Face, face, faces_of, exchanged}
+use Rattle.rules.specs.Mesh.{face}
 use Rattle.rules.specs.Steps.{Step, step, opposite, walks}
 use Rattle.rules.specs.Pass4 as pass4
 use Rattle.rules.specs.Pass4.{Walk, visit}
-use Rattle.rule_laws.proofs.Rising.{All, all_imp}
+use Rattle.rule_laws.proofs.Rising.{All}
 use Rattle.orienting.specs.Reaching.{reach}
-use Rattle.orienting.proofs.Room.{Sound, unseen, reach_sound, remark_sound, has_room}
-use Rattle.orienting.proofs.Reached.{not_both}
-use Rattle.face_words.specs.Words.{stands, straight, view, there, viewed, place}
-use Rattle.face_words.specs.Views.{seen_as, Worded, ViewAsks}
+use Rattle.orienting.proofs.Room.{Sound, reach_sound, remark_sound, has_room}
+use Rattle.face_words.specs.Words.{stands, view, there, viewed, place}
+use Rattle.face_words.specs.Views.{seen_as, ViewAsks}
 use Rattle.face_words.specs.declared.Corners.{Corners}
 use Rattle.face_words.proofs.Places.{viewed_face, place_in, viewed_length}
 use Rattle.searched_walk.specs.declared.Hand.{Hand}
-use Rattle.searched_walk.specs.Walking.{seen, chain, walk_of, Visited, Ready, Kept, WalkGives, MeetAsks, MeetGives}
+use Rattle.searched_walk.specs.Walking.{seen, chain, walk_of, Visited, Ready, MeetAsks, MeetGives}
 use Rattle.searched_walk.proofs.Setting.{map_there_at, chain_length}
 use Rattle.searched_walk.proofs.Noting.{kept_none, number_kept, place_kept, Noted, noted, noted_fresh, noted_links, noted_here, noted_still, noted_chain}
 

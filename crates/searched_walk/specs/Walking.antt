@@ -1,7 +1,6 @@
 -- The rules' walk as the words of the faces have it, and what the functions ask and give. Definitions only.
-use Rattle.std.specs.Prelude.{◌≡◌, Bool, true, false, not, cond, List, [], ◌∷◌, map, ℕ, zero, suc, ◌+◌, ◌/◌, ◌%◌, ◌≤◌, ◌<◌, eqb, T, length, get_or, replicate}
+use Rattle.std.specs.Prelude.{◌≡◌, Bool, true, false, cond, List, [], ◌∷◌, map, ℕ, zero, suc, ◌+◌, ◌/◌, ◌%◌, ◌≤◌, ◌<◌, eqb, T, length, get_or, replicate}
 use Rattle.rules.specs.Lists.{filter, through}
-use Rattle.rules.specs.Mesh.{Face}
 use Rattle.rules.specs.Steps.{Step, steps}
 use Rattle.rules.specs.Pass4 as pass4
 use Rattle.rules.specs.Pass4.{Walk, Oriented, oriented}

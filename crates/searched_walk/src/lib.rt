@@ -2,7 +2,7 @@
 // stack is a chain: from bit 8 on the word of a face on it has the number of the face below. At the end only bits 0 and 1 are left.
 #![tactic(auto)]
 
-ghost use Rattle.std.specs.Prelude.{◌≡◌, not, ◌||◌, cond, length, replicate};
+ghost use Rattle.std.specs.Prelude.{◌≡◌, not, ◌||◌, cond, length};
 ghost use Rattle.rules.specs.Steps.{step};
 ghost use Rattle.face_words.specs.Words.{place};
 ghost use Rattle.face_index.specs.Index.{Indexed};
@@ -10,7 +10,7 @@ ghost use Rattle.searched_walk.specs.Walking as walking;
 
 // What the walk has beside the words: the top face of the stack, how many are on it, how many faces were exchanged, whether the present component is marked,
 // and how many components before it are.
-#[derive(Drop)]
+#[derive(Clone, Copy, Debug, PartialEq, Eq)]
 struct Hand {
     top: u32,
     size: usize,
@@ -20,7 +20,7 @@ struct Hand {
 }
 
 // How many faces were exchanged, and how many components have faces that disagree.
-#[derive(Drop)]
+#[derive(Clone, Copy, Debug, PartialEq, Eq)]
 pub struct Turned {
     pub reoriented: usize,
     pub components: usize,
@@ -52,10 +52,7 @@ fn one_more(b: bool) -> usize
 fn remark(mark: bool, agrees: bool) -> bool
     ensures { result ≡ (mark || not agrees) }
 {
-    if mark {
-        return true;
-    }
-    if agrees { false } else { true }
+    mark || !agrees
 }
 
 // The neighbour g across the step from a to b: visited, it marks the component if it disagrees; else it is visited, exchanged if it disagrees, and pushed.
@@ -66,11 +63,8 @@ fn meet(faces: &[u32], words: &mut [u32], g: usize, a: u32, b: u32, hand: Hand) 
     let agrees = entry_search::walks(face_words::view(faces, words, g), b, a);
     if seen(words, g) {
         return Hand {
-            top: hand.top,
-            size: hand.size,
-            exchanges: hand.exchanges,
             mark: remark(hand.mark, agrees),
-            marks: hand.marks,
+            ..hand
         };
     }
     words[g] = words[g] + 8 + turn(agrees) + 256 * hand.top;
@@ -78,8 +72,7 @@ fn meet(faces: &[u32], words: &mut [u32], g: usize, a: u32, b: u32, hand: Hand) 
         top: g as u32,
         size: hand.size + 1,
         exchanges: hand.exchanges + one_more(agrees),
-        mark: hand.mark,
-        marks: hand.marks,
+        ..hand
     }
 }
 
@@ -97,7 +90,7 @@ fn meet_times(
     ensures { walking.TimesGives faces.now words.old hand g (step a b) times words.new result }
 {
     let mut now = hand;
-    for k in 0..times {
+    for _time in 0..times {
         now = meet(faces, words, g, a, b, now);
     }
     now
@@ -171,9 +164,7 @@ fn pop(faces: &[u32], index: &[u32], words: &mut [u32], hand: Hand) -> Hand
     let rest = Hand {
         top: words[j] / 256,
         size: hand.size - 1,
-        exchanges: hand.exchanges,
-        mark: hand.mark,
-        marks: hand.marks,
+        ..hand
     };
     cross_face(faces, index, words, j, rest)
 }
@@ -185,13 +176,11 @@ fn empty_stack(faces: &[u32], index: &[u32], words: &mut [u32], n: usize, hand: 
     ensures { walking.EmptyGives faces.now words.old hand n words.new result }
 {
     let mut now = hand;
-    let mut left = n;
-    while left > 0 {
+    for _turn in 0..n {
         if now.size == 0 {
             return now;
         }
         now = pop(faces, index, words, now);
-        left -= 1;
     }
     now
 }
@@ -213,9 +202,8 @@ fn component(
     let started = Hand {
         top: f as u32,
         size: 1,
-        exchanges: hand.exchanges,
         mark: false,
-        marks: hand.marks,
+        ..hand
     };
     empty_stack(faces, index, words, n, started)
 }
@@ -234,13 +222,7 @@ fn begin(faces: &[u32], index: &[u32], words: &mut [u32], n: usize, f: usize, ha
     }
     let walked = component(faces, index, words, n, f, hand);
     let marks = walked.marks + 1 - one_more(walked.mark);
-    Hand {
-        top: walked.top,
-        size: walked.size,
-        exchanges: walked.exchanges,
-        mark: walked.mark,
-        marks,
-    }
+    Hand { marks, ..walked }
 }
 
 // How many faces stand.
@@ -279,8 +261,8 @@ fn walk_all(faces: &[u32], index: &[u32], words: &mut [u32], n: usize) -> Hand
 fn clean(words: &mut [u32])
     ensures { walking.CleanGives words.old words.new }
 {
-    for f in 0..words.len() {
-        words[f] = words[f] % 4;
+    for word in words.iter_mut() {
+        *word %= 4;
     }
 }
 

@@ -1,12 +1,8 @@
 -- `searched_walk::across` meets its contract. The invariant: the users of the edge among the faces that were passed were met. Assumes nothing.
-use Prim.Native.Nat.{◌+◌, ◌-◌}
+use Prim.Native.Nat.{◌+◌}
 use native.Mathlib.Omega.{arith}
 use Rattle.entry_search.proofs.Counting.{candidate_ok}
 use Rattle.searched_walk.proofs.Meeting.{cross_begin, cross_ask, cross_again, cross_done}
-use Rattle.searched_walk.proofs.across.Reads as reads
-use Rattle.searched_walk.proofs.across.Lts as lts
-use Rattle.face_index.proofs.next_indexed.Reads as next-indexed-reads
-use Rattle.searched_walk.proofs.meet_face.Reads as meet-face-reads
 use Rattle.searched_walk.proofs.across.Goals as goal
 
 -- src/lib.rt:134:9

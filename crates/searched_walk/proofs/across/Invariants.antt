@@ -3,10 +3,6 @@ use Prim.Native.Nat.{◌-◌}
 use lib.ListN.{length}
 use Rattle.rules.specs.Steps.{step}
 use Rattle.searched_walk.proofs.Meeting.{Crossed}
-use Rattle.searched_walk.proofs.across.Reads as reads
-use Rattle.searched_walk.proofs.across.Lts as lts
-use Rattle.face_index.proofs.next_indexed.Reads as next-indexed-reads
-use Rattle.searched_walk.proofs.meet_face.Reads as meet-face-reads
 use Rattle.searched_walk.proofs.across.Given as goal
 
 abbrev pub invariant-loop-g : goal.invariant-loop-g

@@ -1,12 +1,6 @@
 -- `searched_walk::begin` meets its contract: a face that is gone or visited starts nothing. Assumes nothing.
 use native.Mathlib.Omega.{arith}
 use Rattle.searched_walk.proofs.Beginning.{begin_gone, begin_seen, start_ask, mark_bounds, begin_walked}
-use Rattle.searched_walk.proofs.begin.Reads as reads
-use Rattle.searched_walk.proofs.begin.Lts as lts
-use Rattle.face_words.proofs.stands.Reads as stands-reads
-use Rattle.searched_walk.proofs.component.Reads as component-reads
-use Rattle.searched_walk.proofs.one_more.Reads as one-more-reads
-use Rattle.searched_walk.proofs.seen.Reads as seen-reads
 use Rattle.searched_walk.proofs.begin.Goals as goal
 
 -- src/lib.rt:208:9

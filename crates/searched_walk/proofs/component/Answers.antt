@@ -1,9 +1,6 @@
 -- `searched_walk::component` meets its contract: the face is visited and alone on the stack. Assumes nothing.
 use native.Mathlib.Omega.{arith}
 use Rattle.searched_walk.proofs.Beginning.{start_low, start_ready, component_gives}
-use Rattle.searched_walk.proofs.component.Reads as reads
-use Rattle.searched_walk.proofs.component.Lts as lts
-use Rattle.searched_walk.proofs.empty_stack.Reads as empty-stack-reads
 use Rattle.searched_walk.proofs.component.Goals as goal
 
 -- src/lib.rt:191:16

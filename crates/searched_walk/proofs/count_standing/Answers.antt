@@ -1,10 +1,6 @@
 -- `searched_walk::count_standing` meets its contract. The invariant: the faces that were passed and stand are counted. Assumes nothing.
-use Prim.Native.Nat.{◌-◌}
 use native.Mathlib.Omega.{arith}
 use Rattle.searched_walk.proofs.Cleaning.{count_begin, count_few, count_one, count_none, count_done}
-use Rattle.searched_walk.proofs.count_standing.Reads as reads
-use Rattle.searched_walk.proofs.count_standing.Lts as lts
-use Rattle.face_words.proofs.stands.Reads as stands-reads
 use Rattle.searched_walk.proofs.count_standing.Goals as goal
 use Rattle.searched_walk.proofs.count_standing.Goals.{else-stands, then-stands}
 

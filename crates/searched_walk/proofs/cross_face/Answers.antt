@@ -1,9 +1,5 @@
 -- `searched_walk::cross_face` meets its contract: one step after the other. Assumes nothing.
 use Rattle.searched_walk.proofs.Popping.{still_ask, crossed}
-use Rattle.searched_walk.proofs.cross_face.Reads as reads
-use Rattle.searched_walk.proofs.cross_face.Lts as lts
-use Rattle.face_words.proofs.view.Reads as view-reads
-use Rattle.searched_walk.proofs.across.Reads as across-reads
 use Rattle.searched_walk.proofs.cross_face.Goals as goal
 
 -- src/lib.rt:149:9

@@ -4,14 +4,6 @@ use mathlib.Core.Path.{refl}
 use mathlib.Core.Bool.{cond}
 use Rattle.searched_walk.proofs.Noting.{more_most}
 use Rattle.searched_walk.proofs.Visiting.{view_ok, met_seen, bounds, met_new}
-use Rattle.searched_walk.proofs.meet.Reads as reads
-use Rattle.searched_walk.proofs.meet.Lts as lts
-use Rattle.entry_search.proofs.walks.Reads as walks-reads
-use Rattle.face_words.proofs.view.Reads as view-reads
-use Rattle.searched_walk.proofs.one_more.Reads as one-more-reads
-use Rattle.searched_walk.proofs.remark.Reads as remark-reads
-use Rattle.searched_walk.proofs.seen.Reads as seen-reads
-use Rattle.searched_walk.proofs.turn.Reads as turn-reads
 use Rattle.searched_walk.proofs.meet.Goals as goal
 
 -- src/lib.rt:63:38

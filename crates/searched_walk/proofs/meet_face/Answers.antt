@@ -1,12 +1,6 @@
 -- `searched_walk::meet_face` meets its contract: a face that stands and is another is met as often as it uses the edge. Assumes nothing.
 use Rattle.rules.specs.Steps.{step}
 use Rattle.searched_walk.proofs.Meeting.{met_self, met_gone, stand_ask, met_times}
-use Rattle.searched_walk.proofs.meet_face.Reads as reads
-use Rattle.searched_walk.proofs.meet_face.Lts as lts
-use Rattle.entry_search.proofs.uses.Reads as uses-reads
-use Rattle.face_words.proofs.stands.Reads as stands-reads
-use Rattle.face_words.proofs.view.Reads as view-reads
-use Rattle.searched_walk.proofs.meet_times.Reads as meet-times-reads
 use Rattle.searched_walk.proofs.meet_face.Goals as goal
 
 -- src/lib.rt:119:9

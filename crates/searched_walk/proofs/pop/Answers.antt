@@ -1,8 +1,5 @@
 -- `searched_walk::pop` meets its contract: the top face crosses its edges. Assumes nothing.
 use Rattle.searched_walk.proofs.Popping.{top_in, pop_ask, pop_gives}
-use Rattle.searched_walk.proofs.pop.Reads as reads
-use Rattle.searched_walk.proofs.pop.Lts as lts
-use Rattle.searched_walk.proofs.cross_face.Reads as cross-face-reads
 use Rattle.searched_walk.proofs.pop.Goals as goal
 
 -- src/lib.rt:160:14

@@ -24,24 +24,12 @@ pub fn after(i: usize) -> usize
     if i % 3 == 2 { i - 2 } else { i + 1 }
 }
 
-// The first key of an entry whose step goes from x to y.
-fn first_key(directed: bool, x: u32, y: u32) -> u32
-    ensures { result ≡ (under directed (step x y)).from }
+// The two keys of an entry whose step goes from x to y: the ends of the step as it goes, or the lower one first.
+fn ends(directed: bool, x: u32, y: u32) -> (u32, u32)
+    ensures first { result.0 ≡ (under directed (step x y)).from }
+    ensures second { result.1 ≡ (under directed (step x y)).to }
 {
-    if directed {
-        return x;
-    }
-    if x <= y { x } else { y }
-}
-
-// The second key of an entry whose step goes from x to y.
-fn second_key(directed: bool, x: u32, y: u32) -> u32
-    ensures { result ≡ (under directed (step x y)).to }
-{
-    if directed {
-        return y;
-    }
-    if x <= y { y } else { x }
+    if directed || x <= y { (x, y) } else { (y, x) }
 }
 
 // Writes the two keys of entry i, whose step goes from x to y.
@@ -49,8 +37,7 @@ fn put(work: &mut [u32], directed: bool, first: usize, second: usize, i: usize, 
     requires { PutAsks work.old first second i }
     ensures { work.new ≡ put work.old directed first second i (step x y) }
 {
-    let a = first_key(directed, x, y);
-    let b = second_key(directed, x, y);
+    let (a, b) = ends(directed, x, y);
     work[first + i] = a;
     work[second + i] = b;
 }
@@ -60,16 +47,14 @@ fn keys(work: &mut [u32], faces: &[u32], directed: bool, first: usize, second: u
     requires { KeysAsks work.old faces.now first second }
     ensures { KeysGives work.old faces.now directed first second work.new }
 {
-    let n = faces.len();
-    let mut i = 0;
-    while i < n {
+    for f in 0..faces.len() / 3 {
+        let i = 3 * f;
         let x = faces[i];
         let y = faces[i + 1];
         let z = faces[i + 2];
         put(work, directed, first, second, i, x, y);
         put(work, directed, first, second, i + 1, y, z);
         put(work, directed, first, second, i + 2, z, x);
-        i += 3;
     }
 }
 
@@ -103,10 +88,7 @@ fn begins(work: &[u32], n: usize, at: usize, i: usize) -> bool
     }
     let j = work[at + 3 * n + i] as usize;
     let k = work[at + 3 * n + (i - 1)] as usize;
-    if work[at + j] != work[at + k] {
-        return true;
-    }
-    work[at + n + j] != work[at + n + k]
+    work[at + j] != work[at + k] || work[at + n + j] != work[at + n + k]
 }
 
 // Notes place i as the beginning of run m, and returns how many runs have begun then: where none begins at i, the next note is written over this one.
@@ -116,7 +98,7 @@ fn note(work: &mut [u32], n: usize, at: usize, m: usize, i: usize) -> usize
 {
     let b = begins(work, n, at, i);
     work[at + 4 * n + m] = i as u32;
-    if b { m + 1 } else { m }
+    m + usize::from(b)
 }
 
 // Numbers the runs of the n entries in order: writes the run of each entry, and where each run begins. Returns how many runs there are.

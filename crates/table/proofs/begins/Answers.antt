@@ -1,7 +1,7 @@
 -- `table::begins` meets its contract. Past the first place, the first keys and then the second ones decide.
 -- Assumes nothing.
 use mathlib.Core.Path.{◌≡◌, refl}
-use mathlib.Core.Bool.{true, not}
+use mathlib.Core.Bool.{not}
 use mathlib.Core.List.{List}
 use Prim.Native.Nat.{ℕ, zero, suc, ◌+◌, ◌*◌, ◌-◌, ◌≤◌, ◌<◌}
 use native.Mathlib.Omega.{arith}
@@ -29,7 +29,7 @@ compared w n at (suc i) h = let e : suc i - 1 ≡ i = omega arith in rw e
 
 module _ (w : List ℕ) (n at i : ℕ) (h : i ≡ 0 → ⊥) where
   -- the first keys differ
-  first_other : (get_or w (at + entry w n at i) 0 ≡ get_or w (at + entry w n at (i - 1)) 0 → ⊥) → true ≡ begins w n at i
+  first_other : (get_or w (at + entry w n at i) 0 ≡ get_or w (at + entry w n at (i - 1)) 0 → ⊥) → not (eqb (get_or w (at + entry w n at i) 0) (get_or w (at + entry w n at (i - 1)) 0)) ≡ begins w n at i
   unfolding same
   first_other e = rw (compared w n at i h, ne_eqb (get_or w (at + entry w n at i) 0) (get_or w (at + entry w n at (i - 1)) 0) e)
 
@@ -63,27 +63,7 @@ pub bounds-work-at-4 : goal.bounds-work-at-4
 bounds-work-at-4 c = omega (arith, reading c.requires)
 
 pub returns-then-work-at : goal.returns-then-work-at
-returns-then-work-at c = let start = c.before.before.before.before.before.before in
-    first_other start.args.work.now start.args.n start.args.at start.args.i c.if-i-eq0.false c.if-work-at.true
+returns-then-work-at c = first_other c.args.work.now c.args.n c.args.at c.args.i c.if-i-eq0.false c.if-work-at.true
 
-pub overflow_add-result-2 : goal.overflow_add-result-2
-overflow_add-result-2 c = omega (arith, reading c.requires)
-
-pub offset_bounds-work-at-5 : goal.offset_bounds-work-at-5
-offset_bounds-work-at-5 c = omega (arith, reading c.requires)
-
-pub bounds-work-at-5 : goal.bounds-work-at-5
-bounds-work-at-5 c = omega (arith, reading c.requires)
-
-pub overflow_add-result-4 : goal.overflow_add-result-4
-overflow_add-result-4 c = omega (arith, reading c.requires)
-
-pub offset_bounds-work-at-6 : goal.offset_bounds-work-at-6
-offset_bounds-work-at-6 c = omega (arith, reading c.requires)
-
-pub bounds-work-at-6 : goal.bounds-work-at-6
-bounds-work-at-6 c = omega (arith, reading c.requires)
-
-pub returns : goal.returns
-returns c = let start = c.before.before.before.before.before.before.before.before in
-    second_decides start.args.work.now start.args.n start.args.at start.args.i c.if-i-eq0.false c.if-work-at.false
+pub returns-else-work-at : goal.returns-else-work-at
+returns-else-work-at c = second_decides c.args.work.now c.args.n c.args.at c.args.i c.if-i-eq0.false c.if-work-at.false

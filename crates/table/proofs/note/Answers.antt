@@ -1,6 +1,7 @@
 -- `table::note` meets its contract: the store lies behind the beginnings so far. Assumes nothing.
 use mathlib.Core.Path.{◌≡◌, refl, sym, ◌∙◌}
-use mathlib.Core.Bool.{true, false}
+use mathlib.Core.Bool.{Bool, true, false}
+use mir.Val.{bool_byte}
 use mathlib.Core.List.{List, append-nil}
 use Prim.Native.Nat.{ℕ, ◌+◌, ◌*◌, ◌<◌}
 use native.Mathlib.Omega.{arith}
@@ -39,12 +40,10 @@ module _ {w : List ℕ} {n at m i : ℕ} (p : NoteAsks w n at m i) where
   no_more : begins w n at i ≡ false → NoteGives w n at m i noted m
   no_more e = record { only = only_there; number = rw e (omega arith); starts = rw e (earlier ∙ sym (append-nil (part w (at + 4 * n) m))) }
 
-pub returns-then-b : goal.returns-then-b
-returns-then-b c = let at-begins = c.before in
-    let start = at-begins.before.before in
-    one_more start.requires (sym at-begins.begins-b.ensures ∙ c.if-b.true)
+  -- by the test
+  done : (b : Bool) → b ≡ begins w n at i → NoteGives w n at m i noted (m + bool_byte b)
+  done true e = one_more (sym e)
+  done false e = let z : m + 0 ≡ m = omega arith in rw z (no_more (sym e))
 
-pub returns-else-b : goal.returns-else-b
-returns-else-b c = let at-begins = c.before in
-    let start = at-begins.before.before in
-    no_more start.requires (sym at-begins.begins-b.ensures ∙ c.if-b.false)
+pub returns : goal.returns
+returns c = rw c.from.ensures (done c.requires c.begins-b.result c.begins-b.ensures)

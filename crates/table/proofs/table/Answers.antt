@@ -20,7 +20,6 @@ use Rattle.table.specs.Table.{TableAsks, Sorted, OrderGives, TableGives, run_of}
 use Rattle.table.proofs.Frames.{only2_wide}
 use Rattle.table.proofs.Places.{asks_kept, placed, last_start}
 use Rattle.table.proofs.Begun.{table_asks, starts_all, begun}
-use borrow.Author.Rules.{rules}
 use Rattle.table.proofs.table.Goals as goal
 
 module _ {w xs : List ℕ} {P : ℕ} {d : Bool} {at : ℕ} (p₀ : TableAsks w xs P at) {w₁ : List ℕ} (q : OrderGives w xs P d at w₁) where

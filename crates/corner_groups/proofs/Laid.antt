@@ -9,7 +9,7 @@ use native.Mathlib.Numerals.{add-one}
 use native.Mathlib.Decide.{dec_lt}
 use lib.ListN.{length, get_or}
 use lib.Dec.{T, eqb, eqb→eq, eqb_refl}
-use Rattle.rows.specs.Region.{Apart.before, Apart.after, Holds}
+use Rattle.rows.specs.Region.{Apart.before, Holds}
 use Rattle.rules.specs.Mesh.{faces_of}
 use Rattle.rules.specs.Steps.{step, edge, same}
 use Rattle.rules.specs.Groups.{group, leads}
@@ -17,7 +17,7 @@ use Rattle.rule_laws.proofs.Tests.{both_ways}
 use Rattle.rule_laws.proofs.Groups.{Chain, Chain.stay, Chain.link, chain_end, group_chain, chain_group, covered, group_self}
 use Rattle.rule_laws.proofs.Leaders.{leads_le, leads_of, group_trans}
 use Rattle.rules.specs.Lists.{first}
-use Rattle.table.specs.Entries.{step_at, under, keys_of, start_of}
+use Rattle.table.specs.Entries.{step_at, keys_of, start_of}
 use Rattle.table.specs.Table.{Tabled, run_of}
 use Rattle.table.proofs.Places.{start_zero, starts_rise, starts_mono, last_start, id_in, key_at_is, run_number, run_in, placed}
 use Rattle.flood.specs.Plan.{Plan, plan, begins, thing, joins, FloodAsks}

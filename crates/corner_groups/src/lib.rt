@@ -13,32 +13,22 @@
 ghost use Rattle.std.specs.Prelude.{◌≡◌, ◌<◌};
 ghost use Rattle.corner_groups.specs.Sides.{lower_of, higher_of, SideAsks, SidesAsks, SidesGives, ShiftAsks, ShiftGives, CornersAsks, CornersGives};
 
-// The corner at the lower end of step s; corner 0 where both ends are one point, as nothing is joined there.
-fn lower(faces: &[u32], s: usize) -> usize
+// The corners at the lower and at the higher end of step s; corner 0 for each where both ends are one point, as nothing is joined there.
+fn end_corners(faces: &[u32], s: usize) -> (usize, usize)
     requires { SideAsks faces.now s }
-    ensures { result ≡ lower_of faces.now s }
+    ensures lower { result.0 ≡ lower_of faces.now s }
+    ensures higher { result.1 ≡ higher_of faces.now s }
 {
     let t = table::after(s);
     let x = faces[s];
     let y = faces[t];
     if x == y {
-        return 0;
+        (0, 0)
+    } else if x < y {
+        (s, t)
+    } else {
+        (t, s)
     }
-    if x < y { s } else { t }
-}
-
-// The corner at the higher end of step s, or corner 0.
-fn higher(faces: &[u32], s: usize) -> usize
-    requires { SideAsks faces.now s }
-    ensures { result ≡ higher_of faces.now s }
-{
-    let t = table::after(s);
-    let x = faces[s];
-    let y = faces[t];
-    if x == y {
-        return 0;
-    }
-    if x < y { t } else { s }
 }
 
 // Writes the corners at the lower ends of the steps that stand from `from` on, and then those at the higher ends.
@@ -49,8 +39,7 @@ fn sides(work: &mut [u32], faces: &[u32], from: usize, to: usize)
     let n = faces.len();
     for i in 0..n {
         let s = work[from + i] as usize;
-        let a = lower(faces, s);
-        let b = higher(faces, s);
+        let (a, b) = end_corners(faces, s);
         work[to + i] = a as u32;
         work[to + n + i] = b as u32;
     }

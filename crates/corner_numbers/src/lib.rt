@@ -93,9 +93,10 @@ fn alone(work: &[u32], numbers: usize, i: usize) -> u32
 {
     let t = work[numbers + i];
     if t == work[i] {
-        return work[numbers + i + 1];
+        work[numbers + i + 1]
+    } else {
+        t
     }
-    t
 }
 
 // The number that a corner takes.
@@ -104,11 +105,9 @@ pub fn new_corner(work: &[u32], leads: usize, numbers: usize, n: usize, id: usiz
     ensures { result ≡ new_by work.now leads numbers id }
 {
     let i = id / 3 * 3;
-    if work[i] != work[i + 1] {
-        return led(work, leads, numbers, n, id);
+    if work[i] == work[i + 1] && work[i + 1] == work[i + 2] {
+        alone(work, numbers, i)
+    } else {
+        led(work, leads, numbers, n, id)
     }
-    if work[i + 1] != work[i + 2] {
-        return led(work, leads, numbers, n, id);
-    }
-    alone(work, numbers, i)
 }

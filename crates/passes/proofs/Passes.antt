@@ -1,5 +1,5 @@
 -- Passes 1 to 4, each by its option. Assumes nothing.
-use mathlib.Core.Path.{◌≡◌, refl, sym, ap, ap₂, ◌∙◌}
+use mathlib.Core.Path.{◌≡◌, refl, sym, ap, ◌∙◌}
 use mathlib.Core.Bool.{Bool, true, false}
 use mathlib.Core.List.{List}
 use Prim.Native.Nat.{ℕ, ◌+◌, ◌*◌, ◌-◌, ◌/◌, ◌≤◌}
@@ -35,7 +35,7 @@ use Rattle.orient_consistently.specs.Walked as walked
 use Rattle.orient_consistently.specs.Walked.{OrientGives}
 use Rattle.drop_duplicate_faces.specs.Keys as keys
 use Rattle.marking.specs.Marking as marking
-use Rattle.passes.specs.Passing.{Lists, lists, state_in, stated, Stands, PassGives, keeps}
+use Rattle.passes.specs.Passing.{Lists, state_in, stated, Stands, PassGives, keeps}
 use Rattle.passes.proofs.Standing.{corners_inside, inside_corners}
 use Rattle.passes.proofs.Steps.{unchanged, off, points_in, as_many, reads, may, left, stays, step_stays, step_left, step_after}
 

@@ -2,7 +2,7 @@
 use mathlib.Core.Path.{◌≡◌, refl, sym, ap, subst, ◌∙◌}
 use mathlib.Core.Bool.{true, false}
 use mathlib.Core.List.{List, []}
-use Prim.Native.Nat.{ℕ, ◌+◌, ◌*◌, ◌-◌, ◌≤◌, ◌<◌}
+use Prim.Native.Nat.{ℕ, ◌*◌, ◌-◌, ◌≤◌, ◌<◌}
 use native.Mathlib.Omega.{arith}
 use lib.ListN.{length, get_or, take}
 use lib.Ieee.{Float}
@@ -15,7 +15,7 @@ use Rattle.rules.specs.Repair.{optional}
 use Rattle.rules.specs.Rooms.{work_room}
 use Rattle.rules.specs.State.{State, more, vertices_split, points_added, isolated}
 use Rattle.rules.specs.Pass5.{pass5}
-use Rattle.rules.specs.Pass6.{pass6, number}
+use Rattle.rules.specs.Pass6.{pass6}
 use Rattle.rule_laws.proofs.Flat.{points_flat}
 use Rattle.rule_laws.proofs.Relabel.{SameState, pass5_alike}
 use Rattle.rule_laws.proofs.Origins.{pass5_origins, pass6_origins}

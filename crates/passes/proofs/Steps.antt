@@ -19,7 +19,7 @@ use Rattle.rules.specs.Lists.{below, count, leave}
 use Rattle.rules.specs.State.{State, Count, more, counted, with_faces, dropped}
 use Rattle.marking.specs.Marking.{taken}
 use Rattle.passes.specs.declared.Passed.{Passed}
-use Rattle.passes.specs.Passing.{Lists, lists, state_in, stated, Stands, Reach, PassGives, keeps}
+use Rattle.passes.specs.Passing.{all_kept, Lists, lists, state_in, stated, Stands, Reach, PassGives, keeps}
 
 -- an option that is set
 pub bit_set : (k o : ℕ) → o / 2 ^ k % 2 ≡ 1 → bit k o ≡ true
@@ -37,7 +37,7 @@ lowest o = omega arith
 
 -- what a pass leaves that changes nothing
 abbrev pub unchanged : Lists → Passed
-unchanged m = record { points = m.p; faces = m.n; dropped = 0; found = 0; changed = 0 }
+unchanged m = all_kept m.p m.n
 
 -- a pass that is off changes nothing
 pub off :

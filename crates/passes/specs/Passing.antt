@@ -29,6 +29,10 @@ pub record Lists : Type 0 where
 abbrev pub lists : List Float → ℕ → List ℕ → List ℕ → ℕ → List ℕ → Lists
 lists points p faces origins n work = record { points = points; p = p; faces = faces; origins = origins; n = n; work = work }
 
+-- what a pass leaves that changes nothing, of p points and n faces
+abbrev pub all_kept : ℕ → ℕ → Passed
+all_kept p n = record { points = p; faces = n; dropped = 0; found = 0; changed = 0 }
+
 -- the state of the rules that they hold, with a report
 abbrev pub state_in : Lists → List ℕ → State
 state_in m report = record { points = points_of (take (3 * m.p) m.points); faces = carried m.faces m.origins m.n; report = report }

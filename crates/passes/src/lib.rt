@@ -9,17 +9,30 @@ ghost use Rattle.rules.specs.Pass4.{marked4};
 ghost use Rattle.rule_laws.proofs.Once.{Once};
 ghost use Rattle.leaving.specs.Pass.{standing, PassAsks, LeaveGives};
 ghost use Rattle.marking.specs.Marking.{taken};
-ghost use Rattle.passes.specs.Passing.{lists, stated, Stands, StandsLast, Pass1, Pass2, Pass3, Pass4, Pass5, Pass6};
+ghost use Rattle.passes.specs.Passing.{all_kept, lists, stated, Stands, StandsLast, Pass1, Pass2, Pass3, Pass4, Pass5, Pass6};
 
 // What a pass leaves: how many points and faces stand; how many of them left; how many edges, components or vertices it found at fault; how many faces or points it turned or added.
 // Of pass 1, those found repeat a corner and those dropped are thin, and both left.
-#[derive(Drop)]
+#[derive(Clone, Copy, Debug, PartialEq, Eq)]
 pub struct Passed {
     pub points: usize,
     pub faces: usize,
     pub dropped: usize,
     pub found: usize,
     pub changed: usize,
+}
+
+// What a pass that is off leaves: all points and faces.
+fn all_kept(points: usize, faces: usize) -> Passed
+    ensures { result ≡ all_kept points faces }
+{
+    Passed {
+        points,
+        faces,
+        dropped: 0,
+        found: 0,
+        changed: 0,
+    }
 }
 
 // Pass 1, if it is on: degenerate faces leave.
@@ -49,13 +62,7 @@ pub fn pass1(
             changed: 0,
         };
     }
-    Passed {
-        points: p,
-        faces: n,
-        dropped: 0,
-        found: 0,
-        changed: 0,
-    }
+    all_kept(p, n)
 }
 
 // Pass 2, if it is on: of faces with the same three sorted corners the first stays.
@@ -85,13 +92,7 @@ pub fn pass2(
             changed: 0,
         };
     }
-    Passed {
-        points: p,
-        faces: n,
-        dropped: 0,
-        found: 0,
-        changed: 0,
-    }
+    all_kept(p, n)
 }
 
 // Pass 3, if it is on: edges with more than two entries are found, and marked faces leave.
@@ -121,13 +122,7 @@ pub fn pass3(
             changed: 0,
         };
     }
-    Passed {
-        points: p,
-        faces: n,
-        dropped: 0,
-        found: 0,
-        changed: 0,
-    }
+    all_kept(p, n)
 }
 
 // The second half of pass 4, where `single` may say that each directed edge is used at most once: then every face stays. Returns how many do.
@@ -179,13 +174,7 @@ pub fn pass4(
             changed: settled.turned.reoriented,
         };
     }
-    Passed {
-        points: p,
-        faces: n,
-        dropped: 0,
-        found: 0,
-        changed: 0,
-    }
+    all_kept(p, n)
 }
 
 // Pass 5, if it is on: vertices whose faces form several fans are found and split, by points that are added.
@@ -215,13 +204,7 @@ pub fn pass5(
             changed: q - p,
         };
     }
-    Passed {
-        points: p,
-        faces: n,
-        dropped: 0,
-        found: 0,
-        changed: 0,
-    }
+    all_kept(p, n)
 }
 
 // Pass 6, if it is on: unused points leave.
@@ -250,11 +233,5 @@ pub fn pass6(
             changed: 0,
         };
     }
-    Passed {
-        points: p,
-        faces: n,
-        dropped: 0,
-        found: 0,
-        changed: 0,
-    }
+    all_kept(p, n)
 }

@@ -147,9 +147,6 @@ module _ {w xs : List ℕ} {P at : ℕ} (p : CornersAsks w xs P at) {w₁ : List
                 led = record { each = λ i b. let e : at + 9 * length xs + 2 + P + i ≡ labels + i = omega arith in ap (λ u. get_or w₅ u 0) e ∙ led_at i b };
               }
 
-pub table-m-requires : goal.table-m-requires
-table-m-requires c = table_ok c.requires
-
 pub sides-requires : goal.sides-requires
 sides-requires c = let at_table = c.before.before.before in
     let start = at_table.before.before.before.before in
@@ -161,34 +158,12 @@ copy-requires c = let at-sides = c.before.before.before in
     let start = at_table.before.before.before.before in
     copy_ok start.requires at_table.table-m.ensures at-sides.sides.ensures
 
-pub overflow_add-m : goal.overflow_add-m
-overflow_add-m c = let at_copy = c.before.before.before in
-    let at-sides = at_copy.before.before.before.before in
-    let at_table = at-sides.before.before.before.before in
-    let start = at_table.before.before.before.before in
-    omega (arith, fit start.requires at_table.table-m.ensures, runs_in start.requires at_table.table-m.ensures, start.requires.few)
-
-pub overflow_add-starts-2 : goal.overflow_add-starts-2
-overflow_add-starts-2 c = let at_copy = c.before.before.before in
-    let at-sides = at_copy.before.before.before.before in
-    let at_table = at-sides.before.before.before.before in
-    let start = at_table.before.before.before.before in
-    omega (arith, fit start.requires at_table.table-m.ensures, runs_in start.requires at_table.table-m.ensures, start.requires.few)
-
 pub shift-requires : goal.shift-requires
 shift-requires c = let at_copy = c.before.before.before in
     let at-sides = at_copy.before.before.before.before in
     let at_table = at-sides.before.before.before.before in
     let start = at_table.before.before.before.before in
     shift_ok start.requires at_table.table-m.ensures at-sides.sides.ensures at_copy.copy.ensures
-
-pub overflow_mul-m : goal.overflow_mul-m
-overflow_mul-m c = let at-shift = c.before.before.before in
-    let at_copy = at-shift.before.before.before.before in
-    let at-sides = at_copy.before.before.before.before in
-    let at_table = at-sides.before.before.before.before in
-    let start = at_table.before.before.before.before in
-    omega (arith, fit start.requires at_table.table-m.ensures, runs_in start.requires at_table.table-m.ensures, start.requires.few)
 
 pub lead_all-requires : goal.lead_all-requires
 lead_all-requires c = let at-shift = c.before.before.before in

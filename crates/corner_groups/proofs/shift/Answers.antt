@@ -1,7 +1,7 @@
 -- `corner_groups::shift` meets its contract. The invariant: only the first i entries of the destination are changed. Assumes nothing.
 use mathlib.Core.Path.{◌≡◌, ap}
 use mathlib.Core.List.{List}
-use Prim.Native.Nat.{ℕ, ◌+◌, ◌-◌, ◌≤◌, ◌<◌}
+use Prim.Native.Nat.{ℕ, ◌+◌, ◌≤◌, ◌<◌}
 use native.Mathlib.Omega.{arith}
 use lib.ListN.{get_or, set}
 use Rattle.rows.proofs.Regions.{only_none, only_next, only_more, holds_none, holds_next, kept_at}
@@ -33,38 +33,8 @@ done {w₀} {from} {n} {by} {to} {w} {i} p v h =
 pub loop-i-init : goal.loop-i-init
 loop-i-init c = begin c.requires
 
-pub overflow_add-x : goal.overflow_add-x
-overflow_add-x c = omega (arith, turn c.requires c.loop-i.invariant c.loop-i-test.true)
-
-pub offset_bounds-work-from : goal.offset_bounds-work-from
-offset_bounds-work-from c = omega (arith, turn c.requires c.loop-i.invariant c.loop-i-test.true)
-
-pub bounds-work-from : goal.bounds-work-from
-bounds-work-from c = omega (arith, turn c.requires c.loop-i.invariant c.loop-i-test.true)
-
-pub overflow_cast-x : goal.overflow_cast-x
-overflow_cast-x c = omega (arith, turn c.requires c.loop-i.invariant c.loop-i-test.true)
-
-pub overflow_add-work : goal.overflow_add-work
-overflow_add-work c = omega (arith, turn c.requires c.loop-i.invariant c.loop-i-test.true)
-
-pub overflow_cast-work : goal.overflow_cast-work
-overflow_cast-work c = omega (arith, turn c.requires c.loop-i.invariant c.loop-i-test.true)
-
-pub overflow_add-work-in-loop-i : goal.overflow_add-work-in-loop-i
-overflow_add-work-in-loop-i c = omega (arith, turn c.requires c.loop-i.invariant c.loop-i-test.true)
-
-pub offset_bounds-work-to : goal.offset_bounds-work-to
-offset_bounds-work-to c = omega (arith, turn c.requires c.loop-i.invariant c.loop-i-test.true)
-
-pub bounds-work-to : goal.bounds-work-to
-bounds-work-to c = omega (arith, turn c.requires c.loop-i.invariant c.loop-i-test.true)
-
 pub loop-i-preserved : goal.loop-i-preserved
 loop-i-preserved c = again c.requires c.loop-i.invariant c.loop-i-test.true
-
-pub shape_of-work : goal.shape_of-work
-shape_of-work c = c.loop-i.invariant.only.long
 
 pub returns : goal.returns
 returns c = done c.requires c.loop-i.invariant c.loop-i-test.false

@@ -1,6 +1,6 @@
 -- `corner_groups::shift` meets its contract. The invariant: only the first i entries of the destination are changed. Assumes nothing.
 use mathlib.Core.List.{List}
-use Prim.Native.Nat.{ℕ, ◌+◌, ◌-◌, ◌^◌, ◌≤◌, ◌<◌}
+use Prim.Native.Nat.{ℕ, ◌+◌, ◌^◌, ◌≤◌, ◌<◌}
 use lib.ListN.{length, get_or}
 use Rattle.rows.specs.Region.{Only, Holds}
 use Rattle.corner_groups.proofs.shift.Given as goal

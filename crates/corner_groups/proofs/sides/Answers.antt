@@ -1,7 +1,7 @@
 -- `corner_groups::sides` meets its contract. The invariant: both halves hold the corners of the steps passed. Assumes nothing.
 use mathlib.Core.Path.{◌≡◌, ap, ◌∙◌}
 use mathlib.Core.List.{List}
-use Prim.Native.Nat.{ℕ, ◌+◌, ◌-◌, ◌≤◌, ◌<◌}
+use Prim.Native.Nat.{ℕ, ◌+◌, ◌≤◌, ◌<◌}
 use native.Mathlib.Omega.{arith}
 use lib.ListN.{length, get_or, set, length-set}
 use Rattle.rows.specs.Region.{Apart.before, Apart.after, Only}
@@ -49,56 +49,8 @@ done {w₀} {xs} {from} {to} {w} {i} p v h =
 pub loop-i-init : goal.loop-i-init
 loop-i-init c = begin c.requires
 
-pub overflow_add-s : goal.overflow_add-s
-overflow_add-s c = omega (arith, turn c.requires c.loop-i.invariant c.loop-i-test.true)
-
-pub offset_bounds-work-from : goal.offset_bounds-work-from
-offset_bounds-work-from c = omega (arith, turn c.requires c.loop-i.invariant c.loop-i-test.true)
-
-pub bounds-work-from : goal.bounds-work-from
-bounds-work-from c = omega (arith, turn c.requires c.loop-i.invariant c.loop-i-test.true)
-
-pub overflow_cast-s : goal.overflow_cast-s
-overflow_cast-s c = omega (arith, turn c.requires c.loop-i.invariant c.loop-i-test.true)
-
-pub lower-a-requires : goal.lower-a-requires
-lower-a-requires c = side c.requires c.loop-i.invariant c.loop-i-test.true
-
-pub higher-b-requires : goal.higher-b-requires
-higher-b-requires c = side c.requires c.loop-i.invariant c.loop-i-test.true
-
-pub overflow_cast-work : goal.overflow_cast-work
-overflow_cast-work c = omega (arith, turn c.requires c.loop-i.invariant c.loop-i-test.true, c.lower-a.ensures)
-
-pub overflow_add-work : goal.overflow_add-work
-overflow_add-work c = omega (arith, turn c.requires c.loop-i.invariant c.loop-i-test.true)
-
-pub offset_bounds-work-to : goal.offset_bounds-work-to
-offset_bounds-work-to c = omega (arith, turn c.requires c.loop-i.invariant c.loop-i-test.true)
-
-pub bounds-work-to : goal.bounds-work-to
-bounds-work-to c = omega (arith, turn c.requires c.loop-i.invariant c.loop-i-test.true)
-
-pub overflow_cast-work-in-loop-i : goal.overflow_cast-work-in-loop-i
-overflow_cast-work-in-loop-i c = omega (arith, turn c.requires c.loop-i.invariant c.loop-i-test.true, c.higher-b.ensures)
-
-pub overflow_add-work-in-loop-i : goal.overflow_add-work-in-loop-i
-overflow_add-work-in-loop-i c = omega (arith, turn c.requires c.loop-i.invariant c.loop-i-test.true)
-
-pub overflow_add-work-in-loop-i-2 : goal.overflow_add-work-in-loop-i-2
-overflow_add-work-in-loop-i-2 c = omega (arith, turn c.requires c.loop-i.invariant c.loop-i-test.true)
-
-pub offset_bounds-work-to-in-loop-i : goal.offset_bounds-work-to-in-loop-i
-offset_bounds-work-to-in-loop-i c = omega (arith, turn c.requires c.loop-i.invariant c.loop-i-test.true)
-
-pub bounds-work-to-in-loop-i : goal.bounds-work-to-in-loop-i
-bounds-work-to-in-loop-i c = simp length-set (omega (arith, turn c.requires c.loop-i.invariant c.loop-i-test.true))
-
 pub loop-i-preserved : goal.loop-i-preserved
-loop-i-preserved c = again c.requires c.loop-i.invariant c.loop-i-test.true c.lower-a.ensures c.higher-b.ensures
-
-pub shape_of-work : goal.shape_of-work
-shape_of-work c = c.loop-i.invariant.only.long
+loop-i-preserved c = again c.requires c.loop-i.invariant c.loop-i-test.true c.end_corners-a.ensures.lower c.end_corners-a.ensures.higher
 
 pub returns : goal.returns
 returns c = done c.requires c.loop-i.invariant c.loop-i-test.false

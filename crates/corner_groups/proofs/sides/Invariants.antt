@@ -1,6 +1,6 @@
 -- `corner_groups::sides` meets its contract. The invariant: both halves hold the corners of the steps passed. Assumes nothing.
 use mathlib.Core.List.{List}
-use Prim.Native.Nat.{ℕ, ◌+◌, ◌*◌, ◌-◌, ◌^◌, ◌≤◌, ◌<◌}
+use Prim.Native.Nat.{ℕ, ◌+◌, ◌*◌, ◌^◌, ◌≤◌, ◌<◌}
 use lib.ListN.{length, get_or}
 use Rattle.rows.specs.Region.{Only, Holds}
 use Rattle.corner_groups.specs.Sides.{lower_of, higher_of, SideAsks}

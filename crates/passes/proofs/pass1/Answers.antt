@@ -25,4 +25,4 @@ returns-then-options-eq1 c = rw (bit_set 0 c.args.options (lowest c.args.options
     (on1 c.requires c.args.s c.mark-marked.ensures.mark_gives (left_by c.mark-marked.ensures.mark_gives c.leave-left.ensures) c.mark-marked.ensures.found_value)
 
 pub returns : goal.returns
-returns c = rw (bit_clear 0 c.args.options (λ e. c.if-options-eq1.false (sym (lowest c.args.options) ∙ e))) (off1 c.requires c.args.s)
+returns c = rw (c.all_kept.ensures, bit_clear 0 c.args.options (λ e. c.if-options-eq1.false (sym (lowest c.args.options) ∙ e))) (off1 c.requires c.args.s)

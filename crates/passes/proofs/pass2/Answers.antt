@@ -18,4 +18,4 @@ returns-then-options-eq1 c = rw (bit_set 1 c.args.options c.if-options-eq1.true)
     (on2 c.requires c.mark-marked.ensures.mark_gives (left_by c.mark-marked.ensures.mark_gives c.leave-left.ensures))
 
 pub returns : goal.returns
-returns c = rw (bit_clear 1 c.args.options c.if-options-eq1.false) (off2 c.requires)
+returns c = rw (c.all_kept.ensures, bit_clear 1 c.args.options c.if-options-eq1.false) (off2 c.requires)

@@ -22,4 +22,4 @@ returns-then-options-eq1 c = rw (bit_set 2 c.args.options c.if-options-eq1.true)
     (on3 c.requires c.mark-marked.ensures.fact (left_by c.mark-marked.ensures.fact c.leave-left.ensures) c.mark-marked.ensures.found_value)
 
 pub returns : goal.returns
-returns c = rw (bit_clear 2 c.args.options c.if-options-eq1.false) (off3 c.requires)
+returns c = rw (c.all_kept.ensures, bit_clear 2 c.args.options c.if-options-eq1.false) (off3 c.requires)

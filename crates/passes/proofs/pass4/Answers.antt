@@ -24,4 +24,4 @@ pub returns-then-options-eq1 : goal.returns-then-options-eq1
 returns-then-options-eq1 c = rw (bit_set 4 c.args.options c.if-options-eq1.true) (on4 c.requires c.settle-settled.ensures.orient_gives c.drop_collisions-left.ensures.only c.drop_collisions-left.ensures.leave_gives)
 
 pub returns : goal.returns
-returns c = rw (bit_clear 4 c.args.options c.if-options-eq1.false) (off4 c.requires)
+returns c = rw (c.all_kept.ensures, bit_clear 4 c.args.options c.if-options-eq1.false) (off4 c.requires)

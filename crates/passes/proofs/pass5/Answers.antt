@@ -13,4 +13,4 @@ pub returns-then-options-eq1 : goal.returns-then-options-eq1
 returns-then-options-eq1 c = rw (bit_set 3 c.args.options c.if-options-eq1.true) (on5 c.requires c.split_bowtie_vertices-split.ensures)
 
 pub returns : goal.returns
-returns c = rw (bit_clear 3 c.args.options c.if-options-eq1.false) (off5 c.requires)
+returns c = rw (c.all_kept.ensures, bit_clear 3 c.args.options c.if-options-eq1.false) (off5 c.requires)

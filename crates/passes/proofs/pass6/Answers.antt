@@ -14,4 +14,4 @@ pub returns-then-options-eq1 : goal.returns-then-options-eq1
 returns-then-options-eq1 c = rw (bit_set 5 c.args.options c.if-options-eq1.true) (on6 _ c.requires c.drop_isolated_vertices-left.ensures)
 
 pub returns : goal.returns
-returns c = rw (bit_clear 5 c.args.options c.if-options-eq1.false) (off6 _ c.requires)
+returns c = rw (c.all_kept.ensures, bit_clear 5 c.args.options c.if-options-eq1.false) (off6 _ c.requires)

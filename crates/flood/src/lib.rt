@@ -8,7 +8,7 @@ ghost use Rattle.flood.specs.Parents.{OwnAsks, OwnGives, FindAsks, FindGives, Jo
 ghost use Rattle.flood.specs.Uniting.{RunAsks, RunGives, AllAsks, AllGives, UniteGives, NumberAsks, NumberGives};
 ghost use Rattle.flood.specs.Answers.{LabelGives, LeadGives};
 
-// Makes each thing its own parent.
+// Makes each thing its own parent. The loop of `rows::number` again, which takes no 2^32 things.
 fn own_all(work: &mut [u32], labels: usize, things: usize)
     requires { OwnAsks work.old labels things }
     ensures { OwnGives work.old labels things work.new }
@@ -53,13 +53,10 @@ fn join_run(work: &mut [u32], labels: usize, order: usize, from: usize, to: usiz
     requires { RunAsks work.old labels order from to }
     ensures { (q : RunAsks work.old labels order from to) → RunGives q work.new }
 {
-    let mut i = from;
-    while i + 1 < to {
-        let j = i + 1;
-        let x = work[order + i] as usize;
-        let y = work[order + j] as usize;
+    for i in from + 1..to {
+        let x = work[order + (i - 1)] as usize;
+        let y = work[order + i] as usize;
         join(work, labels, x, y);
-        i = j;
     }
 }
 
@@ -68,13 +65,10 @@ fn join_all(work: &mut [u32], runs: usize, starts: usize, order: usize, labels: 
     requires { AllAsks work.old runs starts order labels }
     ensures { (q : AllAsks work.old runs starts order labels) → AllGives q work.new }
 {
-    let mut r = 0;
-    while r < runs {
-        let s = r + 1;
+    for r in 0..runs {
         let from = work[starts + r] as usize;
-        let to = work[starts + s] as usize;
+        let to = work[starts + (r + 1)] as usize;
         join_run(work, labels, order, from, to);
-        r = s;
     }
 }
 

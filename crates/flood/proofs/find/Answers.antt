@@ -3,7 +3,7 @@ use mathlib.Core.Path.{◌≡◌, refl, sym, ap, ◌∙◌}
 use mathlib.Core.List.{List}
 use Prim.Native.Nat.{ℕ, ◌+◌, ◌^◌, ◌≤◌, ◌<◌}
 use native.Mathlib.Omega.{arith}
-use lib.ListN.{length, set, length-set}
+use lib.ListN.{length, set}
 use Rattle.rows.proofs.Regions.{only_none, only_both}
 use Rattle.flood.specs.Parents.{parent, Forest, FindAsks, FindGives}
 use Rattle.flood.proofs.Forests.{put_only, put_forest}
@@ -83,53 +83,17 @@ module _ {w₀ : List ℕ} {labels x : ℕ} {w : List ℕ} {y p : ℕ} (q : Find
   done : p ≡ y → FindGives q w y
   done e = record { only = v.only; forest = v.forest; is_root = sym (v.forest.fixed y is (sym v.here ∙ e)) ∙ v.same }
 
-pub overflow_add-parent : goal.overflow_add-parent
-overflow_add-parent c = omega (arith, start c.requires)
-
 pub offset_bounds-work-labels : goal.offset_bounds-work-labels
 offset_bounds-work-labels c = omega (arith, start c.requires)
 
 pub bounds-work-labels : goal.bounds-work-labels
 bounds-work-labels c = omega (arith, start c.requires)
 
-pub overflow_cast-parent : goal.overflow_cast-parent
-overflow_cast-parent c = omega (arith, start c.requires)
-
 pub loop-parent-init : goal.loop-parent-init
 loop-parent-init c = begin
 
-pub overflow_add-next : goal.overflow_add-next
-overflow_add-next c = omega (arith, turn c.requires c.loop-parent.invariant c.loop-parent-test.true)
-
-pub offset_bounds-work-labels-in-loop-parent : goal.offset_bounds-work-labels-in-loop-parent
-offset_bounds-work-labels-in-loop-parent c = omega (arith, turn c.requires c.loop-parent.invariant c.loop-parent-test.true)
-
-pub bounds-work-labels-in-loop-parent : goal.bounds-work-labels-in-loop-parent
-bounds-work-labels-in-loop-parent c = omega (arith, turn c.requires c.loop-parent.invariant c.loop-parent-test.true)
-
 pub overflow_add-work : goal.overflow_add-work
 overflow_add-work c = omega (arith, turn c.requires c.loop-parent.invariant c.loop-parent-test.true)
-
-pub offset_bounds-work-labels-in-loop-parent-2 : goal.offset_bounds-work-labels-in-loop-parent-2
-offset_bounds-work-labels-in-loop-parent-2 c = omega (arith, turn c.requires c.loop-parent.invariant c.loop-parent-test.true)
-
-pub bounds-work-labels-in-loop-parent-2 : goal.bounds-work-labels-in-loop-parent-2
-bounds-work-labels-in-loop-parent-2 c = omega (arith, turn c.requires c.loop-parent.invariant c.loop-parent-test.true)
-
-pub overflow_cast-y : goal.overflow_cast-y
-overflow_cast-y c = omega (arith, turn c.requires c.loop-parent.invariant c.loop-parent-test.true)
-
-pub overflow_add-parent-in-loop-parent : goal.overflow_add-parent-in-loop-parent
-overflow_add-parent-in-loop-parent c = omega (arith, turn c.requires c.loop-parent.invariant c.loop-parent-test.true)
-
-pub offset_bounds-work-labels-in-loop-parent-3 : goal.offset_bounds-work-labels-in-loop-parent-3
-offset_bounds-work-labels-in-loop-parent-3 c = omega (arith, turn c.requires c.loop-parent.invariant c.loop-parent-test.true)
-
-pub bounds-work-labels-in-loop-parent-3 : goal.bounds-work-labels-in-loop-parent-3
-bounds-work-labels-in-loop-parent-3 c = simp length-set (omega (arith, turn c.requires c.loop-parent.invariant c.loop-parent-test.true))
-
-pub overflow_cast-parent-in-loop-parent : goal.overflow_cast-parent-in-loop-parent
-overflow_cast-parent-in-loop-parent c = omega (arith, turn c.requires c.loop-parent.invariant c.loop-parent-test.true)
 
 pub loop-parent-smaller : goal.loop-parent-smaller
 loop-parent-smaller c = omega (arith, turn c.requires c.loop-parent.invariant c.loop-parent-test.true)

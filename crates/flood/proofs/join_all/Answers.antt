@@ -1,7 +1,7 @@
 -- `flood::join_all` meets its contract: each turn joins the things of one run. Assumes nothing.
 use mathlib.Core.Path.{◌≡◌, refl, sym, ap, ◌∙◌}
 use mathlib.Core.List.{List}
-use Prim.Native.Nat.{ℕ, ◌+◌, ◌-◌, ◌≤◌, ◌<◌}
+use Prim.Native.Nat.{ℕ, ◌+◌, ◌≤◌, ◌<◌}
 use native.Mathlib.Omega.{arith}
 use borrow.Author.Count.{below_more}
 use lib.Dec.{T}
@@ -124,33 +124,6 @@ module _ {w₀ : List ℕ} {runs starts order labels : ℕ} {w : List ℕ} {r : 
 
 pub loop-r-init : goal.loop-r-init
 loop-r-init c = begin
-
-pub overflow_add-s : goal.overflow_add-s
-overflow_add-s c = omega (arith, turn c.requires c.loop-r.invariant c.loop-r-test.true)
-
-pub overflow_add-from : goal.overflow_add-from
-overflow_add-from c = omega (arith, turn c.requires c.loop-r.invariant c.loop-r-test.true)
-
-pub offset_bounds-work-starts : goal.offset_bounds-work-starts
-offset_bounds-work-starts c = omega (arith, turn c.requires c.loop-r.invariant c.loop-r-test.true)
-
-pub bounds-work-starts : goal.bounds-work-starts
-bounds-work-starts c = omega (arith, turn c.requires c.loop-r.invariant c.loop-r-test.true)
-
-pub overflow_cast-from : goal.overflow_cast-from
-overflow_cast-from c = omega (arith, turn c.requires c.loop-r.invariant c.loop-r-test.true)
-
-pub overflow_add-to : goal.overflow_add-to
-overflow_add-to c = omega (arith, turn c.requires c.loop-r.invariant c.loop-r-test.true)
-
-pub offset_bounds-work-starts-in-loop-r : goal.offset_bounds-work-starts-in-loop-r
-offset_bounds-work-starts-in-loop-r c = omega (arith, turn c.requires c.loop-r.invariant c.loop-r-test.true)
-
-pub bounds-work-starts-in-loop-r : goal.bounds-work-starts-in-loop-r
-bounds-work-starts-in-loop-r c = omega (arith, turn c.requires c.loop-r.invariant c.loop-r-test.true)
-
-pub overflow_cast-to : goal.overflow_cast-to
-overflow_cast-to c = omega (arith, turn c.requires c.loop-r.invariant c.loop-r-test.true)
 
 pub join_run-requires : goal.join_run-requires
 join_run-requires c = ask c.requires c.loop-r.invariant c.loop-r-test.true

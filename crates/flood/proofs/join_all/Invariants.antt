@@ -1,7 +1,7 @@
 -- `flood::join_all` meets its contract: each turn joins the things of one run. Assumes nothing.
 use mathlib.Core.Path.{◌≡◌}
 use mathlib.Core.List.{List}
-use Prim.Native.Nat.{ℕ, ◌+◌, ◌-◌, ◌≤◌, ◌<◌}
+use Prim.Native.Nat.{ℕ, ◌+◌, ◌≤◌, ◌<◌}
 use Rattle.rows.specs.Region.{Only}
 use Rattle.flood.specs.Plan.{plan, begins, thing, joins}
 use Rattle.flood.specs.Parents.{Forest}
@@ -20,6 +20,3 @@ pub record Inv {w₀ : List ℕ} {runs starts order labels : ℕ} (q : AllAsks w
 
 abbrev pub invariant-loop-r : goal.invariant-loop-r
 invariant-loop-r l = (q : AllAsks l.initial.work l.runs l.starts l.order l.labels) → Inv q l.work l.r
-
-abbrev pub decreases-loop-r : goal.decreases-loop-r
-decreases-loop-r l = l.runs - l.r

@@ -20,7 +20,4 @@ pub record Inv {w₀ : List ℕ} {labels order from to : ℕ} (q : RunAsks w₀ 
   pub same : (p : ℕ) → p < i → from ≤ p → new (get_or w₀ (order + p) 0) ≡ new (get_or w₀ (order + (p + 1)) 0)
 
 abbrev pub invariant-loop-i : goal.invariant-loop-i
-invariant-loop-i l = (q : RunAsks l.initial.work l.labels l.order l.from l.to) → Inv q l.work l.i
-
-abbrev pub decreases-loop-i : goal.decreases-loop-i
-decreases-loop-i l = l.to - l.i
+invariant-loop-i l = (q : RunAsks l.initial.work l.labels l.order l.from l.to) → Inv q l.work (l.i - 1)

@@ -1,7 +1,7 @@
 -- `flood::number_all` meets its contract: a thing that is its own parent takes the next number, another one the number of its parent. Assumes nothing.
 use mathlib.Core.Path.{◌≡◌, sym, ap, ◌∙◌}
 use mathlib.Core.List.{List}
-use Prim.Native.Nat.{ℕ, suc, ◌+◌, ◌-◌, ◌^◌, ◌≤◌, ◌<◌}
+use Prim.Native.Nat.{ℕ, suc, ◌+◌, ◌^◌, ◌≤◌, ◌<◌}
 use native.Mathlib.Numerals.{add-one}
 use native.Mathlib.Omega.{arith}
 use lib.ListN.{length, set}
@@ -103,17 +103,11 @@ module _ {w₀ : List ℕ} {labels n : ℕ} {w : List ℕ} {c i : ℕ} (q : Numb
 pub loop-i-init : goal.loop-i-init
 loop-i-init c = begin
 
-pub overflow_add-parent : goal.overflow_add-parent
-overflow_add-parent c = omega (arith, turn c.requires c.loop-i.invariant c.loop-i-test.true)
-
 pub offset_bounds-work-labels : goal.offset_bounds-work-labels
 offset_bounds-work-labels c = omega (arith, turn c.requires c.loop-i.invariant c.loop-i-test.true)
 
 pub bounds-work-labels : goal.bounds-work-labels
 bounds-work-labels c = omega (arith, turn c.requires c.loop-i.invariant c.loop-i-test.true)
-
-pub overflow_cast-parent : goal.overflow_cast-parent
-overflow_cast-parent c = omega (arith, turn c.requires c.loop-i.invariant c.loop-i-test.true)
 
 pub overflow_cast-work : goal.overflow_cast-work
 overflow_cast-work c = omega (arith, turn c.requires c.loop-i.invariant c.loop-i-test.true)
@@ -121,32 +115,11 @@ overflow_cast-work c = omega (arith, turn c.requires c.loop-i.invariant c.loop-i
 pub overflow_add-work : goal.overflow_add-work
 overflow_add-work c = omega (arith, turn c.requires c.loop-i.invariant c.loop-i-test.true)
 
-pub offset_bounds-work-labels-then-parent-i : goal.offset_bounds-work-labels-then-parent-i
-offset_bounds-work-labels-then-parent-i c = omega (arith, turn c.requires c.loop-i.invariant c.loop-i-test.true)
-
-pub bounds-work-labels-then-parent-i : goal.bounds-work-labels-then-parent-i
-bounds-work-labels-then-parent-i c = omega (arith, turn c.requires c.loop-i.invariant c.loop-i-test.true)
-
 pub overflow_add-count : goal.overflow_add-count
 overflow_add-count c = omega (arith, turn c.requires c.loop-i.invariant c.loop-i-test.true)
 
-pub overflow_add-work-else-parent-i : goal.overflow_add-work-else-parent-i
-overflow_add-work-else-parent-i c = omega (arith, turn c.requires c.loop-i.invariant c.loop-i-test.true)
-
-pub offset_bounds-work-labels-else-parent-i : goal.offset_bounds-work-labels-else-parent-i
-offset_bounds-work-labels-else-parent-i c = omega (arith, turn c.requires c.loop-i.invariant c.loop-i-test.true)
-
 pub bounds-work-labels-else-parent-i : goal.bounds-work-labels-else-parent-i
 bounds-work-labels-else-parent-i c = omega (arith, turn c.requires c.loop-i.invariant c.loop-i-test.true)
-
-pub overflow_add-work-else-parent-i-2 : goal.overflow_add-work-else-parent-i-2
-overflow_add-work-else-parent-i-2 c = omega (arith, turn c.requires c.loop-i.invariant c.loop-i-test.true)
-
-pub offset_bounds-work-labels-else-parent-i-2 : goal.offset_bounds-work-labels-else-parent-i-2
-offset_bounds-work-labels-else-parent-i-2 c = omega (arith, turn c.requires c.loop-i.invariant c.loop-i-test.true)
-
-pub bounds-work-labels-else-parent-i-2 : goal.bounds-work-labels-else-parent-i-2
-bounds-work-labels-else-parent-i-2 c = omega (arith, turn c.requires c.loop-i.invariant c.loop-i-test.true)
 
 pub loop-i-preserved : goal.loop-i-preserved
 loop-i-preserved c = let t = c.before.before in

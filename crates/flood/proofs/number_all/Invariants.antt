@@ -1,7 +1,7 @@
 -- `flood::number_all` meets its contract: a thing that is its own parent takes the next number, another one the number of its parent. Assumes nothing.
 use mathlib.Core.Path.{◌≡◌}
 use mathlib.Core.List.{List}
-use Prim.Native.Nat.{ℕ, ◌-◌, ◌≤◌}
+use Prim.Native.Nat.{ℕ, ◌≤◌}
 use Rattle.rows.specs.Region.{Only, Holds}
 use Rattle.rules.specs.Lists.{below, count}
 use Rattle.rules.specs.Groups.{leads}

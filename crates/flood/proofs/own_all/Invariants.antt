@@ -1,6 +1,6 @@
 -- `flood::own_all` meets its contract. Assumes nothing.
 use mathlib.Core.List.{List}
-use Prim.Native.Nat.{ℕ, ◌-◌, ◌≤◌}
+use Prim.Native.Nat.{ℕ, ◌≤◌}
 use Rattle.rows.specs.Region.{Only, Holds}
 use Rattle.flood.proofs.own_all.Given as goal
 

@@ -1,7 +1,7 @@
 -- `flood::point_all` meets its contract: the parent of a thing comes no later, so its root stands there already. Assumes nothing.
 use mathlib.Core.Path.{◌≡◌, sym, ap, ◌∙◌}
 use mathlib.Core.List.{List}
-use Prim.Native.Nat.{ℕ, ◌+◌, ◌-◌, ◌^◌, ◌≤◌, ◌<◌}
+use Prim.Native.Nat.{ℕ, ◌+◌, ◌^◌, ◌≤◌, ◌<◌}
 use native.Mathlib.Omega.{arith}
 use native.Mathlib.Decide.{ℕ_discrete}
 use lib.ListN.{length, set}
@@ -54,35 +54,17 @@ module _ {w₀ : List ℕ} {labels n : ℕ} {w : List ℕ} {i : ℕ} (q : PointA
 pub loop-i-init : goal.loop-i-init
 loop-i-init c = begin
 
-pub overflow_add-earlier : goal.overflow_add-earlier
-overflow_add-earlier c = omega (arith, turn c.requires c.loop-i.invariant c.loop-i-test.true)
-
 pub offset_bounds-work-labels : goal.offset_bounds-work-labels
 offset_bounds-work-labels c = omega (arith, turn c.requires c.loop-i.invariant c.loop-i-test.true)
 
 pub bounds-work-labels : goal.bounds-work-labels
 bounds-work-labels c = omega (arith, turn c.requires c.loop-i.invariant c.loop-i-test.true)
 
-pub overflow_cast-earlier : goal.overflow_cast-earlier
-overflow_cast-earlier c = omega (arith, turn c.requires c.loop-i.invariant c.loop-i-test.true)
-
 pub overflow_add-work : goal.overflow_add-work
 overflow_add-work c = omega (arith, turn c.requires c.loop-i.invariant c.loop-i-test.true)
 
-pub offset_bounds-work-labels-in-loop-i : goal.offset_bounds-work-labels-in-loop-i
-offset_bounds-work-labels-in-loop-i c = omega (arith, turn c.requires c.loop-i.invariant c.loop-i-test.true)
-
 pub bounds-work-labels-in-loop-i : goal.bounds-work-labels-in-loop-i
 bounds-work-labels-in-loop-i c = omega (arith, turn c.requires c.loop-i.invariant c.loop-i-test.true)
-
-pub overflow_add-work-in-loop-i : goal.overflow_add-work-in-loop-i
-overflow_add-work-in-loop-i c = omega (arith, turn c.requires c.loop-i.invariant c.loop-i-test.true)
-
-pub offset_bounds-work-labels-in-loop-i-2 : goal.offset_bounds-work-labels-in-loop-i-2
-offset_bounds-work-labels-in-loop-i-2 c = omega (arith, turn c.requires c.loop-i.invariant c.loop-i-test.true)
-
-pub bounds-work-labels-in-loop-i-2 : goal.bounds-work-labels-in-loop-i-2
-bounds-work-labels-in-loop-i-2 c = omega (arith, turn c.requires c.loop-i.invariant c.loop-i-test.true)
 
 pub loop-i-preserved : goal.loop-i-preserved
 loop-i-preserved c = λ q. again q c.loop-i.invariant c.loop-i-test.true

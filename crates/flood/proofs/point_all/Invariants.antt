@@ -1,6 +1,6 @@
 -- `flood::point_all` meets its contract: the parent of a thing comes no later, so its root stands there already. Assumes nothing.
 use mathlib.Core.List.{List}
-use Prim.Native.Nat.{ℕ, ◌-◌, ◌≤◌}
+use Prim.Native.Nat.{ℕ, ◌≤◌}
 use Rattle.rows.specs.Region.{Only, Holds}
 use Rattle.flood.specs.Parents.{PointAsks}
 use Rattle.flood.proofs.point_all.Given as goal

@@ -16,9 +16,6 @@ offset_bounds-work-starts c = omega (arith, bounds c.requires c.loop-r.invariant
 pub bounds-work-starts : goal.bounds-work-starts
 bounds-work-starts c = omega (arith, bounds c.requires c.loop-r.invariant c.loop-r-test.true)
 
-pub overflow_cast-from : goal.overflow_cast-from
-overflow_cast-from c = omega (arith, bounds c.requires c.loop-r.invariant c.loop-r-test.true)
-
 pub overflow_add-to : goal.overflow_add-to
 overflow_add-to c = omega (arith, bounds c.requires c.loop-r.invariant c.loop-r-test.true)
 
@@ -31,44 +28,20 @@ offset_bounds-work-starts-in-loop-r c = omega (arith, bounds c.requires c.loop-r
 pub bounds-work-starts-in-loop-r : goal.bounds-work-starts-in-loop-r
 bounds-work-starts-in-loop-r c = omega (arith, bounds c.requires c.loop-r.invariant c.loop-r-test.true)
 
-pub overflow_cast-to : goal.overflow_cast-to
-overflow_cast-to c = omega (arith, bounds c.requires c.loop-r.invariant c.loop-r-test.true)
-
 pub overflow_sub-to : goal.overflow_sub-to
 overflow_sub-to c = omega (arith, bounds c.requires c.loop-r.invariant c.loop-r-test.true)
-
-pub overflow_add-id : goal.overflow_add-id
-overflow_add-id c = omega (arith, bounds c.requires c.loop-r.invariant c.loop-r-test.true)
-
-pub offset_bounds-work-order : goal.offset_bounds-work-order
-offset_bounds-work-order c = omega (arith, bounds c.requires c.loop-r.invariant c.loop-r-test.true)
 
 pub bounds-work-order : goal.bounds-work-order
 bounds-work-order c = omega (arith, bounds c.requires c.loop-r.invariant c.loop-r-test.true)
 
-pub overflow_cast-id : goal.overflow_cast-id
-overflow_cast-id c = omega (arith, bounds c.requires c.loop-r.invariant c.loop-r-test.true)
-
 pub after-j-requires : goal.after-j-requires
 after-j-requires c = omega (arith, bounds c.requires c.loop-r.invariant c.loop-r-test.true)
-
-pub offset_bounds-faces-id : goal.offset_bounds-faces-id
-offset_bounds-faces-id c = omega (arith, turn c.requires c.loop-r.invariant c.loop-r-test.true c.after-j.ensures)
 
 pub bounds-faces-id : goal.bounds-faces-id
 bounds-faces-id c = omega (arith, turn c.requires c.loop-r.invariant c.loop-r-test.true c.after-j.ensures)
 
-pub overflow_cast-faces : goal.overflow_cast-faces
-overflow_cast-faces c = omega (arith, add_asks c.requires c.loop-r.invariant c.loop-r-test.true c.after-j.ensures)
-
-pub offset_bounds-faces-j : goal.offset_bounds-faces-j
-offset_bounds-faces-j c = omega (arith, turn c.requires c.loop-r.invariant c.loop-r-test.true c.after-j.ensures)
-
 pub bounds-faces-j : goal.bounds-faces-j
 bounds-faces-j c = omega (arith, turn c.requires c.loop-r.invariant c.loop-r-test.true c.after-j.ensures)
-
-pub overflow_cast-faces-then-to-from-eq1 : goal.overflow_cast-faces-then-to-from-eq1
-overflow_cast-faces-then-to-from-eq1 c = omega (arith, add_asks c.requires c.loop-r.invariant c.loop-r-test.true c.after-j.ensures)
 
 pub add-requires : goal.add-requires
 add-requires c = add_asks c.requires c.loop-r.invariant c.loop-r-test.true c.after-j.ensures

@@ -7,18 +7,6 @@ use Rattle.listing.proofs.put_edges.Goals as goal
 pub loop-r-init : goal.loop-r-init
 loop-r-init c = begin c.requires
 
-pub overflow_mul-id : goal.overflow_mul-id
-overflow_mul-id c = omega (arith, turn c.requires c.loop-r.invariant c.loop-r-test.true)
-
-pub overflow_add-id : goal.overflow_add-id
-overflow_add-id c = omega (arith, turn c.requires c.loop-r.invariant c.loop-r-test.true)
-
-pub overflow_mul-id-in-loop-r : goal.overflow_mul-id-in-loop-r
-overflow_mul-id-in-loop-r c = omega (arith, turn c.requires c.loop-r.invariant c.loop-r-test.true)
-
-pub overflow_add-id-in-loop-r : goal.overflow_add-id-in-loop-r
-overflow_add-id-in-loop-r c = omega (arith, turn c.requires c.loop-r.invariant c.loop-r-test.true)
-
 pub overflow_add-id-in-loop-r-2 : goal.overflow_add-id-in-loop-r-2
 overflow_add-id-in-loop-r-2 c = omega (arith, turn c.requires c.loop-r.invariant c.loop-r-test.true)
 
@@ -28,26 +16,8 @@ offset_bounds-work-at c = omega (arith, turn c.requires c.loop-r.invariant c.loo
 pub bounds-work-at : goal.bounds-work-at
 bounds-work-at c = omega (arith, turn c.requires c.loop-r.invariant c.loop-r-test.true)
 
-pub overflow_cast-id : goal.overflow_cast-id
-overflow_cast-id c = omega (arith, turn c.requires c.loop-r.invariant c.loop-r-test.true)
-
-pub overflow_add-id-in-loop-r-3 : goal.overflow_add-id-in-loop-r-3
-overflow_add-id-in-loop-r-3 c = omega (arith, turn c.requires c.loop-r.invariant c.loop-r-test.true)
-
-pub offset_bounds-work-at-in-loop-r : goal.offset_bounds-work-at-in-loop-r
-offset_bounds-work-at-in-loop-r c = omega (arith, turn c.requires c.loop-r.invariant c.loop-r-test.true)
-
 pub bounds-work-at-in-loop-r : goal.bounds-work-at-in-loop-r
 bounds-work-at-in-loop-r c = omega (arith, turn c.requires c.loop-r.invariant c.loop-r-test.true)
-
-pub overflow_cast-id-in-loop-r : goal.overflow_cast-id-in-loop-r
-overflow_cast-id-in-loop-r c = omega (arith, turn c.requires c.loop-r.invariant c.loop-r-test.true)
-
-pub overflow_add-edges : goal.overflow_add-edges
-overflow_add-edges c = omega (arith, turn c.requires c.loop-r.invariant c.loop-r-test.true)
-
-pub offset_bounds-work-at-in-loop-r-2 : goal.offset_bounds-work-at-in-loop-r-2
-offset_bounds-work-at-in-loop-r-2 c = omega (arith, turn c.requires c.loop-r.invariant c.loop-r-test.true)
 
 pub bounds-work-at-in-loop-r-2 : goal.bounds-work-at-in-loop-r-2
 bounds-work-at-in-loop-r-2 c = omega (arith, turn c.requires c.loop-r.invariant c.loop-r-test.true)
@@ -60,15 +30,6 @@ offset_bounds-edges-r c = omega (arith, turn c.requires c.loop-r.invariant c.loo
 
 pub bounds-edges-r : goal.bounds-edges-r
 bounds-edges-r c = omega (arith, turn c.requires c.loop-r.invariant c.loop-r-test.true)
-
-pub overflow_add-edges-in-loop-r : goal.overflow_add-edges-in-loop-r
-overflow_add-edges-in-loop-r c = omega (arith, turn c.requires c.loop-r.invariant c.loop-r-test.true)
-
-pub overflow_add-edges-in-loop-r-2 : goal.overflow_add-edges-in-loop-r-2
-overflow_add-edges-in-loop-r-2 c = omega (arith, turn c.requires c.loop-r.invariant c.loop-r-test.true)
-
-pub offset_bounds-work-at-in-loop-r-3 : goal.offset_bounds-work-at-in-loop-r-3
-offset_bounds-work-at-in-loop-r-3 c = omega (arith, turn c.requires c.loop-r.invariant c.loop-r-test.true)
 
 pub bounds-work-at-in-loop-r-3 : goal.bounds-work-at-in-loop-r-3
 bounds-work-at-in-loop-r-3 c = omega (arith, turn c.requires c.loop-r.invariant c.loop-r-test.true)

@@ -1,18 +1,16 @@
 -- One mesh behind others: its parts are lent and come back, so each list has grown by what it contributes. Assumes nothing.
 use mathlib.Core.Path.{◌≡◌, refl, sym, ap, ◌∙◌}
-use mathlib.Core.List.{List, [], ◌∷◌, ◌++◌}
-use Prim.Native.Nat.{ℕ, ◌+◌, ◌-◌, ◌*◌, ◌/◌, ◌^◌, ◌≤◌, ◌<◌}
+use mathlib.Core.List.{List, ◌++◌}
+use Prim.Native.Nat.{ℕ, ◌+◌, ◌-◌, ◌*◌, ◌/◌, ◌≤◌, ◌<◌}
 use native.Mathlib.Omega.{arith}
 use lib.Ieee.{Float, nan}
 use lib.ListN.{length, get_or, take, drop, get_or-eq_default}
 use lib.Seq.{length-take-le, take-take, take-append-add}
-use Rattle.rows.specs.Region.{part, OnlyOf, Only, Out, Out.below, Out.above}
+use Rattle.rows.specs.Region.{part, OnlyOf, Out, Out.below, Out.above}
 use Rattle.rows.proofs.Regions.{length_part}
 use Rattle.rows.proofs.Splicing.{front_back, only_back}
 use Rattle.rules.specs.State.{report_counts}
-use Rattle.rules.specs.Rooms.{work_room, Outcome}
-use Rattle.rules.specs.RepairCall.{RepairRooms}
-use Rattle.rules.specs.PanelCall.{one_call, its_points, its_faces, its_counts, its_origins, four}
+use Rattle.rules.specs.PanelCall.{one_call}
 use Rattle.panel_laws.proofs.Alone.{Shares, one_shares}
 use Rattle.panel_laws.proofs.Packing.{length_four}
 use Rattle.mend_mesh.specs.declared.Share.{Share}

@@ -1,7 +1,7 @@
 -- One mesh in its parts of the rooms: what its repair leaves there is what it contributes. Assumes nothing.
 use mathlib.Core.Path.{◌≡◌, refl, sym, ap, subst, ◌∙◌}
 use mathlib.Core.List.{List, [], ◌∷◌, ◌++◌}
-use Prim.Native.Nat.{ℕ, ◌+◌, ◌-◌, ◌*◌, ◌/◌, ◌^◌, ◌≤◌, ◌<◌}
+use Prim.Native.Nat.{ℕ, ◌+◌, ◌-◌, ◌/◌, ◌^◌, ◌≤◌, ◌<◌}
 use native.Mathlib.Omega.{arith}
 use lib.Ieee.{Float}
 use lib.ListN.{length, get_or, take, drop, replicate, length-append, length-drop, length-replicate}
@@ -10,17 +10,20 @@ use Rattle.rows.specs.Region.{Only, Out, Out.below, Out.above}
 use Rattle.rows.proofs.Regions.{only_none}
 use Rattle.rules.specs.State.{report_counts}
 use Rattle.rules.specs.Refusal.{Check, ok, no}
-use Rattle.rules.specs.Rooms.{work_room, filled, cleared, Answer, accepted, refused, Outcome, outcome}
+use Rattle.rules.specs.Rooms.{work_room, filled, cleared, Answer, accepted, refused, outcome}
 use Rattle.rules.specs.RepairCall.{RepairRooms, repair_check, repair}
 use Rattle.rules.specs.PanelCall.{one_call, shared, its_points, its_faces, its_counts, its_origins, four}
 use Rattle.rule_laws.proofs.Called.{outcome_ok}
-use Rattle.repair.specs.declared.Repaired.TheVariants.{Done, Refused}
+use Rattle.std.specs.Prelude.{Ok, Err}
+use Rattle.refuse.specs.Verdicts.{number_of, place_of}
+use Rattle.refuse.specs.declared.Refusal.{Refusal}
+use Rattle.repair.specs.declared.Repaired.{Repaired}
 use Rattle.repair.specs.Answers.{rooms_of, outcome_of}
 use Rattle.repair_refusal.specs.Checks.{RepairAccepted}
 use Rattle.repair_refusal.proofs.Accept.{repair_is, repair_accepted}
 use Rattle.place_laws.proofs.Outcomes.{repair_place}
-use Rattle.panel_laws.proofs.Alone.{LongEnough, same_answer, same_points, same_faces, same_counts, same_origins, Shares, one_shares, Measured, one_measured}
-use Rattle.mend_mesh.specs.Meshes.{OneAsks, OneGives, Stands}
+use Rattle.panel_laws.proofs.Alone.{LongEnough, same_answer, same_points, same_faces, same_counts, same_origins, one_shares, Measured, one_measured}
+use Rattle.mend_mesh.specs.Meshes.{OneAsks, OneGives}
 
 -- a cleared room is changed only as far as it is cleared
 pub cleared_only : (n : ℕ) (w : List ℕ) → n ≤ length w → Only 0 n w (cleared n w)
@@ -70,14 +73,14 @@ module _ (points : List Float) (faces : List ℕ) (s : Float) (o : ℕ) (ps : Li
   module _ {ps' : List Float} {xs' rs' os' w' : List ℕ} where
     -- ---- mended
 
-    module _ {i j n : ℕ} (e : outcome_of (Done i j n) ps' xs' rs' os' w' ≡ repair points faces s o (rooms_of ps xs rs os w)) where
+    module _ {d : Repaired} (e : outcome_of (Ok d) ps' xs' rs' os' w' ≡ repair points faces s o (rooms_of ps xs rs os w)) where
       -- the answer of its own call
-      answered : (one_call s o points faces).answer ≡ accepted (i ∷ j ∷ report_counts ∷ n ∷ [])
+      answered : (one_call s o points faces).answer ≡ accepted (d.points ∷ d.faces ∷ report_counts ∷ d.origins ∷ [])
       answered = sym (ap (λ q. q.answer) e ∙ same_answer points faces s o (rooms_of ps xs rs os w) long)
 
       -- how long its parts are
-      measured : Measured i j report_counts n (one_call s o points faces)
-      measured = one_measured points faces s o i j report_counts n answered
+      measured : Measured d.points d.faces report_counts d.origins (one_call s o points faces)
+      measured = one_measured points faces s o d.points d.faces report_counts d.origins answered
 
       -- P and F are not too large
       inside : RepairAccepted points faces o (length ps) (length xs) (length rs) (length os) (length w)
@@ -88,17 +91,17 @@ module _ (points : List Float) (faces : List ℕ) (s : Float) (o : ℕ) (ps : Li
           ∙ (outcome_ok (repair_check points faces s o (rooms_of ps xs rs os w)) _ _ _ _ (sym (ap (λ q. q.answer) e))).0)
 
       -- its numbers of points and faces have 32 bits
-      pub few_points : i / 3 < 2 ^ 32
+      pub few_points : d.points / 3 < 2 ^ 32
       few_points = let m = measured in let q = one_shares points faces s o in omega (arith, m.points_long, q.points_fit, inside.input.faces_fine.points, inside.input.faces_fine.few)
 
-      pub few_faces : j / 3 < 2 ^ 32
+      pub few_faces : d.faces / 3 < 2 ^ 32
       few_faces = let m = measured in let q = one_shares points faces s o in omega (arith, m.faces_long, q.faces_fit, inside.input.faces_fine.few)
 
       -- it contributes what stands there
       pub mended :
-          {fours' : List ℕ} → take 4 fours' ≡ 0 ∷ 0 ∷ i / 3 ∷ j / 3 ∷ []
+          {fours' : List ℕ} → take 4 fours' ≡ 0 ∷ 0 ∷ d.points / 3 ∷ d.faces / 3 ∷ []
           → OneGives (one_call s o points faces) (length points / 3) (length faces / 3) w ps' xs' rs' os' fours' w'
-          (record { points = i; faces = j; counts = report_counts; origins = n })
+          (record { points = d.points; faces = d.faces; counts = report_counts; origins = d.origins })
       unfolding its_points its_faces its_counts its_origins shared four
       mended t =
           let m = measured in
@@ -115,14 +118,14 @@ module _ (points : List Float) (faces : List ℕ) (s : Float) (o : ℕ) (ps : Li
 
     -- ---- refused
 
-    module _ {n p : ℕ} (e : outcome_of (Refused n p) ps' xs' rs' os' w' ≡ repair points faces s o (rooms_of ps xs rs os w)) where
+    module _ (f : Refusal) (e : outcome_of (Err f) ps' xs' rs' os' w' ≡ repair points faces s o (rooms_of ps xs rs os w)) where
       -- its place has 32 bits
-      pub near : p < 2 ^ 32
+      pub near : place_of f < 2 ^ 32
       near = repair_place points faces s o (rooms_of ps xs rs os w) e
 
       -- it contributes nothing but its number and place
       pub turned_away :
-          {fours' : List ℕ} → take 4 fours' ≡ n ∷ p ∷ 0 ∷ 0 ∷ []
+          {fours' : List ℕ} → take 4 fours' ≡ number_of f ∷ place_of f ∷ 0 ∷ 0 ∷ []
           → OneGives (one_call s o points faces) (length points / 3) (length faces / 3) w ps' xs' rs' os' fours' w'
           (record { points = 0; faces = 0; counts = 0; origins = 0 })
       unfolding its_points its_faces its_counts its_origins shared four
@@ -138,5 +141,5 @@ module _ (points : List Float) (faces : List ℕ) (s : Float) (o : ℕ) (ps : Li
             counts = record { long = ap length c; front = c };
             origins = record { long = ap length d; front = d };
             fours = t ∙ ap four (ap (λ q. q.answer) e ∙ same_answer points faces s o r long);
-            only_work = rw (ap (λ q. q.rooms.work) e ∙ work_kept points faces s o r n p (sym (ap (λ q. q.answer) e))) (only_none 0 (work_room (length points / 3) (length faces / 3)) w);
+            only_work = rw (ap (λ q. q.rooms.work) e ∙ work_kept points faces s o r (number_of f) (place_of f) (sym (ap (λ q. q.answer) e))) (only_none 0 (work_room (length points / 3) (length faces / 3)) w);
           }

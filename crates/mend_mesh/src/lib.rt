@@ -6,10 +6,8 @@ ghost use Rattle.rows.specs.Region.{part};
 ghost use Rattle.rules.specs.PanelCall as rule;
 ghost use Rattle.mend_mesh.specs.Meshes.{OneAsks, OneGives, NextAsks, NextGives};
 
-use repair::Repaired;
-
 // How many entries a mesh contributes to the rooms of points, faces, reports and origins.
-#[derive(Drop)]
+#[derive(Clone, Copy, Debug, PartialEq, Eq)]
 pub struct Share {
     pub points: usize,
     pub faces: usize,
@@ -18,7 +16,7 @@ pub struct Share {
 }
 
 // Where the next mesh begins: in the points and faces that are given, and in those four rooms.
-#[derive(Drop)]
+#[derive(Clone, Copy, Debug, PartialEq, Eq)]
 pub struct At {
     pub points: usize,
     pub faces: usize,
@@ -59,17 +57,23 @@ fn mend_one(
     match repair::repair(
         points, faces, s, options, out_points, out_faces, report, origins, work,
     ) {
-        Repaired::Done(a, b, n) => {
-            put_four(four, 0, 0, (a / 3) as u32, (b / 3) as u32);
+        Ok(mended) => {
+            put_four(
+                four,
+                0,
+                0,
+                (mended.points / 3) as u32,
+                (mended.faces / 3) as u32,
+            );
             Share {
-                points: a,
-                faces: b,
+                points: mended.points,
+                faces: mended.faces,
                 counts: rules::COUNTS,
-                origins: n,
+                origins: mended.origins,
             }
         }
-        Repaired::Refused(number, place) => {
-            put_four(four, number, place as u32, 0, 0);
+        Err(refusal) => {
+            put_four(four, refusal.number(), refusal.place() as u32, 0, 0);
             Share {
                 points: 0,
                 faces: 0,

@@ -11,19 +11,17 @@ use Rattle.filling.proofs.Filling.{filled_in, filled_whole, cleared_is}
 use Rattle.rules.specs.Lists.{each}
 use Rattle.rules.specs.Mesh.{zero64}
 use Rattle.rules.specs.State.{report_counts}
-use Rattle.rules.specs.Refusal.{decided}
+use Rattle.rules.specs.Refusal.{Check, ok, no, decided}
 use Rattle.rules.specs.Rooms.{filled, cleared, Outcome, outcome, accepted}
 use Rattle.rules.specs.RepairCall.{RepairRooms}
-use Rattle.rules.specs.PanelCall.{most_meshes, total, largest, own_calls, its_points, its_faces, its_counts, its_origins, four, PanelRooms, panel_check, repair_panel}
-use Rattle.refuse.specs.Verdicts.{check_of}
-use Rattle.refuse.specs.declared.Verdict.{Verdict}
-use Rattle.refuse.specs.declared.Verdict.TheVariants.{Fine, Refused}
-use Rattle.panel_refusal.specs.Checks.{panel_list, Rows, PanelAccepted}
+use Rattle.rules.specs.PanelCall.{total, largest, own_calls, its_points, its_faces, its_counts, its_origins, four, PanelRooms, repair_panel}
+use Rattle.std.specs.Prelude.{Ok, Err}
+use Rattle.refuse.specs.Verdicts.{number_of, place_of}
+use Rattle.refuse.specs.declared.Refusal.{Refusal}
+use Rattle.panel_refusal.specs.Checks.{panel_list, PanelAccepted}
 use Rattle.panel_refusal.proofs.Accept.{panel_is, panel_accepted}
-use Rattle.panel_laws.proofs.Packing.{AllShare, own_calls_share, length_own_calls, length_fours}
-use Rattle.mend_mesh.specs.Meshes.{Grown}
+use Rattle.panel_laws.proofs.Packing.{own_calls_share}
 use Rattle.mend_mesh.specs.declared.At.{At}
-use Rattle.repair_panel.specs.declared.Packed.TheVariants as packed-as
 use Rattle.repair_panel.specs.Answers.{rooms_of, outcome_of}
 use Rattle.repair_panel.specs.Packs.{AllGives}
 
@@ -44,8 +42,7 @@ pub record Sizes (P F M work a b c d out_points out_faces report origins work_lo
   pub origins_room : d + (F - d) ≤ origins
   pub work_room : 0 + work ≤ work_long
 
-module _ (points : List Float) (faces pc fc : List ℕ) (s : Float) (o : ℕ) (ps : List Float) (xs rs os ms w : List ℕ) (v : Verdict)
-    (e : check_of v ≡ decided (panel_list (length points) (length faces) pc fc s o (length ps) (length xs) (length rs) (length os) (length ms) (length w))) where
+module _ (points : List Float) (faces pc fc : List ℕ) (s : Float) (o : ℕ) (ps : List Float) (xs rs os ms w : List ℕ) where
   -- what the meshes contribute
   abbrev calls : List (Outcome RepairRooms)
   calls = own_calls s o pc fc points faces
@@ -70,19 +67,19 @@ module _ (points : List Float) (faces pc fc : List ℕ) (s : Float) (o : ℕ) (p
         work = cleared (largest pc fc) w;
       }
 
-  -- the rules' check is the verdict
-  verdict_is : check_of v ≡ panel_check points faces pc fc s o (rooms_of ps xs rs os ms w)
-  verdict_is = e ∙ panel_is points faces pc fc s o (rooms_of ps xs rs os ms w)
+  -- the checks at the lengths of the rooms
+  abbrev checks : List Check
+  checks = panel_list (length points) (length faces) pc fc s o (length ps) (length xs) (length rs) (length os) (length ms) (length w)
 
   -- a refusal changes no buffer
-  pub is_refused : (n p : ℕ) → v ≡ Refused n p → outcome_of (packed-as.Refused n p) ps xs rs os ms w ≡ repair_panel points faces pc fc s o (rooms_of ps xs rs os ms w)
+  pub is_refused : (r : Refusal) → no (number_of r) (place_of r) ≡ decided checks → outcome_of (Err r) ps xs rs os ms w ≡ repair_panel points faces pc fc s o (rooms_of ps xs rs os ms w)
   unfolding repair_panel outcome
-  is_refused n p t = ap (λ c. outcome c (rooms_of ps xs rs os ms w) entries after) (sym (ap check_of t) ∙ verdict_is)
+  is_refused r e = ap (λ c. outcome c (rooms_of ps xs rs os ms w) entries after) (e ∙ panel_is points faces pc fc s o (rooms_of ps xs rs os ms w))
 
-  module _ (t : v ≡ Fine) where
+  module _ (e : ok ≡ decided checks) where
     -- what an accepted call may start from
     pub is_accepted : PanelAccepted (length points) (length faces) pc fc (length ps) (length xs) (length rs) (length os) (length ms) (length w)
-    is_accepted = panel_accepted (length points) (length faces) pc fc s o (length ps) (length xs) (length rs) (length os) (length ms) (length w) (sym e ∙ ap check_of t)
+    is_accepted = panel_accepted (length points) (length faces) pc fc s o (length ps) (length xs) (length rs) (length os) (length ms) (length w) (sym e)
 
     -- P and F by the lengths
     points_are : length points / 3 ≡ total pc
@@ -137,7 +134,7 @@ module _ (points : List Float) (faces pc fc : List ℕ) (s : Float) (o : ℕ) (p
           → Only r.counts (report_counts * length pc - r.counts) rs₁ rs₂ → Filled r.counts (report_counts * length pc - r.counts) 0 rs₂
           → Only r.origins (length faces / 3 - r.origins) os₁ os₂ → Filled r.origins (length faces / 3 - r.origins) 0 os₂
           → Only 0 l w₁ w₂ → Filled 0 l 0 w₂
-          → outcome_of (packed-as.Done r.mended r.triples r.counts r.origins (4 * length pc)) ps₂ xs₂ rs₂ os₂ ms₁ w₂ ≡ repair_panel points faces pc fc s o (rooms_of ps xs rs os ms w)
+          → outcome_of (Ok (record { points = r.mended; faces = r.triples; counts = r.counts; origins = r.origins; meshes = 4 * length pc })) ps₂ xs₂ rs₂ os₂ ms₁ w₂ ≡ repair_panel points faces pc fc s o (rooms_of ps xs rs os ms w)
       unfolding repair_panel outcome
       is_done {ps₂} {xs₂} {rs₂} {os₂} {w₂} op₀ hp₀ of₀ hf₀ or hr oo₀ ho₀ ow₀ hw₀ =
           let z = rw (points_are, faces_are) at sizes in
@@ -158,4 +155,4 @@ module _ (points : List Float) (faces pc fc : List ℕ) (s : Float) (o : ℕ) (p
           let c : w₂ ≡ after.work = cleared_is a.room_work (only_both g.only_work ow) hw in
           ap₂ (λ (k : List ℕ) (rooms : PanelRooms). record { answer = accepted k; rooms = rooms }) entries_are
           (λ i. record { out_points = p i; out_faces = f i; report = b i; origins = q i; meshes = m i; work = c i })
-          ∙ ap (λ c. outcome c (rooms_of ps xs rs os ms w) entries after) (sym (ap check_of t) ∙ verdict_is)
+          ∙ ap (λ c. outcome c (rooms_of ps xs rs os ms w) entries after) (e ∙ panel_is points faces pc fc s o (rooms_of ps xs rs os ms w))

@@ -1,5 +1,5 @@
 -- Mesh after mesh: after k of them each list is what the first k repairs contribute, packed. Assumes nothing.
-use mathlib.Core.Path.{◌≡◌, refl, sym, ap, ap₂, ◌∙◌}
+use mathlib.Core.Path.{◌≡◌, refl, ap, ap₂, ◌∙◌}
 use mathlib.Core.List.{List, [], ◌∷◌, ◌++◌, append-nil}
 use Prim.Native.Nat.{ℕ, suc, ◌+◌, ◌*◌, ◌^◌, ◌≤◌, ◌<◌}
 use native.Mathlib.Numerals.{add-one}
@@ -7,17 +7,17 @@ use native.Mathlib.Omega.{arith}
 use lib.Ieee.{Float, nan}
 use lib.ListN.{length, get_or, take, length-append}
 use lib.Seq.{length-take-le, take_all}
-use Rattle.rows.specs.Region.{part, OnlyOf, Only}
+use Rattle.rows.specs.Region.{part, Only}
 use Rattle.rows.proofs.Regions.{only_none, only_both, only_more}
 use Rattle.rules.specs.Lists.{each}
 use Rattle.rules.specs.State.{report_counts}
-use Rattle.rules.specs.Rooms.{work_room, Outcome}
+use Rattle.rules.specs.Rooms.{Outcome}
 use Rattle.rules.specs.RepairCall.{RepairRooms}
-use Rattle.rules.specs.PanelCall.{most_meshes, total, largest, one_call, own_calls, its_points, its_faces, its_counts, its_origins, four}
+use Rattle.rules.specs.PanelCall.{total, largest, one_call, own_calls, its_points, its_faces, its_counts, its_origins, four}
 use Rattle.rule_laws.proofs.Lists.{each_append}
-use Rattle.panel_refusal.specs.Checks.{Rows, PanelAccepted}
+use Rattle.panel_refusal.specs.Checks.{PanelAccepted}
 use Rattle.panel_laws.specs.Cutting.{mesh_part}
-use Rattle.panel_laws.proofs.Packing.{total_next, total_take, largest_at, own_calls_next, AllShare, own_calls_share}
+use Rattle.panel_laws.proofs.Packing.{total_next, total_take, largest_at, own_calls_next, own_calls_share}
 use Rattle.mend_mesh.specs.Meshes.{NextAsks, NextGives, Grown}
 use Rattle.mend_mesh.specs.declared.At.{At}
 use Rattle.repair_panel.specs.Packs.{AllGives}

@@ -9,13 +9,16 @@ ghost use Rattle.repair_panel.specs.Packs.{AllGives};
 
 use mend_mesh::At;
 use panel_refusal::Rooms;
-use refuse::Verdict;
+use refuse::Refusal;
 
-// What the call gives back: how many entries stand in the rooms of points, faces, reports, origins and meshes, or a refusal's number and place.
-#[derive(Drop)]
-pub enum Packed {
-    Done(usize, usize, usize, usize, usize),
-    Refused(u32, usize),
+// What the call gives back: how many entries stand in the rooms of points, faces, reports, origins and meshes.
+#[derive(Clone, Copy, Debug, PartialEq, Eq)]
+pub struct Packed {
+    pub points: usize,
+    pub faces: usize,
+    pub counts: usize,
+    pub origins: usize,
+    pub meshes: usize,
 }
 
 // All meshes, one after another.
@@ -73,7 +76,7 @@ pub fn repair_panel(
     origins: &mut [u32],
     meshes: &mut [u32],
     work: &mut [u32],
-) -> Packed
+) -> Result<Packed, Refusal>
     ensures { let before = rooms_of out_points.old out_faces.old report.old origins.old meshes.old work.old in
         outcome_of result out_points.new out_faces.new report.new origins.new meshes.new work.new
         ≡ rule.repair_panel points.now faces.now point_counts.now face_counts.now s options before }
@@ -86,20 +89,7 @@ pub fn repair_panel(
         meshes: meshes.len(),
         work: work.len(),
     };
-    match panel_refusal::panel_refusal(
-        points,
-        faces,
-        point_counts,
-        face_counts,
-        s,
-        options,
-        rooms,
-    ) {
-        Verdict::Fine => {}
-        Verdict::Refused(number, place) => {
-            return Packed::Refused(number, place);
-        }
-    }
+    panel_refusal::panel_refusal(points, faces, point_counts, face_counts, s, options, rooms)?;
     let p = points.len() / 3;
     let f = faces.len() / 3;
     let m = point_counts.len();
@@ -127,5 +117,11 @@ pub fn repair_panel(
     wiping::wipe(report, c, rules::COUNTS * m - c);
     wiping::wipe(origins, d, f - d);
     wiping::wipe(work, 0, largest);
-    Packed::Done(a, b, c, d, 4 * m)
+    Ok(Packed {
+        points: a,
+        faces: b,
+        counts: c,
+        origins: d,
+        meshes: 4 * m,
+    })
 }

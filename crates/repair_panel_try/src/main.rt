@@ -2,24 +2,25 @@
 // answer, the bits of the points room, and the runs of the faces, the reports, the origins, the meshes and the work room. Each entry of a room was 7 before it.
 #![tactic(auto)]
 
+use refuse::Refusal;
 use repair_panel::Packed;
 use std::io;
 
 // Writes an answer.
-fn told(rt: &impl Print, answer: Packed) -> io::Result<()> {
+fn told(rt: &impl Print, answer: Result<Packed, Refusal>) -> io::Result<()> {
     match answer {
-        Packed::Done(a, b, c, d, e) => {
+        Ok(packed) => {
             print!(rt; "done ")?;
-            show::number(rt, a as u64)?;
-            show::number(rt, b as u64)?;
-            show::number(rt, c as u64)?;
-            show::number(rt, d as u64)?;
-            show::number(rt, e as u64)?;
+            show::number(rt, packed.points as u64)?;
+            show::number(rt, packed.faces as u64)?;
+            show::number(rt, packed.counts as u64)?;
+            show::number(rt, packed.origins as u64)?;
+            show::number(rt, packed.meshes as u64)?;
         }
-        Packed::Refused(number, place) => {
+        Err(refusal) => {
             print!(rt; "refused ")?;
-            show::number(rt, number as u64)?;
-            show::number(rt, place as u64)?;
+            show::number(rt, refusal.number() as u64)?;
+            show::number(rt, refusal.place() as u64)?;
         }
     }
     show::end_line(rt)

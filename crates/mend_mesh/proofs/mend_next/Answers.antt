@@ -1,8 +1,5 @@
 use native.Mathlib.Omega.{arith}
 use Rattle.mend_mesh.proofs.Next.{one_asks, below_all, ends, gives}
-use Rattle.mend_mesh.proofs.mend_next.Reads as reads
-use Rattle.mend_mesh.proofs.mend_next.Lts as lts
-use Rattle.mend_mesh.proofs.mend_one.Reads as mend-one-reads
 use Rattle.mend_mesh.proofs.mend_next.Goals as goal
 
 pub overflow_mul-a_end : goal.overflow_mul-a_end

@@ -1,7 +1,6 @@
 -- `repair_panel::mend_all` meets its contract: after k meshes each list is what the first k contribute. Assumes nothing.
-use Prim.Native.Nat.{◌-◌}
 use native.Mathlib.Omega.{arith}
-use Rattle.repair_panel.proofs.Turns.{next_fits, begin, turn, again, done}
+use Rattle.repair_panel.proofs.Turns.{begin, turn, again, done}
 use Rattle.repair_panel.proofs.mend_all.Goals as goal
 
 pub loop-k-init : goal.loop-k-init

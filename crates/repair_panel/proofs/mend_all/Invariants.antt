@@ -1,6 +1,4 @@
 -- `repair_panel::mend_all` meets its contract: after k meshes each list is what the first k contribute. Assumes nothing.
-use Prim.Native.Nat.{◌-◌}
-use lib.ListN.{length}
 use Rattle.repair_panel.proofs.Turns.{Mended}
 use Rattle.repair_panel.proofs.mend_all.Given as goal
 

@@ -8,7 +8,7 @@ use lib.ListN.{length, take, length-map}
 use lib.Seq.{length-take-le}
 use Rattle.rules.specs.Lists.{below, count, leave}
 use Rattle.rules.specs.Mesh.{face, points_of, faces_of, renamed}
-use Rattle.rules.specs.State.{State, more, isolated}
+use Rattle.rules.specs.State.{more, isolated}
 use Rattle.rules.specs.Pass6.{marked6, number, pass6}
 use Rattle.rule_laws.proofs.Flat.{length_points, points_flat, own_flat, numbered}
 use Rattle.rule_laws.proofs.Pass6.{face_map}

@@ -27,12 +27,6 @@ pub record Used (xs : List ℕ) (n P : ℕ) (w₀ w : List ℕ) (i : ℕ) : Type
   pub only : Only 0 P w₀ w
   pub flags : Holds 0 P (flag xs w₀ i) w
 
--- what a turn may use
-pub record Turn (xs : List ℕ) (n : ℕ) (w : List ℕ) (i : ℕ) : Type 0 where
-  pub here : i < 3 * n
-  pub fit : 3 * n ≤ length xs
-  pub point : get_or xs i 0 < length w
-
 -- before the first corner each flag is as it was
 pub begin : {xs : List ℕ} {n P : ℕ} {w : List ℕ} → UseAsks xs n P w → Used xs n P w w 0
 unfolding has any
@@ -54,10 +48,6 @@ leaves true x e = refl
 leaves false x e = e
 
 module _ {xs : List ℕ} {n P : ℕ} {w₀ w : List ℕ} {i : ℕ} (p : UseAsks xs n P w₀) (v : Used xs n P w₀ w i) where
-  -- the bounds of a turn
-  pub turn : i < 3 * n → Turn xs n w i
-  turn h = let l = v.only.long in record { here = h; fit = p.fit; point = omega (arith, p.inside i h, p.room) }
-
   -- a turn clears the flag of one corner
   pub again : i < 3 * n → Used xs n P w₀ (set w (get_or xs i 0) 0) (i + 1)
   again h =

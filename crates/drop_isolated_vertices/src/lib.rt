@@ -13,9 +13,8 @@ fn clear_used(faces: &[u32], n: usize, count: usize, work: &mut [u32])
     requires { UseAsks faces.now n count work.old }
     ensures { ClearGives faces.now n count work.old work.new }
 {
-    let m = 3 * n;
-    for i in 0..m {
-        work[faces[i] as usize] = 0;
+    for &corner in &faces[..3 * n] {
+        work[corner as usize] = 0;
     }
 }
 

@@ -5,14 +5,14 @@
 ghost use Rattle.split_bowtie_vertices.specs.Splits.{CopiesAsks, CopiesGives, VertexAsks, VertexGives, AllAsks, AllGives, RenameAsks, RenameGives, SplitAsks, SplitGives};
 
 // What pass 5 has done: how many vertices it has split, and how many points there are after it.
-#[derive(Drop)]
+#[derive(Clone, Copy, Debug, PartialEq, Eq)]
 pub struct Split {
     pub splits: usize,
     pub points: usize,
 }
 
 // Where the run of the corners at a vertex ends, and the next number that is free.
-#[derive(Drop)]
+#[derive(Clone, Copy, Debug, PartialEq, Eq)]
 struct Run {
     end: usize,
     next: usize,
@@ -54,10 +54,7 @@ fn split_vertex(
         next,
     );
     copies(points, v, next, free - next);
-    Run {
-        end: end,
-        next: free,
-    }
+    Run { end, next: free }
 }
 
 // Splits the vertices by rising number.
@@ -77,7 +74,7 @@ fn split_all(points: &mut [f64], work: &mut [u32], count: usize, n: usize) -> Sp
         next = r.next;
     }
     Split {
-        splits: splits,
+        splits,
         points: next,
     }
 }

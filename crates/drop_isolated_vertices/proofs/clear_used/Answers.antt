@@ -1,32 +1,16 @@
 -- `drop_isolated_vertices::clear_used` meets its contract: a corner that is passed has its flag cleared. Assumes nothing.
-use Prim.Native.Nat.{◌-◌}
+use Prim.Native.Nat.{◌*◌, ◌<◌}
 use native.Mathlib.Omega.{arith}
-use Rattle.drop_isolated_vertices.proofs.Using.{begin, turn, again, done}
+use lib.Seq.{get_or-take, length-take-le}
+use Rattle.drop_isolated_vertices.proofs.Using.{begin, again, done}
 use Rattle.drop_isolated_vertices.proofs.clear_used.Goals as goal
 
-pub loop-i-init : goal.loop-i-init
-loop-i-init c = begin c.requires
+pub loop-corner-init : goal.loop-corner-init
+loop-corner-init c = begin c.requires
 
-pub offset_bounds-faces-i : goal.offset_bounds-faces-i
-offset_bounds-faces-i c = omega (arith, turn c.requires c.loop-i.invariant c.loop-i-test.true)
-
-pub bounds-faces-i : goal.bounds-faces-i
-bounds-faces-i c = omega (arith, turn c.requires c.loop-i.invariant c.loop-i-test.true)
-
-pub overflow_cast-work : goal.overflow_cast-work
-overflow_cast-work c = omega (arith, turn c.requires c.loop-i.invariant c.loop-i-test.true)
-
-pub offset_bounds-work-faces : goal.offset_bounds-work-faces
-offset_bounds-work-faces c = omega (arith, turn c.requires c.loop-i.invariant c.loop-i-test.true)
-
-pub bounds-work-faces : goal.bounds-work-faces
-bounds-work-faces c = omega (arith, turn c.requires c.loop-i.invariant c.loop-i-test.true)
-
-pub loop-i-preserved : goal.loop-i-preserved
-loop-i-preserved c = again c.requires c.loop-i.invariant c.loop-i-test.true
-
-pub shape_of-work : goal.shape_of-work
-shape_of-work c = c.loop-i.invariant.only.long
+pub loop-corner-preserved : goal.loop-corner-preserved
+loop-corner-preserved c = let h : c.loop-corner.corner-index < 3 * c.args.n = omega (arith, c.loop-corner-test.true, length-take-le (3 * c.args.n) c.args.faces.now c.requires.fit) in
+    rw (get_or-take (3 * c.args.n) c.args.faces.now c.loop-corner.corner-index 0 h) (again c.requires c.loop-corner.invariant h)
 
 pub returns : goal.returns
-returns c = done c.requires c.loop-i.invariant c.loop-i-test.false
+returns c = done c.requires c.loop-corner.invariant (omega (arith, c.loop-corner-test.false, length-take-le (3 * c.args.n) c.args.faces.now c.requires.fit))

@@ -1,5 +1,4 @@
 -- `drop_isolated_vertices::renumber` meets its contract: the corners passed have their numbers. Assumes nothing.
-use Prim.Native.Nat.{◌-◌, ◌*◌}
 use Rattle.drop_isolated_vertices.proofs.Renumbering.{Renumbered}
 use Rattle.drop_isolated_vertices.proofs.renumber.Given as goal
 

@@ -1,7 +1,7 @@
 -- `split_bowtie_vertices::copies` meets its contract. The invariant: j copies stand behind the points. Assumes nothing.
 use mathlib.Core.Path.{◌≡◌, sym, ap, ap₂, ◌∙◌}
 use mathlib.Core.List.{List, ◌++◌, append-nil, append_assoc}
-use Prim.Native.Nat.{ℕ, ◌+◌, ◌*◌, ◌-◌, ◌≤◌, ◌<◌}
+use Prim.Native.Nat.{ℕ, ◌+◌, ◌*◌, ◌≤◌, ◌<◌}
 use native.Mathlib.Omega.{arith}
 use native.Mathlib.Numerals.{add-one}
 use native.Mathlib.Nat.{add-zero}
@@ -52,17 +52,8 @@ done {m = m} {j = j} p i h = let e : j ≡ m = omega (arith, i.at_most) in recor
 pub loop-j-init : goal.loop-j-init
 loop-j-init c = begin c.requires
 
-pub overflow_add-from : goal.overflow_add-from
-overflow_add-from c = omega (arith, move_ok c.requires c.loop-j.invariant c.loop-j-test.true)
-
-pub move_row-requires : goal.move_row-requires
-move_row-requires c = move_ok c.requires c.loop-j.invariant c.loop-j-test.true
-
 pub loop-j-preserved : goal.loop-j-preserved
 loop-j-preserved c = again c.requires c.loop-j.invariant c.loop-j-test.true c.move_row.ensures
-
-pub shape_of-points : goal.shape_of-points
-shape_of-points c = c.loop-j.invariant.only.long
 
 pub returns : goal.returns
 returns c = done c.requires c.loop-j.invariant c.loop-j-test.false

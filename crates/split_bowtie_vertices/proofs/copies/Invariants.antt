@@ -1,7 +1,7 @@
 -- `split_bowtie_vertices::copies` meets its contract. The invariant: j copies stand behind the points. Assumes nothing.
 use mathlib.Core.Path.{◌≡◌}
 use mathlib.Core.List.{List, ◌++◌}
-use Prim.Native.Nat.{ℕ, ◌+◌, ◌*◌, ◌-◌, ◌≤◌}
+use Prim.Native.Nat.{ℕ, ◌+◌, ◌*◌, ◌≤◌}
 use lib.ListN.{take}
 use lib.Ieee.{Float, nan}
 use Rattle.rows.specs.Region.{part, OnlyOf}

@@ -1,7 +1,7 @@
 -- `split_bowtie_vertices::rename` meets its contract. The invariant: the corners passed have their numbers. Assumes nothing.
 use mathlib.Core.Path.{◌≡◌, ◌∙◌}
 use mathlib.Core.List.{List}
-use Prim.Native.Nat.{ℕ, ◌+◌, ◌-◌, ◌≤◌, ◌<◌}
+use Prim.Native.Nat.{ℕ, ◌+◌, ◌≤◌, ◌<◌}
 use native.Mathlib.Omega.{arith}
 use native.Mathlib.Decide.{ℕ_discrete}
 use lib.ListN.{get_or, set}
@@ -35,17 +35,8 @@ done p v h = record { only = v.only; renamed = λ i l. v.renamed i (omega arith)
 pub loop-id-init : goal.loop-id-init
 loop-id-init c = begin c.requires
 
-pub new_corner-taken-requires : goal.new_corner-taken-requires
-new_corner-taken-requires c = c.requires.each _ c.loop-id-test.true
-
-pub store-requires : goal.store-requires
-store-requires c = omega (arith, turn c.requires c.loop-id.invariant c.loop-id-test.true)
-
 pub loop-id-preserved : goal.loop-id-preserved
 loop-id-preserved c = rw c.store.ensures (again c.requires c.loop-id.invariant c.loop-id-test.true c.new_corner-taken.ensures)
-
-pub shape_of-faces : goal.shape_of-faces
-shape_of-faces c = c.loop-id.invariant.only.long
 
 pub returns : goal.returns
 returns c = done c.requires c.loop-id.invariant c.loop-id-test.false

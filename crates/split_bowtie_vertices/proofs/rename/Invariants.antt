@@ -1,7 +1,7 @@
 -- `split_bowtie_vertices::rename` meets its contract. The invariant: the corners passed have their numbers. Assumes nothing.
 use mathlib.Core.Path.{◌≡◌}
 use mathlib.Core.List.{List}
-use Prim.Native.Nat.{ℕ, ◌-◌, ◌≤◌, ◌<◌}
+use Prim.Native.Nat.{ℕ, ◌≤◌, ◌<◌}
 use lib.ListN.{length, get_or}
 use Rattle.rows.specs.Region.{Only}
 use Rattle.corner_numbers.specs.Numbers.{new_by}

@@ -2,7 +2,7 @@
 use mathlib.Core.Path.{◌≡◌, refl, sym, ap, ◌∙◌}
 use mathlib.Core.Bool.{cond}
 use mathlib.Core.List.{List}
-use Prim.Native.Nat.{ℕ, ◌+◌, ◌-◌, ◌≤◌, ◌<◌}
+use Prim.Native.Nat.{ℕ, ◌+◌, ◌≤◌, ◌<◌}
 use native.Mathlib.Omega.{arith}
 use native.Mathlib.Numerals.{add-one}
 use borrow.Author.Tests.{lt-ltb, le-ltb}
@@ -65,9 +65,6 @@ done {P = P} q {begin = begin} {v = v} i h =
 pub loop-v-init : goal.loop-v-init
 loop-v-init c = λ q. begins q
 
-pub split_vertex-r-requires : goal.split_vertex-r-requires
-split_vertex-r-requires c = vertex-ok c.requires (c.loop-v.invariant c.requires) c.loop-v-test.true
-
 pub overflow_add-splits : goal.overflow_add-splits
 overflow_add-splits c = omega (arith, turn c.requires (c.loop-v.invariant c.requires) c.loop-v-test.true)
 
@@ -77,12 +74,6 @@ loop-v-preserved c = λ q.
     let t = c.loop-v-test.true in
     let g = c.split_vertex-r.ensures (vertex-ok q i t) in
     elim c.if-next-r.branch [ then-next-r a ↦ rw a.splits-is (more q i t g a.if-next-r.true) | else-next-r a ↦ rw a.splits-is (none q i t g a.if-next-r.false) ]
-
-pub shape_of-points : goal.shape_of-points
-shape_of-points c = (c.loop-v.invariant c.requires).only_points.long
-
-pub shape_of-work : goal.shape_of-work
-shape_of-work c = (c.loop-v.invariant c.requires).only_work.long
 
 pub returns : goal.returns
 returns c = λ q. done q (c.loop-v.invariant q) c.loop-v-test.false

@@ -1,7 +1,7 @@
 -- `split_bowtie_vertices::split_all` meets its contract. The invariant: the vertices passed are split, and counted. Assumes nothing.
 use mathlib.Core.Path.{◌≡◌}
 use mathlib.Core.List.{List}
-use Prim.Native.Nat.{ℕ, ◌+◌, ◌*◌, ◌-◌, ◌^◌, ◌≤◌, ◌<◌}
+use Prim.Native.Nat.{ℕ, ◌+◌, ◌*◌, ◌^◌, ◌≤◌, ◌<◌}
 use lib.Dec.{ltb}
 use lib.Ieee.{Float, nan}
 use Rattle.rows.specs.Region.{OnlyOf, Only}

@@ -1,5 +1,7 @@
 -- Demand 3's last words of the loop call as it is lent: the vertices in one room, cut at the ends in the other, are the rules' loops, and so they go along
 -- each boundary edge exactly once. Assumes nothing.
+use Rattle.std.specs.Prelude.{Result, Ok, Err}
+use Rattle.refuse.specs.declared.Refusal.{Refusal}
 use mathlib.Core.Path.{◌≡◌, sym, ap, ◌∙◌, subst}
 use mathlib.Core.List.{List, [], ◌∷◌, Memᴰ}
 use Prim.Native.Nat.{ℕ, ◌*◌, ◌/◌, ◌<◌}
@@ -15,10 +17,8 @@ use Rattle.rules.specs.LoopsCall.{LoopsRooms, loops_check, find_loops}
 use Rattle.rule_laws.proofs.Demand.{Looped, LoopsEnough, loop_steps}
 use Rattle.rule_laws.proofs.Called.{outcome_ok, filled_front, find_loops_looped}
 use Rattle.rule_laws.proofs.Reading.{cut, loops_read}
-use Rattle.repair.specs.declared.Repaired.TheVariants as repaired
 use Rattle.repair.specs.Answers as repaired-as
-use Rattle.boundary_loops.specs.declared.Looped as answer
-use Rattle.boundary_loops.specs.declared.Looped.TheVariants.{Done, Refused}
+use Rattle.loops.specs.declared.Loops.{Loops}
 use Rattle.boundary_loops.specs.Answers.{outcome_of}
 use Rattle.demanded.proofs.Edged.{LoopsDone, looped_too}
 
@@ -65,29 +65,29 @@ gone_along points faces r n e =
 
 -- what `find_loops` leaves there when it is done
 pub found_along :
-    (points : List Float) (faces : List ℕ) (q q' : LoopsRooms) {d e : ℕ} → outcome_of (Done d e) q' ≡ find_loops points faces q
+    (points : List Float) (faces : List ℕ) (q q' : LoopsRooms) {d e : ℕ} → outcome_of (Ok (record { loop_vertices = d; loop_ends = e })) q' ≡ find_loops points faces q
     → GoneAlong (faces_of faces) (take d q'.loop_vertices) (take e q'.loop_ends)
 found_along points faces q q' {d} {e} o =
     subst (λ t. GoneAlong (faces_of faces) (take d t.rooms.loop_vertices) (take e t.rooms.loop_ends)) (sym o)
     (gone_along points faces q (d ∷ e ∷ []) (ap (λ t. t.answer) (sym o)))
 
 -- a call is done, and its loops go along each boundary edge of the faces fs exactly once
-unfoldable pub DoneAlong : List Face → answer.Looped → LoopsRooms → Type 0
-DoneAlong fs (Done d e) q = GoneAlong fs (take d q.loop_vertices) (take e q.loop_ends)
-DoneAlong fs (Refused n p) q = ⊥
+unfoldable pub DoneAlong : List Face → Result Loops Refusal → LoopsRooms → Type 0
+DoneAlong fs (Ok r) q = GoneAlong fs (take r.loop_vertices q.loop_vertices) (take r.loop_ends q.loop_ends)
+DoneAlong fs (Err e) q = ⊥
 
 -- so does each that is done
 done_along :
-    (points : List Float) (faces : List ℕ) (q q' : LoopsRooms) (f : answer.Looped) → LoopsDone f → outcome_of f q' ≡ find_loops points faces q → DoneAlong (faces_of faces) f q'
+    (points : List Float) (faces : List ℕ) (q q' : LoopsRooms) (f : Result Loops Refusal) → LoopsDone f → outcome_of f q' ≡ find_loops points faces q → DoneAlong (faces_of faces) f q'
 unfolding LoopsDone DoneAlong
-done_along points faces q q' (Done d e) h o = found_along points faces q q' o
-done_along points faces q q' (Refused n p) h o = h
+done_along points faces q q' (Ok r) h o = found_along points faces q q' o
+done_along points faces q q' (Err e) h o = h
 
 -- after an accepted repair with options 63 the loop call on what stands in the rooms is done, and goes along each boundary edge exactly once
 pub looped_along :
     (points : List Float) (faces : List ℕ) (s : Float) (ps : List Float) (xs rs os w : List ℕ) {ps' : List Float} {xs' rs' os' w' : List ℕ} {a b n : ℕ}
-    → repaired-as.outcome_of (repaired.Done a b n) ps' xs' rs' os' w' ≡ repair points faces s 63 (repaired-as.rooms_of ps xs rs os w)
-    → (q q' : LoopsRooms) (f : answer.Looped) → LoopsEnough (length (take a ps') / 3) (length (take b xs') / 3) q
+    → repaired-as.outcome_of (Ok (record { points = a; faces = b; origins = n })) ps' xs' rs' os' w' ≡ repair points faces s 63 (repaired-as.rooms_of ps xs rs os w)
+    → (q q' : LoopsRooms) (f : Result Loops Refusal) → LoopsEnough (length (take a ps') / 3) (length (take b xs') / 3) q
     → outcome_of f q' ≡ find_loops (take a ps') (take b xs') q → DoneAlong (faces_of (take b xs')) f q'
 looped_along points faces s ps xs rs os w {ps'} {xs'} {rs'} {os'} {w'} {a} {b} e q q' f enough o =
     done_along (take a ps') (take b xs') q q' f (looped_too points faces s ps xs rs os w e q q' f enough o) o

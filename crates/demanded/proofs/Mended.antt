@@ -1,4 +1,5 @@
 -- Demand 3 in the words of the repair's own contract: an accepted `repair` with options 63 leaves in its rooms lists for which it holds. Assumes nothing.
+use Rattle.std.specs.Prelude.{Ok}
 use mathlib.Core.Path.{◌≡◌, ap, subst, sym}
 use mathlib.Core.List.{List, [], ◌∷◌}
 use Prim.Native.Nat.{ℕ, ◌/◌}
@@ -10,7 +11,6 @@ use Rattle.rules.specs.Rooms.{accepted}
 use Rattle.rules.specs.Calls.{EdgesRooms, LoopsRooms, repair, find_edges, find_loops}
 use Rattle.rule_laws.proofs.Demand.{Demand3, Beside, Looped, EdgesEnough, LoopsEnough, SaysYes}
 use Rattle.rule_laws.proofs.Called.{Called3, called3, left}
-use Rattle.repair.specs.declared.Repaired.TheVariants.{Done}
 use Rattle.repair.specs.Answers.{rooms_of, outcome_of}
 
 -- the mesh that stands in the rooms: a numbers of points, b numbers of faces with k origins, and the counts
@@ -18,7 +18,7 @@ abbrev pub standing : ℕ → ℕ → ℕ → List Float → List ℕ → List �
 standing a b k ps xs rs os = record { points = points_of (take a ps); faces = faces_with (take b xs) (take k os); report = take report_counts rs }
 
 module _ (points : List Float) (faces : List ℕ) (s : Float) (ps : List Float) (xs rs os w : List ℕ) {ps' : List Float} {xs' rs' os' w' : List ℕ} {a b k : ℕ}
-    (e : outcome_of (Done a b k) ps' xs' rs' os' w' ≡ repair points faces s 63 (rooms_of ps xs rs os w)) where
+    (e : outcome_of (Ok (record { points = a; faces = b; origins = k })) ps' xs' rs' os' w' ≡ repair points faces s 63 (rooms_of ps xs rs os w)) where
   -- the rules' word on the call
   said : Called3 points faces s (rooms_of ps xs rs os w) (a ∷ b ∷ report_counts ∷ k ∷ [])
   said = called3 points faces s (rooms_of ps xs rs os w) (a ∷ b ∷ report_counts ∷ k ∷ []) (ap (λ o. o.answer) (sym e))

@@ -1,5 +1,8 @@
--- The edge check: given the front of a repair's rooms and enough work room, it answers Done with yes; and what it says yes to is refused neither 7 nor 8 by
+-- The edge check: given the front of a repair's rooms and enough work room, it answers Ok with yes; and what it says yes to is refused neither 7 nor 8 by
 -- the edge call and the loop call. Assumes nothing.
+use Rattle.std.specs.Prelude.{Result, Ok, Err}
+use Rattle.refuse.specs.declared.Refusal.{Refusal}
+use Rattle.refuse.specs.Verdicts.{number_of}
 use mathlib.Core.Path.{◌≡◌, refl, sym, ap, ◌∙◌, subst}
 use mathlib.Core.Bool.{true, false}
 use mathlib.Core.List.{List, [], ◌∷◌}
@@ -14,43 +17,38 @@ use Rattle.rules.specs.CheckCall.{check}
 use Rattle.rule_laws.proofs.Demand.{CheckEnough}
 use Rattle.rule_laws.proofs.Checked.{no_is_not_yes}
 use Rattle.rule_laws.proofs.Called.{IfRefused, Fine, check_fine}
-use Rattle.repair.specs.declared.Repaired.TheVariants as repaired
 use Rattle.repair.specs.Answers as repaired-as
-use Rattle.edges.specs.declared.Found.TheVariants as found
 use Rattle.edges.specs.Answers as edged-as
-use Rattle.boundary_loops.specs.declared.Looped.TheVariants as looped
 use Rattle.boundary_loops.specs.Answers as looped-as
-use Rattle.edge_check.specs.declared.Checked.{Checked}
-use Rattle.edge_check.specs.declared.Checked.TheVariants.{Done, Refused}
 use Rattle.edge_check.specs.Answers.{answer_of, outcome_of}
 use Rattle.demanded.proofs.Mended.{demanded_yes}
 use Rattle.demanded.proofs.Edged.{IsAccepted}
 
 -- an edge check whose answer is 1 says yes
-yes_if : (r : Checked) → answer_of r ≡ accepted (1 ∷ []) → r ≡ Done true
+yes_if : (r : Result Bool Refusal) → answer_of r ≡ accepted (1 ∷ []) → r ≡ Ok true
 unfolding IsAccepted
-yes_if (Done true) e = refl
-yes_if (Done false) e = absurd (no_is_not_yes e)
-yes_if (Refused n p) e = absurd (subst IsAccepted (sym e) tt)
+yes_if (Ok true) e = refl
+yes_if (Ok false) e = absurd (no_is_not_yes e)
+yes_if (Err r) e = absurd (subst IsAccepted (sym e) tt)
 
 -- after an accepted repair with options 63 the edge check on what stands in the rooms says yes
 pub checked :
     (points : List Float) (faces : List ℕ) (s : Float) (ps : List Float) (xs rs os w : List ℕ) {ps' : List Float} {xs' rs' os' w' : List ℕ} {a b n : ℕ}
-    → repaired-as.outcome_of (repaired.Done a b n) ps' xs' rs' os' w' ≡ repair points faces s 63 (repaired-as.rooms_of ps xs rs os w)
-    → (work work' : List ℕ) (r : Checked) → CheckEnough (length (take a ps') / 3) (length (take b xs') / 3) work
-    → outcome_of r work' ≡ check (length (take a ps') / 3) (take b xs') work → r ≡ Done true
+    → repaired-as.outcome_of (Ok (record { points = a; faces = b; origins = n })) ps' xs' rs' os' w' ≡ repair points faces s 63 (repaired-as.rooms_of ps xs rs os w)
+    → (work work' : List ℕ) (r : Result Bool Refusal) → CheckEnough (length (take a ps') / 3) (length (take b xs') / 3) work
+    → outcome_of r work' ≡ check (length (take a ps') / 3) (take b xs') work → r ≡ Ok true
 checked points faces s ps xs rs os w e work work' r enough o = yes_if r (ap (λ t. t.answer) o ∙ demanded_yes points faces s ps xs rs os w e work enough)
 
 -- after an edge check that says yes, on the same faces over as many points
-module _ (points : List Float) (faces work : List ℕ) {work' : List ℕ} (e : outcome_of (Done true) work' ≡ check (length points / 3) faces work) where
+module _ (points : List Float) (faces work : List ℕ) {work' : List ℕ} (e : outcome_of (Ok true) work' ≡ check (length points / 3) faces work) where
   -- the rules' word on the other calls
   fine : Fine points faces
   fine = check_fine points faces work (ap (λ t. t.answer) (sym e))
 
   -- an edge call that refuses does so with a number below 7
-  pub edges_fine : (q q' : EdgesRooms) {n p : ℕ} → edged-as.outcome_of (found.Refused n p) q' ≡ find_edges points faces q → n < 7
+  pub edges_fine : (q q' : EdgesRooms) {e : Refusal} → edged-as.outcome_of (Err e) q' ≡ find_edges points faces q → number_of e < 7
   edges_fine q q' o = subst (λ t. IfRefused (λ k. k < 7) t.answer) (sym o) (fine.edge_call q)
 
   -- and so does a loop call
-  pub loops_fine : (q q' : LoopsRooms) {n p : ℕ} → looped-as.outcome_of (looped.Refused n p) q' ≡ find_loops points faces q → n < 7
+  pub loops_fine : (q q' : LoopsRooms) {e : Refusal} → looped-as.outcome_of (Err e) q' ≡ find_loops points faces q → number_of e < 7
   loops_fine q q' o = subst (λ t. IfRefused (λ k. k < 7) t.answer) (sym o) (fine.loop_call q)

@@ -1,5 +1,7 @@
 -- What an accepted `repair_panel` leaves in its rooms: cut by the meshes room alone, each mesh is what `repair` of it leaves in any rooms that are long enough;
 -- its number is 0, 2, 4 or 5; with options 63 demand 3 holds of each accepted mesh. Assumes nothing.
+use Rattle.std.specs.Prelude.{Result, Ok, Err}
+use Rattle.refuse.specs.declared.Refusal.{Refusal}
 use mathlib.Core.Path.{◌≡◌, sym, ap, subst, ◌∙◌}
 use mathlib.Core.List.{List, [], ◌∷◌}
 use Prim.Native.Nat.{ℕ, ◌*◌, ◌<◌}
@@ -11,9 +13,7 @@ use Rattle.rules.specs.RepairCall.{RepairRooms, repair}
 use Rattle.rules.specs.PanelCall.{PanelRooms, panel_check, repair_panel}
 use Rattle.rule_laws.proofs.Called.{outcome_ok}
 use Rattle.repair.specs.declared.Repaired.{Repaired}
-use Rattle.repair.specs.declared.Repaired.TheVariants as mended-as
 use Rattle.repair.specs.Answers as mended
-use Rattle.repair_panel.specs.declared.Packed.TheVariants.{Done}
 use Rattle.repair_panel.specs.Answers.{rooms_of, outcome_of}
 use Rattle.panel_laws.specs.Cutting.{mesh_part, points_part, faces_part, counts_part, origins_part}
 use Rattle.panel_laws.proofs.Alone.{LongEnough}
@@ -32,7 +32,7 @@ accepted_check points faces pc fc s o r n e = (outcome_ok (panel_check points fa
 
 module _ (points : List Float) (faces pc fc : List ℕ) (s : Float) (o : ℕ) (ps : List Float) (xs rs os ms w : List ℕ)
     {ps' : List Float} {xs' rs' os' ms' w' : List ℕ} {a b c d m : ℕ}
-    (e : outcome_of (Done a b c d m) ps' xs' rs' os' ms' w' ≡ repair_panel points faces pc fc s o (rooms_of ps xs rs os ms w)) where
+    (e : outcome_of (Ok (record { points = a; faces = b; counts = c; origins = d; meshes = m })) ps' xs' rs' os' ms' w' ≡ repair_panel points faces pc fc s o (rooms_of ps xs rs os ms w)) where
   -- the rooms after it
   abbrev left : PanelRooms
   left = rooms_of ps' xs' rs' os' ms' w'
@@ -50,7 +50,7 @@ module _ (points : List Float) (faces pc fc : List ℕ) (s : Float) (o : ℕ) (p
     -- a `repair` of mesh k, in rooms that are long enough, left what is its part here
     pub mesh_left :
         (qs : List Float) (ys ts us v : List ℕ) → LongEnough (get_or pc k 0) (get_or fc k 0) (mended.rooms_of qs ys ts us v)
-        → (r : Repaired) {qs' : List Float} {ys' ts' us' v' : List ℕ}
+        → (r : Result Repaired Refusal) {qs' : List Float} {ys' ts' us' v' : List ℕ}
         → mended.outcome_of r qs' ys' ts' us' v' ≡ repair (mesh_part pc points k) (mesh_part fc faces k) s o (mended.rooms_of qs ys ts us v)
         → ItsCall left k (mended.outcome_of r qs' ys' ts' us' v')
     mesh_left qs ys ts us v l r {qs'} {ys'} {ts'} {us'} {v'} g =
@@ -61,7 +61,7 @@ module _ (points : List Float) (faces pc fc : List ℕ) (s : Float) (o : ℕ) (p
 -- with options 63
 module _ (points : List Float) (faces pc fc : List ℕ) (s : Float) (ps : List Float) (xs rs os ms w : List ℕ)
     {ps' : List Float} {xs' rs' os' ms' w' : List ℕ} {a b c d m : ℕ}
-    (e : outcome_of (Done a b c d m) ps' xs' rs' os' ms' w' ≡ repair_panel points faces pc fc s 63 (rooms_of ps xs rs os ms w)) where
+    (e : outcome_of (Ok (record { points = a; faces = b; counts = c; origins = d; meshes = m })) ps' xs' rs' os' ms' w' ≡ repair_panel points faces pc fc s 63 (rooms_of ps xs rs os ms w)) where
   -- demand 3 holds of each accepted mesh, as it stands in the rooms
   pub mesh_demanded :
       (k : ℕ) → k < length pc → get_or ms' (4 * k) 0 ≡ 0
@@ -78,8 +78,8 @@ module _ (points : List Float) (faces pc fc : List ℕ) (s : Float) (ps : List F
 pub one_mesh_left :
     (points : List Float) (faces : List ℕ) (P F : ℕ) (s : Float) (o : ℕ) (ps : List Float) (xs rs os ms w : List ℕ)
     {ps₁ : List Float} {xs₁ rs₁ os₁ ms₁ w₁ : List ℕ} {a b c d m : ℕ} {ps₂ : List Float} {xs₂ rs₂ os₂ w₂ : List ℕ} {i j n : ℕ}
-    → outcome_of (Done a b c d m) ps₁ xs₁ rs₁ os₁ ms₁ w₁ ≡ repair_panel points faces (P ∷ []) (F ∷ []) s o (rooms_of ps xs rs os ms w)
-    → mended.outcome_of (mended-as.Done i j n) ps₂ xs₂ rs₂ os₂ w₂ ≡ repair points faces s o (mended.rooms_of ps xs rs os w)
+    → outcome_of (Ok (record { points = a; faces = b; counts = c; origins = d; meshes = m })) ps₁ xs₁ rs₁ os₁ ms₁ w₁ ≡ repair_panel points faces (P ∷ []) (F ∷ []) s o (rooms_of ps xs rs os ms w)
+    → mended.outcome_of (Ok (record { points = i; faces = j; origins = n })) ps₂ xs₂ rs₂ os₂ w₂ ≡ repair points faces s o (mended.rooms_of ps xs rs os w)
     → mended.rooms_of ps₁ xs₁ rs₁ os₁ w₁ ≡ mended.rooms_of ps₂ xs₂ rs₂ os₂ w₂
 one_mesh_left points faces P F s o ps xs rs os ms w e g =
     ap (λ q. repair_part q.rooms) e

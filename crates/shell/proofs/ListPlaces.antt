@@ -1,5 +1,6 @@
 -- The list call, from its outcome to what C is given: the parts of its work room are those of one room or they are not, and its place is below 2^32. Assumes
 -- nothing.
+use Rattle.std.specs.Prelude.{Ok, Err}
 use mathlib.Core.Path.{◌≡◌}
 use mathlib.Core.Logic.{◌⊎◌, inl, inr, ⊎_elim}
 use mathlib.Core.List.{List, [], ◌∷◌}
@@ -14,10 +15,11 @@ use Rattle.rules.specs.Rooms.{refused}
 use Rattle.rules.specs.Mending.{list_text}
 use Rattle.rules.specs.ListCall.{list_rooms, ListRooms, list_check, write_list}
 use Rattle.rule_laws.proofs.Flat.{length_points}
+use Rattle.refuse.specs.declared.Refusal.{Refusal}
+use Rattle.refuse.specs.Verdicts.{number_of, place_of}
 use Rattle.refuse.proofs.Singles.{no2_fine}
 use Rattle.list_refusal.specs.Checks.{Parted}
 use Rattle.write_list.specs.Called.{ListGives}
-use Rattle.write_list.specs.declared.Listed.TheVariants.{Done, Refused}
 use Rattle.shell.specs.Listed.{ListTold}
 use Rattle.place_laws.proofs.Places.{Near, unless_near, at_first_near, no5_near, no6_near, step, end}
 use Rattle.place_laws.proofs.Outcomes.{outcome_near, refused_near}
@@ -58,19 +60,19 @@ list_place points faces s options r e = refused_near (outcome_near (list_check p
 
 module _ {points : List Float} {faces : List ℕ} {s : Float} {options : ℕ} {text corners origins rest text' corners' origins' rest' : List ℕ} where
   -- however the parts lie
-  pub listed_place : {n p : ℕ} → ListGives points faces s options text corners origins rest text' corners' origins' rest' (Refused n p) → p < 2 ^ 32
+  pub listed_place : {e : Refusal} → ListGives points faces s options text corners origins rest text' corners' origins' rest' (Err e) → place_of e < 2 ^ 32
   listed_place g =
       ⊎_elim (λ q. list_place points faces s options _ (g.parted q)) (λ q. list_place points faces s options _ (g.apart q))
       (parted_or (length faces / 3) (length corners) (length origins) (length rest))
 
   -- accepted: 0 and 0, and the bytes
   pub told_accepted :
-      {n : ℕ} → ListGives points faces s options text corners origins rest text' corners' origins' rest' (Done n)
+      {n : ℕ} → ListGives points faces s options text corners origins rest text' corners' origins' rest' (Ok n)
       → ListTold points faces s options text corners origins rest text' corners' origins' rest' 0 0 n
   told_accepted g = record { parted = λ q. given_accepted (g.parted q); apart = λ q. given_accepted (g.apart q); apart_kept = g.apart_kept }
 
   -- refused: the number and the place, and no bytes
   pub told_refused :
-      {n p : ℕ} → ListGives points faces s options text corners origins rest text' corners' origins' rest' (Refused n p)
-      → ListTold points faces s options text corners origins rest text' corners' origins' rest' n p 0
+      {e : Refusal} → ListGives points faces s options text corners origins rest text' corners' origins' rest' (Err e)
+      → ListTold points faces s options text corners origins rest text' corners' origins' rest' (number_of e) (place_of e) 0
   told_refused g = record { parted = λ q. given_refused 1 (g.parted q); apart = λ q. given_refused 1 (g.apart q); apart_kept = g.apart_kept }

@@ -17,22 +17,10 @@ ghost use Rattle.shell.specs.Told.{Given};
 ghost use Rattle.shell.specs.Clip.{clip, clipped};
 ghost use Rattle.shell.specs.Listed.{ListTold};
 
-use apply_list::Applied;
-use boundary_loops::Looped;
-use edge_check::Checked;
-use edges::Found;
-use line::Lined;
-use patches::Patched;
-use ply_counts::Counted;
-use read_stl::Read;
-use repair::Repaired;
-use repair_panel::Packed;
-use write_list::Listed;
-use write_ply::Wrote;
 
 // What a repair gives back: how many entries stand in the rooms of points, faces, report and origins.
 #[repr(C)]
-#[derive(Drop)]
+#[derive(Clone, Copy)]
 pub struct ShellRepaired {
     pub number: u32,
     pub place: u32,
@@ -61,31 +49,28 @@ pub fn shell_repair(
     match repair::repair(
         points, faces, s, options, out_points, out_faces, report, origins, work,
     ) {
-        Repaired::Done(a, b, k) => ShellRepaired {
+        Ok(mended) => ShellRepaired {
             number: 0,
             place: 0,
-            points: a as u64,
-            faces: b as u64,
+            points: mended.points as u64,
+            faces: mended.faces as u64,
             counts: rules::COUNTS as u64,
-            origins: k as u64,
+            origins: mended.origins as u64,
         },
-        Repaired::Refused(number, at) => {
-            let place = at as u32;
-            ShellRepaired {
-                number: number,
-                place: place,
-                points: 0,
-                faces: 0,
-                counts: 0,
-                origins: 0,
-            }
-        }
+        Err(refusal) => ShellRepaired {
+            number: refusal.number(),
+            place: refusal.place() as u32,
+            points: 0,
+            faces: 0,
+            counts: 0,
+            origins: 0,
+        },
     }
 }
 
 // What the repair of many meshes gives back: how many entries stand in the rooms of points, faces, reports, origins and meshes.
 #[repr(C)]
-#[derive(Drop)]
+#[derive(Clone, Copy)]
 pub struct ShellPanel {
     pub number: u32,
     pub place: u32,
@@ -131,33 +116,30 @@ pub fn shell_repair_panel(
         meshes,
         work,
     ) {
-        Packed::Done(a, b, c, d, e) => ShellPanel {
+        Ok(packed) => ShellPanel {
             number: 0,
             place: 0,
-            points: a as u64,
-            faces: b as u64,
-            counts: c as u64,
-            origins: d as u64,
-            meshes: e as u64,
+            points: packed.points as u64,
+            faces: packed.faces as u64,
+            counts: packed.counts as u64,
+            origins: packed.origins as u64,
+            meshes: packed.meshes as u64,
         },
-        Packed::Refused(number, at) => {
-            let place = at as u32;
-            ShellPanel {
-                number: number,
-                place: place,
-                points: 0,
-                faces: 0,
-                counts: 0,
-                origins: 0,
-                meshes: 0,
-            }
-        }
+        Err(refusal) => ShellPanel {
+            number: refusal.number(),
+            place: refusal.place() as u32,
+            points: 0,
+            faces: 0,
+            counts: 0,
+            origins: 0,
+            meshes: 0,
+        },
     }
 }
 
 // What the edge call gives back: how many entries stand in the rooms of edges, lengths and face edges.
 #[repr(C)]
-#[derive(Drop)]
+#[derive(Clone, Copy)]
 pub struct ShellEdges {
     pub number: u32,
     pub place: u32,
@@ -181,29 +163,26 @@ pub fn shell_edges(
         Given result.number result.place entries after (rule.find_edges points.now faces.now before) }
 {
     match edges::find_edges(points, faces, edges, lengths, face_edges, work) {
-        Found::Done(a, b, c) => ShellEdges {
+        Ok(found) => ShellEdges {
             number: 0,
             place: 0,
-            edges: a as u64,
-            lengths: b as u64,
-            face_edges: c as u64,
+            edges: found.edges as u64,
+            lengths: found.lengths as u64,
+            face_edges: found.face_edges as u64,
         },
-        Found::Refused(number, at) => {
-            let place = at as u32;
-            ShellEdges {
-                number: number,
-                place: place,
-                edges: 0,
-                lengths: 0,
-                face_edges: 0,
-            }
-        }
+        Err(refusal) => ShellEdges {
+            number: refusal.number(),
+            place: refusal.place() as u32,
+            edges: 0,
+            lengths: 0,
+            face_edges: 0,
+        },
     }
 }
 
 // What the loop call gives back: how many entries stand in the rooms of loop vertices and loop ends.
 #[repr(C)]
-#[derive(Drop)]
+#[derive(Clone, Copy)]
 pub struct ShellLoops {
     pub number: u32,
     pub place: u32,
@@ -225,27 +204,24 @@ pub fn shell_loops(
         Given result.number result.place entries after (rule.find_loops points.now faces.now before) }
 {
     match boundary_loops::find_loops(points, faces, loop_vertices, loop_ends, work) {
-        Looped::Done(a, b) => ShellLoops {
+        Ok(loops) => ShellLoops {
             number: 0,
             place: 0,
-            loop_vertices: a as u64,
-            loop_ends: b as u64,
+            loop_vertices: loops.loop_vertices as u64,
+            loop_ends: loops.loop_ends as u64,
         },
-        Looped::Refused(number, at) => {
-            let place = at as u32;
-            ShellLoops {
-                number: number,
-                place: place,
-                loop_vertices: 0,
-                loop_ends: 0,
-            }
-        }
+        Err(refusal) => ShellLoops {
+            number: refusal.number(),
+            place: refusal.place() as u32,
+            loop_vertices: 0,
+            loop_ends: 0,
+        },
     }
 }
 
 // What the edge check gives back: yes is 1, no is 0.
 #[repr(C)]
-#[derive(Drop)]
+#[derive(Clone, Copy)]
 pub struct ShellCheck {
     pub number: u32,
     pub place: u32,
@@ -257,25 +233,22 @@ pub fn shell_check(point_count: u64, faces: &[u32], work: &mut [u32]) -> ShellCh
     ensures { Given result.number result.place (result.yes ∷ []) work.new (rule.check point_count faces.now work.old) }
 {
     match edge_check::check(point_count as usize, faces, work) {
-        Checked::Done(answer) => ShellCheck {
+        Ok(answer) => ShellCheck {
             number: 0,
             place: 0,
-            yes: if answer { 1 } else { 0 },
+            yes: u64::from(answer),
         },
-        Checked::Refused(number, at) => {
-            let place = at as u32;
-            ShellCheck {
-                number: number,
-                place: place,
-                yes: 0,
-            }
-        }
+        Err(refusal) => ShellCheck {
+            number: refusal.number(),
+            place: refusal.place() as u32,
+            yes: 0,
+        },
     }
 }
 
 // What the report line gives back.
 #[repr(C)]
-#[derive(Drop)]
+#[derive(Clone, Copy)]
 pub struct ShellLine {
     pub number: u32,
     pub place: u32,
@@ -287,25 +260,22 @@ pub fn shell_line(counts: &[u32], line: &mut [u8]) -> ShellLine
     ensures { Given result.number result.place (result.bytes ∷ []) line.new (rule.write_line counts.now line.old) }
 {
     match line::line(counts, line) {
-        Lined::Done(bytes) => ShellLine {
+        Ok(bytes) => ShellLine {
             number: 0,
             place: 0,
             bytes: bytes as u64,
         },
-        Lined::Refused(number, at) => {
-            let place = at as u32;
-            ShellLine {
-                number: number,
-                place: place,
-                bytes: 0,
-            }
-        }
+        Err(refusal) => ShellLine {
+            number: refusal.number(),
+            place: refusal.place() as u32,
+            bytes: 0,
+        },
     }
 }
 
 // What the patch call gives back.
 #[repr(C)]
-#[derive(Drop)]
+#[derive(Clone, Copy)]
 pub struct ShellPatches {
     pub number: u32,
     pub place: u32,
@@ -368,16 +338,16 @@ pub fn shell_patches(
         flags,
         work,
     ) {
-        Patched::Done(a, b, c) => ShellPatches {
+        Ok(patched) => ShellPatches {
             number: 0,
             place: 0,
-            face_counts: a as u64,
-            numbers: b as u64,
-            flags: c as u64,
+            face_counts: patched.face_counts as u64,
+            numbers: patched.numbers as u64,
+            flags: patched.flags as u64,
         },
-        Patched::Refused(number, at) => ShellPatches {
-            number: number,
-            place: place_of(at),
+        Err(refusal) => ShellPatches {
+            number: refusal.number(),
+            place: place_of(refusal.place()),
             face_counts: 0,
             numbers: 0,
             flags: 0,
@@ -387,7 +357,7 @@ pub fn shell_patches(
 
 // What reading a binary STL file gives back: how many entries stand in the rooms of points and faces.
 #[repr(C)]
-#[derive(Drop)]
+#[derive(Clone, Copy)]
 pub struct ShellStl {
     pub number: u32,
     pub place: u32,
@@ -407,27 +377,24 @@ pub fn shell_read_stl(
         Given result.number result.place (result.points ∷ result.faces ∷ []) after (rule.read_stl file.now before) }
 {
     match read_stl::read_stl(file, points, faces, work) {
-        Read::Done(a, b) => ShellStl {
+        Ok(read) => ShellStl {
             number: 0,
             place: 0,
-            points: a as u64,
-            faces: b as u64,
+            points: read.points as u64,
+            faces: read.faces as u64,
         },
-        Read::Refused(number, at) => {
-            let place = at as u32;
-            ShellStl {
-                number: number,
-                place: place,
-                points: 0,
-                faces: 0,
-            }
-        }
+        Err(refusal) => ShellStl {
+            number: refusal.number(),
+            place: refusal.place() as u32,
+            points: 0,
+            faces: 0,
+        },
     }
 }
 
 // What reading a binary PLY file gives back: how many entries stand in the rooms of points and faces.
 #[repr(C)]
-#[derive(Drop)]
+#[derive(Clone, Copy)]
 pub struct ShellPly {
     pub number: u32,
     pub place: u32,
@@ -447,27 +414,24 @@ pub fn shell_read_ply(
         Given result.number result.place (result.points ∷ result.faces ∷ []) after (rule.read_ply file.now before) }
 {
     match read_ply::read_ply(file, points, faces, work) {
-        read_ply::Read::Done(a, b) => ShellPly {
+        Ok(read) => ShellPly {
             number: 0,
             place: 0,
-            points: a as u64,
-            faces: b as u64,
+            points: read.points as u64,
+            faces: read.faces as u64,
         },
-        read_ply::Read::Refused(number, at) => {
-            let place = at as u32;
-            ShellPly {
-                number: number,
-                place: place,
-                points: 0,
-                faces: 0,
-            }
-        }
+        Err(refusal) => ShellPly {
+            number: refusal.number(),
+            place: refusal.place() as u32,
+            points: 0,
+            faces: 0,
+        },
     }
 }
 
 // What writing a binary PLY file gives back: how many bytes the file has.
 #[repr(C)]
-#[derive(Drop)]
+#[derive(Clone, Copy)]
 pub struct ShellPlyFile {
     pub number: u32,
     pub place: u32,
@@ -486,25 +450,22 @@ pub fn shell_write_ply(
         Given result.number result.place (result.bytes ∷ []) after (rule.write_ply points.now faces.now before) }
 {
     match write_ply::write_ply(points, faces, file, work) {
-        Wrote::Done(a) => ShellPlyFile {
+        Ok(length) => ShellPlyFile {
             number: 0,
             place: 0,
-            bytes: a as u64,
+            bytes: length as u64,
         },
-        Wrote::Refused(number, at) => {
-            let place = at as u32;
-            ShellPlyFile {
-                number: number,
-                place: place,
-                bytes: 0,
-            }
-        }
+        Err(refusal) => ShellPlyFile {
+            number: refusal.number(),
+            place: refusal.place() as u32,
+            bytes: 0,
+        },
     }
 }
 
 // What the counts of a binary PLY file are: P and F.
 #[repr(C)]
-#[derive(Drop)]
+#[derive(Clone, Copy)]
 pub struct ShellPlyCounts {
     pub number: u32,
     pub place: u32,
@@ -517,27 +478,24 @@ pub fn shell_ply_counts(file: &[u8]) -> ShellPlyCounts
     ensures { Given result.number result.place (result.points ∷ result.faces ∷ []) tt (rule.ply_counts file.now) }
 {
     match ply_counts::ply_counts(file) {
-        Counted::Done(p, f) => ShellPlyCounts {
+        Ok(counted) => ShellPlyCounts {
             number: 0,
             place: 0,
-            points: p as u64,
-            faces: f as u64,
+            points: counted.points as u64,
+            faces: counted.faces as u64,
         },
-        Counted::Refused(number, at) => {
-            let place = at as u32;
-            ShellPlyCounts {
-                number: number,
-                place: place,
-                points: 0,
-                faces: 0,
-            }
-        }
+        Err(refusal) => ShellPlyCounts {
+            number: refusal.number(),
+            place: refusal.place() as u32,
+            points: 0,
+            faces: 0,
+        },
     }
 }
 
 // What applying a mending list gives back: how many entries stand in the rooms of points and faces.
 #[repr(C)]
-#[derive(Drop)]
+#[derive(Clone, Copy)]
 pub struct ShellApplied {
     pub number: u32,
     pub place: u32,
@@ -559,27 +517,24 @@ pub fn shell_apply(
         Given result.number result.place (result.points ∷ result.faces ∷ []) after (rule.apply_list points.now faces.now text.now before) }
 {
     match apply_list::apply_list(points, faces, text, out_points, out_faces, work) {
-        Applied::Done(a, b) => ShellApplied {
+        Ok(mended) => ShellApplied {
             number: 0,
             place: 0,
-            points: a as u64,
-            faces: b as u64,
+            points: mended.points as u64,
+            faces: mended.faces as u64,
         },
-        Applied::Refused(number, at) => {
-            let place = at as u32;
-            ShellApplied {
-                number: number,
-                place: place,
-                points: 0,
-                faces: 0,
-            }
-        }
+        Err(refusal) => ShellApplied {
+            number: refusal.number(),
+            place: refusal.place() as u32,
+            points: 0,
+            faces: 0,
+        },
     }
 }
 
 // What writing a mending list gives back: how many bytes the text has.
 #[repr(C)]
-#[derive(Drop)]
+#[derive(Clone, Copy)]
 pub struct ShellList {
     pub number: u32,
     pub place: u32,
@@ -601,18 +556,15 @@ pub fn shell_list_in_parts(
     ensures { ListTold points.now faces.now s options text.old corners.old origins.old rest.old text.new corners.new origins.new rest.new result.number result.place result.bytes }
 {
     match write_list::write_list(points, faces, s, options, text, corners, origins, rest) {
-        Listed::Done(written) => ShellList {
+        Ok(written) => ShellList {
             number: 0,
             place: 0,
             bytes: written as u64,
         },
-        Listed::Refused(number, at) => {
-            let place = at as u32;
-            ShellList {
-                number: number,
-                place: place,
-                bytes: 0,
-            }
-        }
+        Err(refusal) => ShellList {
+            number: refusal.number(),
+            place: refusal.place() as u32,
+            bytes: 0,
+        },
     }
 }

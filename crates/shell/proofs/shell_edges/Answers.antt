@@ -1,14 +1,7 @@
 -- `shell::shell_edges` meets its contract: the outcome of the edge call, told in numbers. Assumes nothing.
 use native.Mathlib.Omega.{arith}
 use Rattle.place_laws.proofs.Outcomes.{edges_place}
-use Rattle.shell.proofs.Outcomes.{given_accepted, given_refused}
 use Rattle.shell.proofs.shell_edges.Goals as goal
 
-pub overflow_cast-place : goal.overflow_cast-place
-overflow_cast-place c = omega (arith, edges_place _ _ _ (rw c.in-Refused.is at c.find_edges.ensures))
-
-pub returns-in-Done : goal.returns-in-Done
-returns-in-Done c = given_accepted (rw c.in-Done.is at c.find_edges.ensures)
-
-pub returns-in-Refused : goal.returns-in-Refused
-returns-in-Refused c = given_refused 3 (rw c.in-Refused.is at c.find_edges.ensures)
+pub overflow_cast-result : goal.overflow_cast-result
+overflow_cast-result c = omega (arith, c.place.ensures, edges_place _ _ _ c.in-Err.ensures)

@@ -1,14 +1,7 @@
 -- `shell::shell_write_ply` meets its contract: the outcome of writing, told in numbers. Assumes nothing.
 use native.Mathlib.Omega.{arith}
-use Rattle.shell.proofs.Outcomes.{given_accepted, given_refused}
 use Rattle.shell.proofs.PlyPlaces.{write_ply_place}
 use Rattle.shell.proofs.shell_write_ply.Goals as goal
 
-pub overflow_cast-place : goal.overflow_cast-place
-overflow_cast-place c = omega (arith, write_ply_place _ _ _ (rw c.in-Refused.is at c.write_ply.ensures))
-
-pub returns-in-Done : goal.returns-in-Done
-returns-in-Done c = given_accepted (rw c.in-Done.is at c.write_ply.ensures)
-
-pub returns-in-Refused : goal.returns-in-Refused
-returns-in-Refused c = given_refused 1 (rw c.in-Refused.is at c.write_ply.ensures)
+pub overflow_cast-result : goal.overflow_cast-result
+overflow_cast-result c = omega (arith, c.place.ensures, write_ply_place _ _ _ c.in-Err.ensures)

@@ -1,24 +1,24 @@
 -- The lines of passes 5 and 6, each on or off, by the words after passes 1 to 4. Assumes nothing.
 use mathlib.Core.Path.{◌≡◌, refl, sym, ap, ap₂, ◌∙◌, subst}
-use mathlib.Core.Bool.{Bool, true, false, not, ◌&&◌, cond, true≢false}
+use mathlib.Core.Bool.{Bool, true, false, ◌&&◌, cond, true≢false}
 use mathlib.Core.List.{List, [], ◌∷◌}
-use Prim.Native.Nat.{ℕ, suc, ◌+◌, ◌-◌, ◌*◌, ◌/◌, ◌≤◌, ◌<◌}
+use Prim.Native.Nat.{ℕ, ◌+◌, ◌-◌, ◌*◌, ◌≤◌, ◌<◌}
 use native.Mathlib.Nat.{mul-suc}
 use native.Mathlib.Omega.{arith}
 use lib.ListN.{length}
 use lib.Ieee.{Float}
-use Rattle.rules.specs.Lists.{below, filter, count, each}
-use Rattle.rules.specs.Mesh.{Face, points_of}
+use Rattle.rules.specs.Lists.{below, filter, each}
+use Rattle.rules.specs.Mesh.{Face}
 use Rattle.rules.specs.State.{State}
 use Rattle.rules.specs.Repair.{optional}
 use Rattle.rules.specs.Pass5.{pass5}
-use Rattle.rules.specs.Mending.{lines5, lines6}
+use Rattle.rules.specs.Mending.{lines6}
 use Rattle.rule_laws.proofs.Once.{Inside}
 use Rattle.rule_laws.proofs.Flat.{length_points}
 use Rattle.rule_laws.proofs.Digits.{decimal_short}
 use Rattle.rule_laws.proofs.Counting.{count_below_le}
 use Rattle.rule_laws.proofs.Lists.{length_below}
-use Rattle.rule_laws.proofs.Rising.{All, all_imp, below_all}
+use Rattle.rule_laws.proofs.Rising.{all_imp, below_all}
 use Rattle.fan_laws.specs.Sums.{sum_of, field}
 use Rattle.fan_laws.specs.Opening.{opens, lost, kept, keeps, rank}
 use Rattle.splitting.specs.Corners.{corner_at}

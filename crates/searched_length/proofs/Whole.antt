@@ -1,11 +1,11 @@
 -- The list, pass by pass: its length is the sum of what the passes tell, and is bounded. Assumes nothing.
-use mathlib.Core.Path.{◌≡◌, refl, sym, ap, ap₂, ◌∙◌, subst}
+use mathlib.Core.Path.{◌≡◌, refl, sym, ap, ◌∙◌, subst}
 use mathlib.Core.Bool.{Bool, cond}
 use mathlib.Core.List.{List, [], ◌++◌}
-use Prim.Native.Nat.{ℕ, ◌+◌, ◌*◌, ◌/◌, ◌%◌, ◌≤◌, ◌<◌}
+use Prim.Native.Nat.{ℕ, ◌+◌, ◌/◌, ◌%◌, ◌≤◌, ◌<◌}
 use native.Mathlib.Omega.{arith}
 use lib.Dec.{eqb}
-use lib.ListN.{length, get_or, length-append}
+use lib.ListN.{length, length-append}
 use lib.Ieee.{Float}
 use Rattle.rules.specs.Lists.{each}
 use Rattle.rules.specs.Mesh.{Point, Face, points_of, faces_of}
@@ -18,13 +18,13 @@ use Rattle.rules.specs.Pass4.{pass4}
 use Rattle.rules.specs.Pass5.{pass5}
 use Rattle.rules.specs.Mending.{Line, line_text, lines1, lines2, lines3, lines4, lines5, lines6, list, list_text}
 use Rattle.rule_laws.proofs.Lists.{each_append}
-use Rattle.rule_laws.proofs.Rising.{All, all_imp, all_map, Up}
+use Rattle.rule_laws.proofs.Rising.{All, all_imp, all_map}
 use Rattle.rule_laws.proofs.Flat.{length_points, length_faces}
 use Rattle.rule_laws.proofs.Once.{Inside}
 use Rattle.refuse.specs.Accepted.{Accepted}
 use Rattle.mending_laws.proofs.Rise.{from_rise}
 use Rattle.mending_laws.proofs.Bounded.{text_bounded}
-use Rattle.face_words.specs.Words.{stands, view, there, viewed}
+use Rattle.face_words.specs.Words.{view, there, viewed}
 use Rattle.face_words.specs.Views.{Worded}
 use Rattle.face_words.proofs.Places.{there_all}
 use Rattle.face_words.proofs.Input.{viewed_input, view_origin}

@@ -6,7 +6,6 @@ use Rattle.rules.specs.Pass5.{pass5}
 use Rattle.rules.specs.Mending.{lines5, lines6}
 use Rattle.refuse.specs.Accepted.{Accepted}
 use Rattle.face_index.specs.Index.{Indexed}
-use Rattle.face_words.specs.Words.{viewed}
 use Rattle.face_words.specs.Views.{Worded}
 use Rattle.entry_search.specs.Choosing.{BestAsks}
 use Rattle.searched_lines.specs.Lines.{bytes_of, Shown}
@@ -35,8 +34,3 @@ pub record RoomAsk (ps : List Float) (xs w ix : List ℕ) : Type 0 where
   pub input : Accepted ps xs
   pub words : length xs / 3 ≤ length w
   pub index : 1024 ≤ length ix
-
--- input that was accepted, of few faces
-pub record FewAsk (ps : List Float) (xs : List ℕ) : Type 0 where
-  pub input : Accepted ps xs
-  pub few : length xs ≤ 12288

@@ -1,7 +1,7 @@
 // The length of a mending list, found by a search in the faces alone, with one word a face and an index of the faces.
 #![tactic(auto)]
 
-ghost use Rattle.std.specs.Prelude.{◌≡◌, length};
+ghost use Rattle.std.specs.Prelude.{◌≡◌, ◌/◌, ◌≤◌, length};
 ghost use Rattle.rules.specs.Mesh.{points_of, faces_of};
 ghost use Rattle.rules.specs.Mending.{list_text};
 ghost use Rattle.refuse.specs.Accepted.{Accepted};
@@ -9,7 +9,7 @@ ghost use Rattle.face_index.specs.Index.{Indexed};
 ghost use Rattle.searched_length.specs.Length as by;
 
 // How long the lines of passes 5 and 6 are.
-#[derive(Drop)]
+#[derive(Clone, Copy, Debug, PartialEq, Eq)]
 struct Ends {
     fifth: usize,
     sixth: usize,
@@ -93,46 +93,34 @@ pub fn in_rows(
     all_lines(points, faces, s, options, index, &mut words[..n])
 }
 
-// How long the list is, for up to 4,096 faces: 48 KB of rows on the stack. It is not made a part of its caller, so that the rows are on the stack only where
-// they are used.
+// How long the list is, with rows of WORDS words and of INDEX words for the index, on the stack. It is not made a part of its caller, so that the rows are on the
+// stack only where they are used.
 #[inline(never)]
-fn few(points: &[f64], faces: &[u32], s: f64, options: u32) -> usize
-    requires { by.FewAsk points.now faces.now }
+fn within<const WORDS: usize, const INDEX: usize>(
+    points: &[f64],
+    faces: &[u32],
+    s: f64,
+    options: u32,
+) -> usize
+    requires accepted { Accepted points.now faces.now }
+    requires words { length faces.now / 3 ≤ WORDS }
+    requires most_words { WORDS ≤ 1048576 }
+    requires index { 1024 ≤ INDEX }
+    requires most_index { INDEX ≤ 262144 }
     ensures { result ≡ length (list_text s options (points_of points.now) (faces_of faces.now)) }
 {
-    let mut words = [0u32; 4096];
-    let mut index = [0u32; 8192];
-    let r = in_rows(points, faces, s, options, &mut words, &mut index);
-    // This is never so: no list is as long. A function that calls itself is less easily made a part of its caller.
-    if r > 200000000 {
-        return few(points, faces, s, options);
-    }
-    r
+    let mut words = [0u32; WORDS];
+    let mut index = [0u32; INDEX];
+    in_rows(points, faces, s, options, &mut words, &mut index)
 }
 
-// How long the list is, for any number of faces: 5 MB of rows on the stack, only where they are used.
-#[inline(never)]
-fn many(points: &[f64], faces: &[u32], s: f64, options: u32) -> usize
-    requires { Accepted points.now faces.now }
-    ensures { result ≡ length (list_text s options (points_of points.now) (faces_of faces.now)) }
-{
-    let mut words = [0u32; 1048576];
-    let mut index = [0u32; 262144];
-    let r = in_rows(points, faces, s, options, &mut words, &mut index);
-    // This is never so, as in `few`.
-    if r > 200000000 {
-        return many(points, faces, s, options);
-    }
-    r
-}
-
-// How long the text of the mending list is, by a search in the faces alone.
+// How long the text of the mending list is, by a search in the faces alone: for up to 4,096 faces with 48 KB of rows, and else with 5 MB.
 pub fn searched_length(points: &[f64], faces: &[u32], s: f64, options: u32) -> u64
     requires { Accepted points.now faces.now }
     ensures { result ≡ length (list_text s options (points_of points.now) (faces_of faces.now)) }
 {
     if faces.len() <= 12288 {
-        return few(points, faces, s, options) as u64;
+        return within::<4096, 8192>(points, faces, s, options) as u64;
     }
-    many(points, faces, s, options) as u64
+    within::<1048576, 262144>(points, faces, s, options) as u64
 }

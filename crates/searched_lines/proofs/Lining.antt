@@ -1,17 +1,15 @@
 -- The line of one face, by the tests of its word, its shape or its corners. Assumes nothing.
-use mathlib.Core.Path.{◌≡◌, refl, sym, ap, ◌∙◌}
-use mathlib.Core.Bool.{Bool, true, false, not, ◌&&◌, cond}
+use mathlib.Core.Path.{◌≡◌, ap, ◌∙◌}
+use mathlib.Core.Bool.{Bool, true, false}
 use mathlib.Core.List.{List}
-use Prim.Native.Nat.{ℕ, ◌+◌, ◌*◌, ◌/◌, ◌%◌, ◌<◌}
+use Prim.Native.Nat.{ℕ, ◌+◌, ◌*◌, ◌/◌, ◌%◌}
 use native.Mathlib.Omega.{arith}
 use borrow.Author.Tests.{eq-eqb, ne_eqb}
-use lib.Dec.{eqb}
 use lib.ListN.{length, get_or}
 use lib.Ieee.{Float}
 use Rattle.rules.specs.Float.{Shape, good, repeated, thin, repeats, shape}
-use Rattle.rules.specs.Mesh.{Face, points_of}
+use Rattle.rules.specs.Mesh.{points_of}
 use Rattle.rules.specs.Line.{decimal}
-use Rattle.measure.specs.Measure as measured
 use Rattle.face_words.specs.Words.{stands, straight, view}
 use Rattle.face_words.specs.Views.{seen_as}
 use Rattle.face_words.specs.declared.Corners.{Corners}

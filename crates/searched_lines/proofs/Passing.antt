@@ -1,8 +1,8 @@
 -- The words after a pass, the state that they stand for, and the length of the pass's lines. Assumes nothing.
 use mathlib.Core.Path.{◌≡◌, refl, sym, ap, ap₂, ◌∙◌}
-use mathlib.Core.Bool.{Bool, true, false, not, cond, true≢false}
+use mathlib.Core.Bool.{Bool, true, false, cond, true≢false}
 use mathlib.Core.List.{List, [], ◌∷◌, ◌++◌}
-use Prim.Native.Nat.{ℕ, ◌+◌, ◌*◌, ◌/◌, ◌%◌, ◌≤◌, ◌<◌}
+use Prim.Native.Nat.{ℕ, ◌+◌, ◌/◌, ◌%◌, ◌≤◌, ◌<◌}
 use native.Mathlib.Omega.{arith}
 use borrow.Author.Tests.{eq-eqb}
 use lib.Dec.{eqb}
@@ -20,18 +20,17 @@ use Rattle.rules.specs.Pass3.{marked3, pass3}
 use Rattle.rules.specs.Pass4.{oriented, marked4, pass4}
 use Rattle.rules.specs.Mending.{Reason, for_duplicate, for_edge, for_direction, word_of, reason_of, Line, exchange, line_text, drops, turned, lines1, lines2, lines3, lines4}
 use Rattle.rule_laws.proofs.Lists.{each_append}
-use Rattle.rule_laws.proofs.Rising.{All, all_imp, below_all}
+use Rattle.rule_laws.proofs.Rising.{all_imp, below_all}
 use Rattle.fan_laws.specs.Sums.{sum_of}
 use Rattle.fan_laws.proofs.Sums.{sum_agree}
-use Rattle.face_words.specs.Words.{stands, straight, viewed}
+use Rattle.face_words.specs.Words.{straight, viewed}
 use Rattle.face_words.specs.Views.{Worded}
-use Rattle.entry_search.specs.Choosing.{BestAsks}
 use Rattle.searched_marks.specs.Marks as marks
 use Rattle.searched_marks.specs.Marks.{mark_at, Plain, WordsAsk, MarkGives, PassGives, SweepAsks, SweepGives}
 use Rattle.searched_marks.proofs.Marking.{low_left, passed}
 use Rattle.searched_walk.specs.Walking.{WalkAsks, TurnedGives}
 use Rattle.searched_walk.specs.declared.Turned.{Turned}
-use Rattle.searched_lines.specs.Lines.{bytes_of, drop_line, degenerate_line, marked_line, exchange_line, SumGives, PassAsks, Shown, ToldGives}
+use Rattle.searched_lines.specs.Lines.{bytes_of, drop_line, degenerate_line, marked_line, exchange_line, SumGives, PassAsks, ToldGives}
 use Rattle.searched_lines.proofs.Telling.{drops_bytes, degenerate_bytes, exchange_bytes}
 
 -- ---- a pass that is off, and one that is on

@@ -15,7 +15,7 @@ use Rattle.rules.specs.Line.{bytes, decimal}
 use Rattle.rules.specs.Pass1.{repeated1, thin1, marked1}
 use Rattle.rules.specs.Mending.{Reason, for_repeated, for_thin, word_of, Line, dropped_face, exchange, line_text, drops, reason_of, turned}
 use Rattle.rule_laws.proofs.Lists.{each_append}
-use Rattle.rule_laws.proofs.Rising.{All, all_imp, below_all}
+use Rattle.rule_laws.proofs.Rising.{all_imp, below_all}
 use Rattle.rule_laws.proofs.Flat.{face_at}
 use Rattle.fan_laws.specs.Sums.{sum_of}
 use Rattle.fan_laws.proofs.Sums.{length_each_sum, sum_agree}

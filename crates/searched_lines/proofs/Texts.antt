@@ -12,7 +12,7 @@ use Rattle.rules.specs.Float.{Shape, good, repeated, thin, shape}
 use Rattle.rules.specs.Mesh.{points_of}
 use Rattle.rules.specs.Line.{bytes, digits, decimal}
 use Rattle.rules.specs.Text.{text_line}
-use Rattle.rules.specs.Mending.{Reason, for_repeated, for_thin, for_duplicate, for_edge, for_direction, pass_of, word_of, Line, dropped_face, exchange, line_text}
+use Rattle.rules.specs.Mending.{Reason, for_repeated, for_thin, for_duplicate, for_edge, for_direction, pass_of, word_of, dropped_face, exchange, line_text}
 use Rattle.rule_laws.proofs.Digits.{decimal_short}
 use Rattle.face_words.specs.Words.{stands, view}
 use Rattle.searched_lines.specs.Lines.{drop_line, shape_line, degenerate_line, marked_line, shows, exchange_line}

@@ -1,15 +1,14 @@
 -- How long the lines are that tell passes 1 to 4, face by face over the flat list xs of the faces and their words w. Definitions only.
-use Rattle.std.specs.Prelude.{◌≡◌, Bool, true, false, not, ◌&&◌, cond, List, ℕ, ◌+◌, ◌*◌, ◌/◌, ◌%◌, ◌≤◌, ◌<◌, eqb, length, get_or, Float}
+use Rattle.std.specs.Prelude.{◌≡◌, Bool, not, ◌&&◌, cond, List, ℕ, ◌+◌, ◌*◌, ◌/◌, ◌%◌, ◌≤◌, ◌<◌, eqb, length, get_or, Float}
 use Rattle.rules.specs.Lists.{below, each}
 use Rattle.rules.specs.Float.{Shape, good, repeated, thin, shape}
-use Rattle.rules.specs.Mesh.{Face, points_of}
+use Rattle.rules.specs.Mesh.{points_of}
 use Rattle.rules.specs.State.{State}
 use Rattle.rules.specs.Line.{decimal}
 use Rattle.rules.specs.Refusal.{most_faces}
 use Rattle.rules.specs.Mending.{Line, line_text}
 use Rattle.fan_laws.specs.Sums.{sum_of}
 use Rattle.face_words.specs.Words.{stands, straight, view, viewed}
-use Rattle.face_words.specs.Views.{Worded}
 use Rattle.entry_search.specs.Choosing.{BestAsks}
 
 -- the length of the text of lines

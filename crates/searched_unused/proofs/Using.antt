@@ -2,7 +2,7 @@
 use mathlib.Core.Path.{◌≡◌, refl, sym, ap, ◌∙◌, subst}
 use mathlib.Core.Bool.{Bool, true, false, ◌&&◌}
 use mathlib.Core.List.{List}
-use Prim.Native.Nat.{ℕ, suc, ◌+◌, ◌*◌, ◌/◌, ◌≤◌, ◌<◌}
+use Prim.Native.Nat.{ℕ, ◌+◌, ◌≤◌, ◌<◌}
 use native.Mathlib.Omega.{arith}
 use native.Mathlib.Decide.{dec_lt, ℕ_discrete}
 use lib.Dec.{T}
@@ -13,7 +13,7 @@ use Rattle.rules.specs.Mesh.{face, faces_of, corners}
 use Rattle.rules.specs.Pass6.{used}
 use Rattle.rule_laws.proofs.Members.{any_intro, any_mem, mem_below, below_mem}
 use Rattle.face_words.specs.Words.{stands, view, viewed}
-use Rattle.face_words.specs.Views.{Worded, ViewAsks}
+use Rattle.face_words.specs.Views.{Worded}
 use Rattle.face_words.proofs.Places.{any_viewed}
 use Rattle.face_index.specs.Index.{joins, CandidateAsks, CandidateGives}
 use Rattle.entry_search.proofs.Entries.{view_has}

@@ -1,5 +1,5 @@
 -- The lines of pass 6, by the words of the faces: one for each point that no face has. Definitions only.
-use Rattle.std.specs.Prelude.{◌≡◌, Bool, ◌&&◌, cond, List, ℕ, ◌+◌, ◌*◌, ◌≤◌, length}
+use Rattle.std.specs.Prelude.{◌≡◌, Bool, ◌&&◌, cond, List, ℕ, ◌+◌, ◌*◌, ◌≤◌}
 use Rattle.rules.specs.Lists.{below, has}
 use Rattle.rules.specs.Mesh.{corners}
 use Rattle.rules.specs.Pass6.{marked6}

@@ -1,7 +1,7 @@
 // The points that no face has, by a search with the index of the faces, and the length of the lines that tell them in a mending list.
 #![tactic(auto)]
 
-ghost use Rattle.std.specs.Prelude.{◌≡◌, ◌≤◌, ◌<◌};
+ghost use Rattle.std.specs.Prelude.{◌≡◌, ◌<◌};
 ghost use Rattle.rules.specs.Pass6 as rule6;
 ghost use Rattle.face_words.specs.Words.{viewed};
 ghost use Rattle.face_words.specs.Views.{Worded, ViewAsks};
@@ -13,10 +13,7 @@ fn holds(faces: &[u32], words: &[u32], g: usize, v: u32) -> bool
     requires { ViewAsks faces.now words.now g }
     ensures { result ≡ by.holds_at faces.now words.now v g }
 {
-    if face_words::stands(words, g) {
-        return face_index::joins(faces, g, v, v);
-    }
-    false
+    face_words::stands(words, g) && face_index::joins(faces, g, v, v)
 }
 
 // Whether a face that stands has point v.

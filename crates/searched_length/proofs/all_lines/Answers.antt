@@ -1,13 +1,6 @@
 -- `searched_length::all_lines` meets its contract: the lengths of the passes are added up. Assumes nothing.
 use native.Mathlib.Omega.{arith}
 use Rattle.searched_length.proofs.Whole.{first_ask, next_ask, end_ask, all_told, text_short}
-use Rattle.searched_length.proofs.all_lines.Reads as reads
-use Rattle.searched_length.proofs.all_lines.Lts as lts
-use Rattle.searched_length.proofs.ending.Reads as ending-reads
-use Rattle.searched_lines.proofs.first.Reads as first_reads
-use Rattle.searched_lines.proofs.fourth.Reads as fourth-reads
-use Rattle.searched_lines.proofs.second.Reads as second_reads
-use Rattle.searched_lines.proofs.third.Reads as third-reads
 use Rattle.searched_length.proofs.all_lines.Goals as goal
 
 pub first-first-requires : goal.first-first-requires

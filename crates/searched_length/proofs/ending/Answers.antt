@@ -1,13 +1,6 @@
 -- `searched_length::ending` meets its contract: each of both passes on or off. Assumes nothing.
 use native.Mathlib.Omega.{arith}
 use Rattle.searched_length.proofs.LastTwo.{both_off, only_six, only_five, both_on, lost-ask, kept_few, all_few, lost_few, six_told}
-use Rattle.searched_length.proofs.ending.Reads as reads
-use Rattle.searched_length.proofs.ending.Lts as lts
-use Rattle.searched_isolated.proofs.all_length.Reads as all-length-reads
-use Rattle.searched_isolated.proofs.kept_length.Reads as kept-length-reads
-use Rattle.searched_lost.proofs.lost_length.Reads as lost-length-reads
-use Rattle.searched_splits.proofs.split_length.Reads as split-length-reads
-use Rattle.searched_unused.proofs.unused_length.Reads as unused-length-reads
 use Rattle.searched_length.proofs.ending.Goals as goal
 
 pub returns-then-not-unused : goal.returns-then-not-unused

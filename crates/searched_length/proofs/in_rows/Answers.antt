@@ -1,10 +1,5 @@
 -- `searched_length::in_rows` meets its contract: the words are cleared, and the faces are indexed. Assumes nothing.
 use Rattle.searched_length.proofs.Rows.{front, rows_ask}
-use Rattle.searched_length.proofs.in_rows.Reads as reads
-use Rattle.searched_length.proofs.in_rows.Lts as lts
-use Rattle.face_index.proofs.make_index.Reads as make-index-reads
-use Rattle.rows.proofs.clear.Reads as clear_reads
-use Rattle.searched_length.proofs.all_lines.Reads as all-lines-reads
 use Rattle.searched_length.proofs.in_rows.Goals as goal
 
 pub slice_bounds-all_lines-end-2 : goal.slice_bounds-all_lines-end-2

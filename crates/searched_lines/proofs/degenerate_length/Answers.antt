@@ -1,11 +1,7 @@
 -- `searched_lines::degenerate_length` meets its contract. The invariant: the lines of the faces that were passed are added up. Assumes nothing.
 use native.Mathlib.Omega.{arith}
-use Prim.Native.Nat.{◌-◌}
 use Rattle.searched_lines.proofs.Texts.{degenerate_short}
 use Rattle.searched_lines.proofs.Summing.{sum_begin, sum_again, sum_done}
-use Rattle.searched_lines.proofs.degenerate_length.Reads as reads
-use Rattle.searched_lines.proofs.degenerate_length.Lts as lts
-use Rattle.searched_lines.proofs.degenerate_line.Reads as degenerate-line-reads
 use Rattle.searched_lines.proofs.degenerate_length.Goals as goal
 
 pub loop-f-init : goal.loop-f-init

@@ -11,6 +11,12 @@ returns-then-not-stands c = gone_none c.args.s c.args.points.now c.args.faces.no
 pub shape-requires : goal.shape-requires
 shape-requires c = shape_ok c.requires c.view-g.ensures
 
+pub overflow_add-result : goal.overflow_add-result
+overflow_add-result c = omega (arith, c.number_length.ensures, decimal_short c.args.f)
+
+pub overflow_add-result-in-Thin : goal.overflow_add-result-in-Thin
+overflow_add-result-in-Thin c = omega (arith, c.number_length-in-Thin.ensures, decimal_short c.args.f)
+
 pub returns-in-Good : goal.returns-in-Good
 returns-in-Good c = good_none c.args.s c.args.points.now c.args.faces.now c.args.words.now c.args.f c.stands.ensures c.if-not-stands.false c.view-g.ensures c.in-Good.ensures
 

@@ -1,11 +1,7 @@
 -- `searched_lines::exchange_length` meets its contract. The invariant: the lines of the faces that were passed are added up. Assumes nothing.
 use native.Mathlib.Omega.{arith}
-use Prim.Native.Nat.{◌-◌}
 use Rattle.searched_lines.proofs.Texts.{exchange_short}
 use Rattle.searched_lines.proofs.Summing.{sum_begin, sum_again, sum_done}
-use Rattle.searched_lines.proofs.exchange_length.Reads as reads
-use Rattle.searched_lines.proofs.exchange_length.Lts as lts
-use Rattle.searched_lines.proofs.exchange_line.Reads as exchange-line-reads
 use Rattle.searched_lines.proofs.exchange_length.Goals as goal
 
 pub loop-f-init : goal.loop-f-init

@@ -2,9 +2,6 @@
 use native.Mathlib.Omega.{arith}
 use Rattle.rule_laws.proofs.Digits.{decimal_short}
 use Rattle.searched_lines.proofs.Lining.{gone_unturned, straight_none, equal_none, turned_line}
-use Rattle.searched_lines.proofs.exchange_line.Reads as reads
-use Rattle.searched_lines.proofs.exchange_line.Lts as lts
-use Rattle.face_words.proofs.stands.Reads as stands-reads
 use Rattle.searched_lines.proofs.exchange_line.Goals as goal
 
 pub returns-then-not-stands : goal.returns-then-not-stands

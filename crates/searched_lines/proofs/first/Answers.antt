@@ -3,10 +3,6 @@ use native.Mathlib.Omega.{arith}
 use Rattle.rules.specs.Pass1.{pass1}
 use Rattle.rules.specs.Mending.{lines1}
 use Rattle.searched_lines.proofs.Passing.{off_told, on_told, pass_ask, first_told}
-use Rattle.searched_lines.proofs.first.Reads as reads
-use Rattle.searched_lines.proofs.first.Lts as lts
-use Rattle.searched_lines.proofs.degenerate_length.Reads as degenerate-length-reads
-use Rattle.searched_marks.proofs.pass1.Reads as pass1-reads
 use Rattle.searched_lines.proofs.first.Goals as goal
 
 pub returns-then-not-on : goal.returns-then-not-on

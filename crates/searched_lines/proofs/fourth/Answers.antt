@@ -4,13 +4,6 @@ use Rattle.rules.specs.Pass4.{pass4}
 use Rattle.rules.specs.Mending.{lines4}
 use Rattle.searched_marks.proofs.Marking.{sweep_ok}
 use Rattle.searched_lines.proofs.Passing.{off_told, on_told, turn_ask, fourth_told}
-use Rattle.searched_lines.proofs.fourth.Reads as reads
-use Rattle.searched_lines.proofs.fourth.Lts as lts
-use Rattle.searched_lines.proofs.exchange_length.Reads as exchange-length-reads
-use Rattle.searched_lines.proofs.marked_length.Reads as marked-length-reads
-use Rattle.searched_marks.proofs.mark_at_steps.Reads as mark-at-steps-reads
-use Rattle.searched_marks.proofs.sweep.Reads as sweep-reads
-use Rattle.searched_walk.proofs.walk.Reads as walk-reads
 use Rattle.searched_lines.proofs.fourth.Goals as goal
 
 pub returns-then-not-on : goal.returns-then-not-on

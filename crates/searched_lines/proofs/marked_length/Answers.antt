@@ -1,11 +1,7 @@
 -- `searched_lines::marked_length` meets its contract. The invariant: the lines of the faces that were passed are added up. Assumes nothing.
 use native.Mathlib.Omega.{arith}
-use Prim.Native.Nat.{◌-◌}
 use Rattle.searched_lines.proofs.Texts.{marked_short}
 use Rattle.searched_lines.proofs.Summing.{sum_begin, sum_again, sum_done}
-use Rattle.searched_lines.proofs.marked_length.Reads as reads
-use Rattle.searched_lines.proofs.marked_length.Lts as lts
-use Rattle.searched_lines.proofs.marked_line.Reads as marked-line-reads
 use Rattle.searched_lines.proofs.marked_length.Goals as goal
 
 pub loop-f-init : goal.loop-f-init

@@ -1,11 +1,7 @@
 -- `searched_lines::marked_length` meets its contract. The invariant: the lines of the faces that were passed are added up. Assumes nothing.
-use Prim.Native.Nat.{◌-◌}
 use lib.ListN.{length}
 use Rattle.searched_lines.specs.Lines.{marked_line}
 use Rattle.searched_lines.proofs.Summing.{Summed}
-use Rattle.searched_lines.proofs.marked_length.Reads as reads
-use Rattle.searched_lines.proofs.marked_length.Lts as lts
-use Rattle.searched_lines.proofs.marked_line.Reads as marked-line-reads
 use Rattle.searched_lines.proofs.marked_length.Given as goal
 
 abbrev pub invariant-loop-f : goal.invariant-loop-f

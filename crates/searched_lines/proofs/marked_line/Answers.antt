@@ -2,8 +2,6 @@
 use native.Mathlib.Omega.{arith}
 use Rattle.rule_laws.proofs.Digits.{decimal_short}
 use Rattle.searched_lines.proofs.Lining.{marked_line_is, unmarked_none}
-use Rattle.searched_lines.proofs.marked_line.Reads as reads
-use Rattle.searched_lines.proofs.marked_line.Lts as lts
 use Rattle.searched_lines.proofs.marked_line.Goals as goal
 
 pub overflow_add-result-then-words-f-eq1 : goal.overflow_add-result-then-words-f-eq1

@@ -4,11 +4,6 @@ use Rattle.rules.specs.Pass2.{pass2}
 use Rattle.rules.specs.Mending.{lines2}
 use Rattle.searched_marks.proofs.Marking.{sweep_ok}
 use Rattle.searched_lines.proofs.Passing.{off_told, on_told, plain, words_ask, second_told}
-use Rattle.searched_lines.proofs.second.Reads as reads
-use Rattle.searched_lines.proofs.second.Lts as lts
-use Rattle.searched_lines.proofs.marked_length.Reads as marked-length-reads
-use Rattle.searched_marks.proofs.mark_duplicates.Reads as mark-duplicates-reads
-use Rattle.searched_marks.proofs.sweep.Reads as sweep-reads
 use Rattle.searched_lines.proofs.second.Goals as goal
 
 pub returns-then-not-on : goal.returns-then-not-on

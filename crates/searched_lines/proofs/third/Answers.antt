@@ -4,11 +4,6 @@ use Rattle.rules.specs.Pass3.{pass3}
 use Rattle.rules.specs.Mending.{lines3}
 use Rattle.searched_marks.proofs.Marking.{sweep_ok}
 use Rattle.searched_lines.proofs.Passing.{off_told, on_told, plain, pass_ask, third_told}
-use Rattle.searched_lines.proofs.third.Reads as reads
-use Rattle.searched_lines.proofs.third.Lts as lts
-use Rattle.searched_lines.proofs.marked_length.Reads as marked-length-reads
-use Rattle.searched_marks.proofs.mark_at_edges.Reads as mark-at-edges-reads
-use Rattle.searched_marks.proofs.sweep.Reads as sweep-reads
 use Rattle.searched_lines.proofs.third.Goals as goal
 
 pub returns-then-not-on : goal.returns-then-not-on

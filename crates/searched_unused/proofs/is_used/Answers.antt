@@ -1,11 +1,7 @@
 -- `searched_unused::is_used` meets its contract. The invariant: none of the faces that were passed holds the point. Assumes nothing.
 use native.Mathlib.Omega.{arith}
-use Prim.Native.Nat.{◌+◌, ◌-◌}
+use Prim.Native.Nat.{◌+◌}
 use Rattle.searched_unused.proofs.Using.{candidate_ok, none_begin, none_again, none_done, found}
-use Rattle.searched_unused.proofs.is_used.Reads as reads
-use Rattle.searched_unused.proofs.is_used.Lts as lts
-use Rattle.face_index.proofs.next_indexed.Reads as next-indexed-reads
-use Rattle.searched_unused.proofs.holds.Reads as holds-reads
 use Rattle.searched_unused.proofs.is_used.Goals as goal
 
 pub next_indexed-g-requires : goal.next_indexed-g-requires

@@ -2,10 +2,6 @@
 use Prim.Native.Nat.{◌-◌}
 use lib.ListN.{length}
 use Rattle.searched_unused.proofs.Using.{NoneYet}
-use Rattle.searched_unused.proofs.is_used.Reads as reads
-use Rattle.searched_unused.proofs.is_used.Lts as lts
-use Rattle.face_index.proofs.next_indexed.Reads as next-indexed-reads
-use Rattle.searched_unused.proofs.holds.Reads as holds-reads
 use Rattle.searched_unused.proofs.is_used.Given as goal
 
 abbrev pub invariant-loop-g : goal.invariant-loop-g

@@ -1,10 +1,6 @@
 -- `searched_unused::unused_length` meets its contract. The invariant: the lines of the points that were passed are added up. Assumes nothing.
 use native.Mathlib.Omega.{arith}
-use Prim.Native.Nat.{◌-◌}
 use Rattle.searched_unused.proofs.Adding.{add_begin, add_again, add_done, line_short}
-use Rattle.searched_unused.proofs.unused_length.Reads as reads
-use Rattle.searched_unused.proofs.unused_length.Lts as lts
-use Rattle.searched_unused.proofs.unused_line.Reads as unused-line-reads
 use Rattle.searched_unused.proofs.unused_length.Goals as goal
 
 pub loop-v-init : goal.loop-v-init

@@ -1,9 +1,5 @@
 -- `searched_unused::unused_length` meets its contract. The invariant: the lines of the points that were passed are added up. Assumes nothing.
-use Prim.Native.Nat.{◌-◌}
 use Rattle.searched_unused.proofs.Adding.{Added}
-use Rattle.searched_unused.proofs.unused_length.Reads as reads
-use Rattle.searched_unused.proofs.unused_length.Lts as lts
-use Rattle.searched_unused.proofs.unused_line.Reads as unused-line-reads
 use Rattle.searched_unused.proofs.unused_length.Given as goal
 
 abbrev pub invariant-loop-v : goal.invariant-loop-v

@@ -2,9 +2,6 @@
 use native.Mathlib.Omega.{arith}
 use Rattle.rule_laws.proofs.Digits.{decimal_short}
 use Rattle.searched_unused.proofs.Adding.{used_none, unused_line_is}
-use Rattle.searched_unused.proofs.unused_line.Reads as reads
-use Rattle.searched_unused.proofs.unused_line.Lts as lts
-use Rattle.searched_unused.proofs.is_used.Reads as is-used-reads
 use Rattle.searched_unused.proofs.unused_line.Goals as goal
 
 pub returns-then-is_used : goal.returns-then-is_used

@@ -4,10 +4,8 @@
 
 ghost use Rattle.std.specs.Prelude.{◌≤◌, ◌<◌, length};
 
-use ply_counts::Counted;
-use read_ply::Read;
+use refuse::Refusal;
 use std::io;
-use write_ply::Wrote;
 
 // Writes a word and two numbers.
 fn answer(rt: &impl Print, word: &[u8], a: u64, b: u64) -> io::Result<()> {
@@ -15,6 +13,16 @@ fn answer(rt: &impl Print, word: &[u8], a: u64, b: u64) -> io::Result<()> {
     show::number(rt, a)?;
     show::number(rt, b)?;
     show::end_line(rt)
+}
+
+// Writes number and place of a refusal.
+fn refused(rt: &impl Print, refusal: Refusal) -> io::Result<()> {
+    answer(
+        rt,
+        b"refused ",
+        refusal.number() as u64,
+        refusal.place() as u64,
+    )
 }
 
 // Reads a file, and writes what the call gives back and what each room then holds.
@@ -26,8 +34,8 @@ fn read_in(
     work: &mut [u32],
 ) -> io::Result<()> {
     match read_ply::read_ply(file, points, faces, work) {
-        Read::Done(a, b) => answer(rt, b"read ", a as u64, b as u64)?,
-        Read::Refused(number, place) => answer(rt, b"refused ", number as u64, place as u64)?,
+        Ok(read) => answer(rt, b"read ", read.points as u64, read.faces as u64)?,
+        Err(refusal) => refused(rt, refusal)?,
     }
     show::bits(rt, points)?;
     show::row(rt, faces, faces.len())?;
@@ -59,10 +67,9 @@ fn short_rooms(rt: &impl Print, file: &[u8]) -> io::Result<()> {
 // Tells the counts of a file.
 fn count(rt: &impl Print, file: &[u8]) -> io::Result<()> {
     match ply_counts::ply_counts(file) {
-        Counted::Done(p, f) => answer(rt, b"counts ", p as u64, f as u64)?,
-        Counted::Refused(number, place) => answer(rt, b"refused ", number as u64, place as u64)?,
+        Ok(counts) => answer(rt, b"counts ", counts.points as u64, counts.faces as u64),
+        Err(refusal) => refused(rt, refusal),
     }
-    Ok(())
 }
 
 // The file with one byte changed.
@@ -125,8 +132,8 @@ fn write_in(
     work: &mut [u32],
 ) -> io::Result<()> {
     match write_ply::write_ply(points, faces, file, work) {
-        Wrote::Done(a) => answer(rt, b"wrote ", a as u64, 0)?,
-        Wrote::Refused(number, place) => answer(rt, b"refused ", number as u64, place as u64)?,
+        Ok(bytes) => answer(rt, b"wrote ", bytes as u64, 0)?,
+        Err(refusal) => refused(rt, refusal)?,
     }
     show::hex(rt, file)?;
     show::runs(rt, work)

@@ -3,7 +3,6 @@
 // infinite.
 #![tactic(auto)]
 
-use read_stl::Read;
 use std::io;
 
 // Writes the bits of a number.
@@ -17,8 +16,8 @@ fn show_float(rt: &impl Print, x: f64) -> io::Result<()> {
 
 // Writes the bits of each of some numbers.
 fn show_floats(rt: &impl Print, xs: &[f64]) -> io::Result<()> {
-    for i in 0..xs.len() {
-        show_float(rt, xs[i])?;
+    for x in xs {
+        show_float(rt, *x)?;
     }
     Ok(())
 }
@@ -30,8 +29,8 @@ fn show_number(rt: &impl Print, n: u32) -> io::Result<()> {
 
 // Writes each of some numbers in decimal.
 fn show_numbers(rt: &impl Print, xs: &[u32]) -> io::Result<()> {
-    for i in 0..xs.len() {
-        show_number(rt, xs[i])?;
+    for x in xs {
+        show_number(rt, *x)?;
     }
     Ok(())
 }
@@ -45,17 +44,18 @@ fn show(
     work: &mut [u32],
 ) -> io::Result<()> {
     match read_stl::read_stl(file, points, faces, work) {
-        Read::Done(p, f) => {
-            if p <= points.len() {
-                show_floats(rt, &points[..p])?;
+        Ok(read) => {
+            if read.points <= points.len() {
+                show_floats(rt, &points[..read.points])?;
             }
-            if f <= faces.len() {
-                show_numbers(rt, &faces[..f])?;
+            if read.faces <= faces.len() {
+                show_numbers(rt, &faces[..read.faces])?;
             }
         }
-        Read::Refused(number, place) => {
+        Err(refusal) => {
             print!(rt; "refused ")?;
-            show_number(rt, number)?;
+            show_number(rt, refusal.number())?;
+            let place = refusal.place();
             println!(rt; "{place}")?;
         }
     }

@@ -3,12 +3,6 @@
 #![tactic(auto)]
 
 use std::io;
-use text_in::Told;
-
-// A u32 as a u64.
-fn wide(x: u32) -> u64 {
-    x as u64
-}
 
 // Writes the line of refusal 11.
 fn refuse(rt: &impl Print) -> io::Result<()> {
@@ -25,17 +19,17 @@ fn show(rt: &impl Print, text: &[u8]) -> io::Result<()> {
     let mut points = [0.0; 192];
     let mut faces = [0; 192];
     match text_in::read(text, &mut points, &mut faces) {
-        Told::Bad => {
+        None => {
             refuse(rt)?;
         }
-        Told::Job(options, threshold, p, f) => {
-            show::number(rt, options as u64)?;
-            if threshold < 1.0 {
+        Some(job) => {
+            show::number(rt, job.options as u64)?;
+            if job.threshold < 1.0 {
                 print!(rt; "small ")?;
             }
-            show::number(rt, p as u64)?;
-            show::number(rt, f as u64)?;
-            show::number(rt, wide(faces[2]))?;
+            show::number(rt, job.points as u64)?;
+            show::number(rt, job.faces as u64)?;
+            show::number(rt, u64::from(faces[2]))?;
             if points[1] != points[1] {
                 print!(rt; "no number")?;
             }

@@ -4,19 +4,16 @@
 
 ghost use Rattle.std.specs.Prelude.{◌≤◌, length};
 
-use refuse::Verdict;
 use std::io;
 
 // Writes how long the list of a mesh is, if the mesh is accepted.
 fn tell(rt: &impl Print, points: &[f64], faces: &[u32], options: u32) -> io::Result<()> {
-    let found = refuse::sizes(points.len(), faces.len());
-    let Verdict::Fine = found else {
+    if refuse::sizes(points.len(), faces.len()).is_err() {
         return Ok(());
-    };
-    let held = refuse::contents(points, faces);
-    let Verdict::Fine = held else {
+    }
+    if refuse::contents(points, faces).is_err() {
         return Ok(());
-    };
+    }
     show::number(
         rt,
         searched_length::searched_length(points, faces, 0.0009765625, options),

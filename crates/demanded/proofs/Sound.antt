@@ -1,6 +1,6 @@
 -- The edge check: given the front of a repair's rooms and enough work room, it answers Ok with yes; and what it says yes to is refused neither 7 nor 8 by
 -- the edge call and the loop call. Assumes nothing.
-use Rattle.std.specs.Prelude.{Result, Ok, Err}
+use Rattle.std.specs.Prelude.{Bool, Result, Ok, Err}
 use Rattle.refuse.specs.declared.Refusal.{Refusal}
 use Rattle.refuse.specs.Verdicts.{number_of}
 use mathlib.Core.Path.{◌≡◌, refl, sym, ap, ◌∙◌, subst}
@@ -46,9 +46,9 @@ module _ (points : List Float) (faces work : List ℕ) {work' : List ℕ} (e : o
   fine = check_fine points faces work (ap (λ t. t.answer) (sym e))
 
   -- an edge call that refuses does so with a number below 7
-  pub edges_fine : (q q' : EdgesRooms) {e : Refusal} → edged-as.outcome_of (Err e) q' ≡ find_edges points faces q → number_of e < 7
-  edges_fine q q' o = subst (λ t. IfRefused (λ k. k < 7) t.answer) (sym o) (fine.edge_call q)
+  pub edges_fine : (q q' : EdgesRooms) (d : Refusal) → edged-as.outcome_of (Err d) q' ≡ find_edges points faces q → number_of d < 7
+  edges_fine q q' d o = subst (λ t. IfRefused (λ k. k < 7) t.answer) (sym o) (fine.edge_call q)
 
   -- and so does a loop call
-  pub loops_fine : (q q' : LoopsRooms) {e : Refusal} → looped-as.outcome_of (Err e) q' ≡ find_loops points faces q → number_of e < 7
-  loops_fine q q' o = subst (λ t. IfRefused (λ k. k < 7) t.answer) (sym o) (fine.loop_call q)
+  pub loops_fine : (q q' : LoopsRooms) (d : Refusal) → looped-as.outcome_of (Err d) q' ≡ find_loops points faces q → number_of d < 7
+  loops_fine q q' d o = subst (λ t. IfRefused (λ k. k < 7) t.answer) (sym o) (fine.loop_call q)

@@ -17,7 +17,6 @@ ghost use Rattle.shell.specs.Told.{Given};
 ghost use Rattle.shell.specs.Clip.{clip, clipped};
 ghost use Rattle.shell.specs.Listed.{ListTold};
 
-
 // What a repair gives back: how many entries stand in the rooms of points, faces, report and origins.
 #[repr(C)]
 #[derive(Clone, Copy)]

@@ -13,7 +13,7 @@ use Rattle.rules.specs.Refusal.{Check, ok, no, decided, no1, no2, no3_threshold,
 use Rattle.rules.specs.State.{report_counts}
 use Rattle.rules.specs.Rooms.{work_room}
 use Rattle.rules.specs.RepairCall.{repair_rooms, RepairRooms, repair_check}
-use Rattle.rules.specs.Text.{Job, job_check}
+use Rattle.rules.specs.Text.{job_check}
 use Rattle.rule_laws.proofs.Decided.{decided_none, decided_ok, unless_is}
 use Rattle.rule_laws.proofs.Firsts.{at_first_ok}
 use Rattle.mend_text.specs.Job.{job_of}

@@ -1,4 +1,5 @@
 -- What a repair of a job gives back is what is printed: the mesh in its rooms, or a refusal. Assumes nothing.
+use Rattle.std.specs.Prelude.{Ok, Err}
 use mathlib.Core.Path.{◌≡◌, refl, sym, ap, subst, ◌∙◌}
 use mathlib.Core.List.{List, [], ◌∷◌, ◌++◌, map}
 use Prim.Native.Nat.{ℕ, ◌+◌, ◌*◌, ◌/◌, ◌≤◌}
@@ -11,8 +12,8 @@ use Rattle.rules.specs.Mesh.{Point, Face, points_of, faces_of, flat_points, flat
 use Rattle.rules.specs.Lists.{each}
 use Rattle.rules.specs.Line.{bytes, decimal}
 use Rattle.rules.specs.State.{State, report_counts}
-use Rattle.rules.specs.Refusal.{Check, ok, no, no4}
-use Rattle.rules.specs.Rooms.{Answer, accepted, refused, Outcome, outcome, filled}
+use Rattle.rules.specs.Refusal.{Check, ok, no}
+use Rattle.rules.specs.Rooms.{Answer, accepted, refused, Outcome, outcome}
 use Rattle.rules.specs.Repair.{repaired}
 use Rattle.rules.specs.RepairCall.{RepairRooms, repair_check, repair}
 use Rattle.rules.specs.Text.{Job, hex, text_line, job_check, job_lines, mesh_lines, refusal_line}
@@ -23,7 +24,8 @@ use Rattle.rule_laws.proofs.Relabel.{Alike, bare, bare_alike, flat_alike}
 use Rattle.rule_laws.proofs.Rising.{all_at}
 use Rattle.repairing.proofs.Fitting.{Fits, repair_fits}
 use Rattle.repair.specs.declared.Repaired.{Repaired}
-use Rattle.repair.specs.declared.Repaired.TheVariants.{Done, Refused}
+use Rattle.refuse.specs.declared.Refusal.{Refusal}
+use Rattle.refuse.specs.Verdicts.{number_of}
 use Rattle.repair.specs.Answers.{rooms_of, outcome_of}
 use Rattle.text_out.specs.Printed.{MeshAsks, Numbers, state_of}
 use Rattle.mend_text.specs.Job.{job_of, lines, MendAsks}
@@ -80,7 +82,17 @@ module _ (s : Float) (o : ℕ) {points : List Float} {faces : List ℕ} {out : L
   unfolding repair
   is_refusal {n} {p} e = ap (job_lines (job_of o s points faces)) (sym same) ∙ refused_lines (job_of o s points faces) (repair_check points faces s o r) r _ _ n p (ap (λ (t : Outcome RepairRooms). t.answer) e)
 
-  module _ {a b k : ℕ} {ps : List Float} {xs rs os w : List ℕ} (e : outcome_of (Done a b k) ps xs rs os w ≡ repair points faces s o r) where
+  module _ {t : Repaired} {ps : List Float} {xs rs os w : List ℕ} (e : outcome_of (Ok t) ps xs rs os w ≡ repair points faces s o r) where
+    -- how many entries stand in the points, the faces and the origins room
+    abbrev a : ℕ
+    a = t.points
+
+    abbrev b : ℕ
+    b = t.faces
+
+    abbrev k : ℕ
+    k = t.origins
+
     -- its parts
     parts : (repair_check points faces s o r ≡ ok) × (3 * length m.points ∷ 3 * length m.faces ∷ report_counts ∷ length m.faces ∷ [] ≡ a ∷ b ∷ report_counts ∷ k ∷ [])
     unfolding repair m
@@ -169,35 +181,31 @@ pub record Lent (ps : List Float) (xs rs os w : List ℕ) : Type 0 where
   pub origins : length os ≡ 64
   pub work : length w ≡ 5184
 
-module _ (s : Float) (o : ℕ) {points : List Float} {faces : List ℕ} {out : List ℕ} (asks : MendAsks points faces out) {ps₀ : List Float} {xs₀ rs₀ os₀ w₀ : List ℕ} (lent : Lent ps₀ xs₀ rs₀ os₀ w₀) (res : Repaired)
-    {ps : List Float} {xs rs os w : List ℕ} (e : outcome_of res ps xs rs os w ≡ repair points faces s o (rooms_of ps₀ xs₀ rs₀ os₀ w₀)) where
+module _ (s : Float) (o : ℕ) {points : List Float} {faces : List ℕ} {out : List ℕ} (asks : MendAsks points faces out) {ps₀ : List Float} {xs₀ rs₀ os₀ w₀ : List ℕ} (lent : Lent ps₀ xs₀ rs₀ os₀ w₀) where
   -- they are long enough
   roomy : Roomy (rooms_of ps₀ xs₀ rs₀ os₀ w₀)
   roomy = record { points = omega (arith, lent.points); faces = omega (arith, lent.faces); report = omega (arith, lent.report); origins = omega (arith, lent.origins); work = omega (arith, lent.work) }
 
   -- the line of a refusal is the job's answer
-  pub puts_refusal : {n p : ℕ} → res ≡ Refused n p → {w₁ w₂ : List ℕ} {end : ℕ} → Puts w₁ 0 (refusal_line n) w₂ end → Puts w₁ 0 (lines o s points faces) w₂ end
-  puts_refusal {n} {p} t {w₁} {w₂} {end} g =
-      subst (λ l. Puts w₁ 0 l w₂ end) (sym (is_refusal s o asks roomy (subst (λ z. outcome_of z ps xs rs os w ≡ repair points faces s o (rooms_of ps₀ xs₀ rs₀ os₀ w₀)) t e))) g
+  pub puts_refusal :
+      {ps : List Float} {xs rs os w : List ℕ} (t : Refusal) → outcome_of (Err t) ps xs rs os w ≡ repair points faces s o (rooms_of ps₀ xs₀ rs₀ os₀ w₀)
+      → {w₁ w₂ : List ℕ} {end : ℕ} → Puts w₁ 0 (refusal_line (number_of t)) w₂ end → Puts w₁ 0 (lines o s points faces) w₂ end
+  puts_refusal t e {w₁} {w₂} {end} g = subst (λ l. Puts w₁ 0 l w₂ end) (sym (is_refusal s o asks roomy e)) g
 
-  module _ {a b k : ℕ} (t : res ≡ Done a b k) where
-    -- the repair is done
-    done : outcome_of (Done a b k) ps xs rs os w ≡ repair points faces s o (rooms_of ps₀ xs₀ rs₀ os₀ w₀)
-    done = subst (λ z. outcome_of z ps xs rs os w ≡ repair points faces s o (rooms_of ps₀ xs₀ rs₀ os₀ w₀)) t e
-
+  module _ {ps : List Float} {xs rs os w : List ℕ} {t : Repaired} (e : outcome_of (Ok t) ps xs rs os w ≡ repair points faces s o (rooms_of ps₀ xs₀ rs₀ os₀ w₀)) where
     -- the mesh is in the rooms
-    pub points_in : length ps ≡ length ps₀ → a ≤ length ps
-    points_in l = omega (arith, points_end s o asks roomy done, lent.points)
+    pub points_in : length ps ≡ length ps₀ → t.points ≤ length ps
+    points_in l = omega (arith, points_end s o asks roomy e, lent.points)
 
-    pub faces_in_is : length xs ≡ length xs₀ → b ≤ length xs
-    faces_in_is l = omega (arith, faces_end s o asks roomy done, lent.faces)
+    pub faces_in_is : length xs ≡ length xs₀ → t.faces ≤ length xs
+    faces_in_is l = omega (arith, faces_end s o asks roomy e, lent.faces)
 
     -- what writing it asks
-    pub writes : length rs ≡ length rs₀ → MeshAsks out (take a ps) (take b xs) rs
-    writes l = mesh_asks s o asks roomy done (l ∙ lent.report)
+    pub writes : length rs ≡ length rs₀ → MeshAsks out (take t.points ps) (take t.faces xs) rs
+    writes l = mesh_asks s o asks roomy e (l ∙ lent.report)
 
     -- its lines are the job's answer
     pub puts_mesh :
-        length rs ≡ length rs₀ → {w₁ w₂ : List ℕ} {end : ℕ} → Puts w₁ 0 (mesh_lines (state_of (take a ps) (take b xs) rs)) w₂ end
+        length rs ≡ length rs₀ → {w₁ w₂ : List ℕ} {end : ℕ} → Puts w₁ 0 (mesh_lines (state_of (take t.points ps) (take t.faces xs) rs)) w₂ end
         → Puts w₁ 0 (lines o s points faces) w₂ end
-    puts_mesh l {w₁} {w₂} {end} g = subst (λ z. Puts w₁ 0 z w₂ end) (sym (is_mended s o asks roomy done (l ∙ lent.report))) g
+    puts_mesh l {w₁} {w₂} {end} g = subst (λ z. Puts w₁ 0 z w₂ end) (sym (is_mended s o asks roomy e (l ∙ lent.report))) g

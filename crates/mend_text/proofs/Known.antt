@@ -1,12 +1,12 @@
 -- The coordinates that a repair leaves are numbers, whatever its options are: no pass makes a coordinate. Assumes nothing.
-use mathlib.Core.Path.{◌≡◌, subst}
+use mathlib.Core.Path.{◌≡◌}
 use mathlib.Core.Bool.{Bool, true, false, not, cond}
 use mathlib.Core.List.{List, [], ◌∷◌}
 use Prim.Native.Nat.{ℕ, zero, suc}
 use lib.Dec.{T, ltb}
 use lib.ListN.{length, drop}
 use lib.Ieee.{Float, nan, inf, fin, is_nan, le}
-use Rattle.rules.specs.Lists.{below, all, through}
+use Rattle.rules.specs.Lists.{below, all}
 use Rattle.rules.specs.Mesh.{Point, Face, coordinates, point, flat_points}
 use Rattle.rules.specs.State.{State, start, counted, with_faces, dropped, vertices_split}
 use Rattle.rules.specs.Pass1.{pass1}

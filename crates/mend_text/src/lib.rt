@@ -6,9 +6,6 @@ ghost use Rattle.byte_rows.specs.Put.{Puts};
 ghost use Rattle.rules.specs.Text as rule;
 ghost use Rattle.mend_text.specs.Job as by;
 
-use repair::Repaired;
-use text_in::Told;
-
 // Mends the mesh of a job: its lines, or the line of the refusal. Returns where the text ends.
 fn mend(points: &[f64], faces: &[u32], threshold: f64, options: u32, out: &mut [u8]) -> usize
     requires { by.MendAsks points.now faces.now out.old }
@@ -30,8 +27,13 @@ fn mend(points: &[f64], faces: &[u32], threshold: f64, options: u32, out: &mut [
         &mut origins,
         &mut work,
     ) {
-        Repaired::Refused(number, place) => text_out::put_refusal(out, number),
-        Repaired::Done(p, f, _) => text_out::put_mesh(out, &mended[..p], &triples[..f], &report),
+        Ok(repaired) => text_out::put_mesh(
+            out,
+            &mended[..repaired.points],
+            &triples[..repaired.faces],
+            &report,
+        ),
+        Err(refusal) => text_out::put_refusal(out, refusal.number()),
     }
 }
 
@@ -43,7 +45,13 @@ pub fn mend_text(text: &[u8], out: &mut [u8]) -> usize
     let mut points = [0.0; 192];
     let mut faces = [0; 192];
     match text_in::read(text, &mut points, &mut faces) {
-        Told::Bad => text_out::put_refusal(out, 11),
-        Told::Job(options, s, p, f) => mend(&points[..p], &faces[..f], s, options, out),
+        None => text_out::put_refusal(out, text_in::BAD_TEXT),
+        Some(job) => mend(
+            &points[..job.points],
+            &faces[..job.faces],
+            job.threshold,
+            job.options,
+            out,
+        ),
     }
 }

@@ -5,6 +5,9 @@ ghost use Rattle.std.specs.Prelude.{◌≡◌, ◌≤◌, ◌<◌, length, drop}
 ghost use Rattle.rules.specs.Text as rule;
 ghost use Rattle.text_in.specs.Asked as by;
 
+// The number of the refusal of a text that asks for no job.
+pub const BAD_TEXT: u32 = 11;
+
 // The cuts of a line of three or of four fields: where the fields after the first begin, less one. Only these lines have a form.
 #[derive(Clone, Copy, Debug, PartialEq, Eq)]
 enum Fields {

@@ -7,7 +7,7 @@ use std::io;
 // Writes the line of refusal 11.
 fn refuse(rt: &impl Print) -> io::Result<()> {
     let mut out = [0; 16];
-    let end = text_out::put_refusal(&mut out, 11);
+    let end = text_out::put_refusal(&mut out, text_in::BAD_TEXT);
     if end <= 16 {
         rt.write_all(&out[..end])?;
     }

@@ -5,14 +5,18 @@ ghost use Rattle.std.specs.Prelude.{◌≡◌, ◌<◌};
 ghost use Rattle.patches.specs.Answers.{limit_of, filter_of};
 ghost use Rattle.patch_mask.specs.Mask.{set, held, masked};
 
-use patches::Filter;
+use patches::{Filter, Limit};
 
 // A number, if the mask sets the limit with this bit.
-fn limit<A: Copy>(limits: u32, bit: u32, x: A) -> Option<A>
+fn limit<A: Copy>(limits: u32, bit: u32, x: A) -> Limit<A>
     requires { 0 < bit }
     ensures { limit_of result ≡ held (set limits bit) x }
 {
-    (limits / bit % 2 == 1).then_some(x)
+    if limits / bit % 2 == 1 {
+        Limit::Limit(x)
+    } else {
+        Limit::Absent
+    }
 }
 
 // The filter: limit k counts where bit k of `limits` is 1; the other bits say nothing.

@@ -14,7 +14,8 @@ use Rattle.rows.proofs.Regions.{only_none, only_next, only_more}
 use Rattle.rules.specs.Patches as rule
 use Rattle.patch_sums.specs.Sums.{record_at}
 use Rattle.patch_rank.specs.Rank.{RankGives}
-use Rattle.std.specs.Prelude.{Option, Some, None}
+use Rattle.patches.specs.declared.Limit.{Limit}
+use Rattle.patches.specs.declared.Limit.TheVariants as held
 use Rattle.patches.specs.Answers.{limit_of, small, after, DropAsks, DropGives, KeepGives}
 
 -- ---- the loop that clears flags
@@ -75,14 +76,14 @@ module _ {cs : List ℕ} {xs : List Float} {C : ℕ} {fs₀ : List ℕ} (p : Dro
 
 -- ---- the ranking
 
-module _ {xs : List Float} {C : ℕ} {fs w fs' : List ℕ} {by : Option ℕ} where
+module _ {xs : List Float} {C : ℕ} {fs w fs' : List ℕ} {by : Limit ℕ} where
   -- no setting: all are flagged
-  pub keep_all : by ≡ None → Only 0 C fs fs' → Filled 0 C 1 fs' → KeepGives xs C (limit_of by) fs w fs' w
+  pub keep_all : by ≡ held.Absent → Only 0 C fs fs' → Filled 0 C 1 fs' → KeepGives xs C (limit_of by) fs w fs' w
   unfolding after
   keep_all e o z =
       record { only_flags = o; only_work = only_none 0 (2 * C) w; flagged = λ k l. rw (zero-add k) at (z.each k l) ∙ rw e }
 
   -- the first n
-  pub keep_first : {n : ℕ} {w' : List ℕ} → by ≡ Some n → RankGives xs C n fs w fs' w' → KeepGives xs C (limit_of by) fs w fs' w'
+  pub keep_first : {n : ℕ} {w' : List ℕ} → by ≡ held.Limit n → RankGives xs C n fs w fs' w' → KeepGives xs C (limit_of by) fs w fs' w'
   unfolding after
   keep_first e g = record { only_flags = g.only_flags; only_work = g.only_work; flagged = λ k l. g.flagged k l ∙ rw e }

@@ -1,5 +1,5 @@
 -- The words of this crate's contracts: the filter as the rules' own, what its parts give, and the call's answer as the rules' outcome. Definitions only.
-use Rattle.std.specs.Prelude.{◌≡◌, Option, Some, None, Result, Ok, Err, Bool, false, ◌||◌, cond, List, [], ◌∷◌, map, ℕ, ◌*◌, ◌≤◌, ◌<◌, ◌^◌, length, get_or, eqb, leb, ltb, Float}
+use Rattle.std.specs.Prelude.{◌≡◌, Result, Ok, Err, Bool, false, ◌||◌, cond, List, [], ◌∷◌, map, ℕ, ◌*◌, ◌≤◌, ◌<◌, ◌^◌, length, get_or, eqb, leb, ltb, Float}
 use Rattle.std.specs.Float.{nan}
 use Rattle.std.specs.Float.Ieee.{lt}
 use Rattle.rows.specs.Region.{Only, OnlyOf, Filled}
@@ -14,15 +14,17 @@ use Rattle.refuse.specs.Verdicts.{number_of, place_of}
 use Rattle.refuse.specs.declared.Refusal.{Refusal}
 use Rattle.patch_sums.specs.Sums.{record_at}
 use Rattle.patch_rank.specs.Rank.{Area, area_at}
+use Rattle.patches.specs.declared.Limit.{Limit}
+use Rattle.patches.specs.declared.Limit.TheVariants as held
 use Rattle.patches.specs.declared.Filter.{Filter}
 use Rattle.patches.specs.declared.Patched.{Patched}
 
 -- ---- the filter
 
 -- a setting as the rules' own
-abbrev pub limit_of : {A : Type 0} → Option A → rule.Limit A
-limit_of None = rule.absent
-limit_of (Some m) = rule.limit m
+abbrev pub limit_of : {A : Type 0} → Limit A → rule.Limit A
+limit_of held.Absent = rule.absent
+limit_of (held.Limit m) = rule.limit m
 
 -- the five settings
 abbrev pub filter_of : Filter → rule.Filter

@@ -17,14 +17,21 @@ use patch_sums::Patch;
 use patches_refusal::Rooms;
 use refuse::Refusal;
 
-// The filter's five settings; one that is not set drops nothing.
-#[derive(Clone, Copy, Debug, PartialEq)]
+// A setting of the filter: absent, or it holds its number. An enum of its own, since that is the form that document 01 names.
+#[derive(Clone, Copy)]
+pub enum Limit<A> {
+    Absent,
+    Limit(A),
+}
+
+// The filter's five settings; an absent one drops nothing.
+#[derive(Clone, Copy)]
 pub struct Filter {
-    pub min_faces: Option<usize>,
-    pub min_area: Option<f64>,
-    pub min_aabb_diagonal: Option<f64>,
-    pub min_area_fraction: Option<f64>,
-    pub keep_largest_n: Option<usize>,
+    pub min_faces: Limit<usize>,
+    pub min_area: Limit<f64>,
+    pub min_aabb_diagonal: Limit<f64>,
+    pub min_area_fraction: Limit<f64>,
+    pub keep_largest_n: Limit<usize>,
 }
 
 // What the patch call gives back: how many entries stand in each of these rooms.
@@ -36,17 +43,23 @@ pub struct Patched {
 }
 
 // Whether a number is < its limit. No number is < an absent one, or < NaN.
-fn under(x: f64, by: Option<f64>) -> bool
+fn under(x: f64, by: Limit<f64>) -> bool
     ensures { result ≡ rule.under lt x (limit_of by) }
 {
-    by.is_some_and(|least| x < least)
+    match by {
+        Limit::Absent => false,
+        Limit::Limit(least) => x < least,
+    }
 }
 
 // Whether a patch has fewer faces than its limit.
-fn few(n: u32, by: Option<usize>) -> bool
+fn few(n: u32, by: Limit<usize>) -> bool
     ensures { result ≡ rule.under ltb n (limit_of by) }
 {
-    by.is_some_and(|least| (n as usize) < least)
+    match by {
+        Limit::Absent => false,
+        Limit::Limit(least) => (n as usize) < least,
+    }
 }
 
 // The diagonal of a patch's box: 0 for an empty patch, else root((dx² + dy²) + dz²).
@@ -85,16 +98,18 @@ fn largest(numbers: &[f64], count: usize) -> f64
 }
 
 // The limit that a fraction sets: (largest area of all patches)·fraction.
-fn share(numbers: &[f64], count: usize, fraction: Option<f64>) -> Option<f64>
+fn share(numbers: &[f64], count: usize, fraction: Limit<f64>) -> Limit<f64>
     requires { 7 * count ≤ length numbers.now }
     ensures { limit_of result ≡ share_of numbers.now count (limit_of fraction) }
 {
-    let part = fraction?;
-    Some(largest(numbers, count) * part)
+    match fraction {
+        Limit::Absent => Limit::Absent,
+        Limit::Limit(part) => Limit::Limit(largest(numbers, count) * part),
+    }
 }
 
 // Whether a patch is dropped by its faces, area or diagonal, or by the share of the largest area.
-fn falls(n: u32, r: Patch, by: Filter, least: Option<f64>) -> bool
+fn falls(n: u32, r: Patch, by: Filter, least: Limit<f64>) -> bool
     ensures { result ≡ small (filter_of by) (limit_of least) n (patch_of r) }
 {
     few(n, by.min_faces)
@@ -109,7 +124,7 @@ fn drop_small(
     numbers: &[f64],
     count: usize,
     by: Filter,
-    least: Option<f64>,
+    least: Limit<f64>,
     flags: &mut [u32],
 )
     requires { DropAsks face_counts.now numbers.now count flags.old }
@@ -124,13 +139,13 @@ fn drop_small(
 }
 
 // Flags all patches, or, with the setting, the first n of all patches by area.
-fn keep(numbers: &[f64], count: usize, most: Option<usize>, flags: &mut [u32], work: &mut [u32])
+fn keep(numbers: &[f64], count: usize, most: Limit<usize>, flags: &mut [u32], work: &mut [u32])
     requires { KeepAsks numbers.now count flags.old work.old }
     ensures { KeepGives numbers.now count (limit_of most) flags.old work.old flags.new work.new }
 {
     match most {
-        None => rows::fill(flags, 0, count, 1),
-        Some(n) => patch_rank::keep_largest(numbers, count, n, flags, work),
+        Limit::Absent => rows::fill(flags, 0, count, 1),
+        Limit::Limit(n) => patch_rank::keep_largest(numbers, count, n, flags, work),
     }
 }
 

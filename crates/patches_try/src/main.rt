@@ -2,7 +2,7 @@
 // has the answer, and then the entries of face counts, flags and work, which all were 7 before the call.
 #![tactic(auto)]
 
-use patches::Filter;
+use patches::{Filter, Limit};
 use std::io;
 
 // Writes the entries of a row.
@@ -50,15 +50,11 @@ fn run(rt: &impl Print, labels: &[u32], by: Filter) -> io::Result<()> {
 }
 
 // A filter by the two whole numbers and the fraction; the others are absent.
-fn filter(
-    min_faces: Option<usize>,
-    fraction: Option<f64>,
-    keep_largest_n: Option<usize>,
-) -> Filter {
+fn filter(min_faces: Limit<usize>, fraction: Limit<f64>, keep_largest_n: Limit<usize>) -> Filter {
     Filter {
         min_faces,
-        min_area: None,
-        min_aabb_diagonal: None,
+        min_area: Limit::Absent,
+        min_aabb_diagonal: Limit::Absent,
         min_area_fraction: fraction,
         keep_largest_n,
     }
@@ -67,10 +63,34 @@ fn filter(
 // Nothing set; the largest; the largest where it has too few faces, which ranks all patches and so keeps none; half of the largest; and refusals.
 fn main(rt: HostRuntime) -> io::Result<()> {
     let labels = [0, 0, 1, 4294967295];
-    run(&rt, &labels, filter(None, None, None))?;
-    run(&rt, &labels, filter(None, None, Some(1)))?;
-    run(&rt, &labels, filter(Some(2), None, Some(1)))?;
-    run(&rt, &labels, filter(None, Some(0.5), None))?;
-    run(&rt, &labels[..3], filter(None, None, None))?;
-    run(&rt, &[0, 3, 1, 2], filter(None, None, None))
+    run(
+        &rt,
+        &labels,
+        filter(Limit::Absent, Limit::Absent, Limit::Absent),
+    )?;
+    run(
+        &rt,
+        &labels,
+        filter(Limit::Absent, Limit::Absent, Limit::Limit(1)),
+    )?;
+    run(
+        &rt,
+        &labels,
+        filter(Limit::Limit(2), Limit::Absent, Limit::Limit(1)),
+    )?;
+    run(
+        &rt,
+        &labels,
+        filter(Limit::Absent, Limit::Limit(0.5), Limit::Absent),
+    )?;
+    run(
+        &rt,
+        &labels[..3],
+        filter(Limit::Absent, Limit::Absent, Limit::Absent),
+    )?;
+    run(
+        &rt,
+        &[0, 3, 1, 2],
+        filter(Limit::Absent, Limit::Absent, Limit::Absent),
+    )
 }

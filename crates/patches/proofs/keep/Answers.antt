@@ -2,8 +2,8 @@
 use Rattle.patches.proofs.Flags.{keep_all, keep_first}
 use Rattle.patches.proofs.keep.Goals as goal
 
-pub returns-in-None : goal.returns-in-None
-returns-in-None c = keep_all c.in-None.is c.fill.ensures.only c.fill.ensures.filled
+pub returns-in-Absent : goal.returns-in-Absent
+returns-in-Absent c = keep_all c.in-Absent.is c.fill.ensures.only c.fill.ensures.filled
 
-pub returns-in-Some : goal.returns-in-Some
-returns-in-Some c = keep_first c.in-Some.is c.keep_largest.ensures
+pub returns-in-Limit : goal.returns-in-Limit
+returns-in-Limit c = keep_first c.in-Limit.is c.keep_largest.ensures

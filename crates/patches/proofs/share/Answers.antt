@@ -3,10 +3,10 @@ use Rattle.std.proofs.Common.{rules}
 use Rattle.patches.specs.Answers.{share_of}
 use Rattle.patches.proofs.share.Goals as goal
 
-pub returns-in_err-part : goal.returns-in_err-part
+pub returns-in-Absent : goal.returns-in-Absent
 unfolding share_of
-returns-in_err-part c = search rules
+returns-in-Absent c = search rules
 
-pub returns : goal.returns
+pub returns-in-Limit : goal.returns-in-Limit
 unfolding share_of
-returns c = search rules
+returns-in-Limit c = search rules

@@ -62,6 +62,7 @@ fn cut(line: &[u8]) -> Option<Fields>
 }
 
 // A `p` line: a point more, of at most 64.
+// It and `add_face` stay two: the rules add a point by `with_point` and a face by `with_corners`, and one for both would still need either clause.
 fn add_point(
     line: &[u8],
     a: usize,

@@ -355,7 +355,7 @@ fn ply(rt: &impl Print, points: &[f64], faces: &[u32]) -> io::Result<()> {
 }
 
 // Writes a limit: absent, zero, or another number.
-fn limit(rt: &impl Print, by: Limit) -> io::Result<()> {
+fn limit(rt: &impl Print, by: Limit<f64>) -> io::Result<()> {
     match by {
         Limit::Absent => {
             print!(rt; "absent ")?;

@@ -39,10 +39,7 @@ fn split_vertex(
         next,
     );
     rows::fill(work, olds + (next - count), free - next, v as u32);
-    Run {
-        end,
-        next: free,
-    }
+    Run { end, next: free }
 }
 
 // Numbers the groups of the corners at all points, by rising point. Returns how many points there are then.

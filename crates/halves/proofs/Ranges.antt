@@ -18,6 +18,7 @@ use Rattle.halves.specs.Gather.{halves, GatherAsks, GatherGives, RoundsAsks, Rou
 use Rattle.halves.proofs.Tallies.{hit_same, hit_other, tally_zero, tally_suc}
 use Rattle.halves.proofs.Weights.{users_same, users_other}
 use Rattle.halves.proofs.Scanning.{users_at_is}
+use Rattle.halves.proofs.Walking.{early_more}
 use Rattle.halves.proofs.Halves.{halves_sym}
 
 -- where all have one key, its two values are all there is
@@ -179,7 +180,7 @@ module _ {f : List ℕ} {P low top : ℕ} {t₀ : State} {a₀ : List ℕ} {size
           let many : 4 < halves f P (length f) (2 * from) + halves f P (length f) (2 * from + 1) = omega (arith, m.each (2 * from) (omega arith) (omega arith), m.each (2 * from + 1) (omega arith) (omega arith)) in
           let lower = is_lower p.faces key_in w.upto.calm many in
           record {
-            small = tt;
+            small = record { unique = t.unique; is = refl; most = let s = w.small.unique in omega arith };
             told = record {
               unique = t.unique;
               is = refl;
@@ -204,7 +205,7 @@ module _ {f : List ℕ} {P low top : ℕ} {t₀ : State} {a₀ : List ℕ} {size
 
         -- a crowded edge ends the loop
         pub crowd : {a₂ : List ℕ} {e : Refusal} → WalkGives a₁ 0 n from to P t a₂ (Err e) → RoundsGives f P top (Err e)
-        crowd k = record { small = tt; told = k.told (halves f P (length f)) (g.counts less) w.upto }
+        crowd k = record { small = early_more g.holding.within k.small; told = k.told (halves f P (length f)) (g.counts less) w.upto }
 
         -- else it goes on
         pub again : {a₂ : List ℕ} {r : State} → WalkGives a₁ 0 n from to P t a₂ (Ok r) → Going f P top a₀ size a₂ to r

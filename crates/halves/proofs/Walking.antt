@@ -12,7 +12,7 @@ use Rattle.std.specs.Prelude.{Result, Ok, Err}
 use Rattle.refuse.specs.declared.Refusal.{Refusal}
 use Rattle.halves.specs.declared.State.{State}
 use Rattle.halves.specs.Split.{tally, SplitGives, SpanGives, EvensGives}
-use Rattle.halves.specs.Scan.{Upto, Told, Small, SmallIn, VisitAsks, VisitGives}
+use Rattle.halves.specs.Scan.{Upto, Told, Small, Early, SmallIn, VisitAsks, VisitGives}
 use Rattle.halves.specs.Walk.{Counts, Inside, WalkAsks, WalkGives}
 use Rattle.halves.proofs.Tallies.{tally_none, tally_some, tally_add, tally_kept, tally_zero}
 use Rattle.halves.proofs.Scanning.{pass_many}
@@ -32,10 +32,14 @@ blank_told c P (Err e) from to l h w = w
 pub small_more : {t : State} {k l : ℕ} → k ≤ l → Small k t → Small l t
 small_more h s = record { unique = omega (arith, s.unique); begins = omega (arith, s.begins); ends = omega (arith, s.ends) }
 
--- so where the scan goes on
+-- of a position too
+pub early_more : {e : Refusal} {k l : ℕ} → k ≤ l → Early k e → Early l e
+early_more h s = record { unique = s.unique; is = s.is; most = omega (arith, s.most) }
+
+-- whether or not the scan goes on
 pub small_in_more : (r : Result State Refusal) {k l : ℕ} → k ≤ l → SmallIn k r → SmallIn l r
 small_in_more (Ok t) h s = small_more h s
-small_in_more (Err e) h s = tt
+small_in_more (Err e) h s = early_more h s
 
 -- what is inside stays so where no value is gained
 pub inside_same : (a b : List ℕ) (s n from to : ℕ) → ((x : ℕ) → tally b s n x ≡ tally a s n x) → Inside a s n from to → Inside b s n from to
@@ -170,11 +174,12 @@ module _ {a : List ℕ} {s n from to P : ℕ} {t : State} (p : WalkAsks a s n fr
       -- a crowded edge is met there
       pub stopped : {a₂ : List ℕ} {e : Refusal} → WalkGives a₁ s m from mid P t a₂ (Err e) → WalkGives a s n from to P t a₂ (Err e)
       stopped w₁ =
+          let y = high_in in
           let fw = g.fewer in
           record {
             only = only_both g.only (only_more (omega arith) (omega arith) w₁.only);
-            small = tt;
-            told = λ c k w. let y = high_in in w₁.told c (record { each = λ z d e. split_first g z e ∙ k.each z d (omega arith) }) w;
+            small = early_more (omega arith) w₁.small;
+            told = λ c k w. w₁.told c (record { each = λ z d e. split_first g z e ∙ k.each z d (omega arith) }) w;
           }
 
       module _ {a₂ : List ℕ} {t₁ : State} (w₁ : WalkGives a₁ s m from mid P t a₂ (Ok t₁)) where

@@ -106,10 +106,16 @@ pub record Small (k : ℕ) (t : State) : Type 0 where
   pub begins : t.begins ≤ k
   pub ends : t.ends ≤ k
 
--- so where the scan goes on
+-- the refusal is 7, and its position is at most k
+pub record Early (k : ℕ) (e : Refusal) : Type 0 where
+  pub unique : ℕ
+  pub is : e ≡ CrowdedEdge unique
+  pub most : unique ≤ k
+
+-- the numbers are small where the scan goes on, and the position where it has met a crowded edge
 abbrev pub SmallIn : ℕ → Result State Refusal → Type 0
 SmallIn k (Ok t) = Small k t
-SmallIn k (Err e) = Unit {0}
+SmallIn k (Err e) = Early k e
 
 -- no key is passed
 pub record StartGives (t : State) : Type 0 where

@@ -6,10 +6,11 @@ use Rattle.std.specs.Prelude.{Result, Ok, Err}
 use Rattle.refuse.specs.declared.Refusal.{Refusal}
 use Rattle.halves.specs.declared.State.{State}
 use Rattle.halves.specs.Split.{tally}
-use Rattle.halves.specs.Scan.{Upto, Met, Small, StartGives}
+use Rattle.halves.specs.Scan.{Upto, Small, StartGives}
 use Rattle.halves.specs.Gather.{halves, RoundsAsks, RoundsGives}
 use Rattle.halves.proofs.Tallies.{tally_some}
 use Rattle.halves.proofs.Halves.{bound}
+use Rattle.halves.proofs.Walking.{early_more}
 use Rattle.windows.specs.Around.{around, corners_of, start_of, sum_to, PassAsks, PassGives, FitGives}
 use Rattle.windows.specs.Window.{begin_of, many_of, RunsAsks, RunsCount, RunsGives, WindowAsks, Counted, AdvanceAsks, Passed, WindowGives, Stepped, AllAsks}
 use Rattle.windows.specs.declared.Step.{Step}
@@ -81,7 +82,7 @@ module _ {f : List ℕ} {P v w more width : ℕ} {t : State} {ends b counts entr
     -- and the vertices are passed
     pub together_gives : (r : Result State Refusal) → RunsGives P v w ends' b' t r → WindowGives f P (v + w) width counts' r
     together_gives (Ok s) k = record { counted = record { each = g.counted }; small = k.small; upto = k.told (halves f P (length f)) runs_count p.upto }
-    together_gives (Err e) k = k.told (halves f P (length f)) runs_count p.upto
+    together_gives (Err e) k = record { small = k.small; told = k.told (halves f P (length f)) runs_count p.upto }
 
 -- ---- a vertex alone
 
@@ -273,5 +274,5 @@ module _ {f : List ℕ} {P : ℕ} {entries₀ : List ℕ} (p : AllAsks f P entri
         }
 
 -- a crowded edge ends the loop
-pub crowd : {f : List ℕ} {P top : ℕ} {e : Refusal} → Met (halves f P (length f)) P e → RoundsGives f P top (Err e)
-crowd m = record { small = tt; told = m }
+pub crowd : {f : List ℕ} {P v : ℕ} {e : Refusal} → v ≤ P → RoundsGives f P (v * P) (Err e) → RoundsGives f P (P * P) (Err e)
+crowd {f} {P} h k = record { small = early_more (mul-le-mul_right P h) k.small; told = k.told }

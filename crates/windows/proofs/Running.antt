@@ -9,6 +9,7 @@ use Rattle.halves.specs.Scan.{Upto, Small}
 use Rattle.halves.specs.Walk.{Counts, WalkAsks, WalkGives}
 use Rattle.halves.proofs.Tallies.{hit_other, tally_zero, tally_suc}
 use Rattle.halves.proofs.Halves.{bound}
+use Rattle.halves.proofs.Walking.{early_more}
 use Rattle.windows.specs.Around.{WidenAsks, WidenGives}
 use Rattle.windows.specs.Window.{begin_of, RunsAsks, RunsCount, RunsGives}
 use Rattle.windows.proofs.Arounds.{hit_is}
@@ -84,6 +85,12 @@ module _ {P v w : ℕ} {ends b entries₀ : List ℕ} {t : State} (p : RunsAsks 
       next_is : from + P ≡ (v + (j + 1)) * P
       next_is = omega (arith, q.from_is)
 
+      -- its keys are of the window
+      window_in : from + P ≤ (v + w) * P
+      window_in =
+          let l : suc (v + j) ≤ v + w = omega arith in
+          omega (arith, q.from_is, mul-le-mul_right P l)
+
       -- it is a vertex
       keys_in : from + P ≤ P * P
       keys_in =
@@ -145,7 +152,7 @@ module _ {P v w : ℕ} {ends b entries₀ : List ℕ} {t : State} (p : RunsAsks 
 
         -- a crowded edge is met
         pub stop : {entries₂ : List ℕ} {e : Refusal} → WalkGives entries₁ 0 (get_or ends j 0 - s) from (from + P) P r entries₂ (Err e) → RunsGives P v w ends b t (Err e)
-        stop k = record { small = tt; told = λ c m u. k.told c (counts c m) (q.upto c m u) }
+        stop k = record { small = early_more window_in k.small; told = λ c m u. k.told c (counts c m) (q.upto c m u) }
 
         -- one run more
         pub again : {entries₂ : List ℕ} {r₂ : State} → WalkGives entries₁ 0 (get_or ends j 0 - s) from (from + P) P r entries₂ (Ok r₂) → Ran P v w ends b entries₀ t entries₂ r₂ (from + P) (get_or ends j 0) (j + 1)

@@ -5,8 +5,8 @@ use Rattle.rows.specs.Region.{Filled}
 use Rattle.refuse.specs.declared.Refusal.{Refusal}
 use Rattle.halves.specs.declared.State.{State}
 use Rattle.halves.specs.Split.{tally}
-use Rattle.halves.specs.Scan.{Upto, Met, Told, Small, SmallIn}
-use Rattle.halves.specs.Gather.{halves}
+use Rattle.halves.specs.Scan.{Upto, Told, Small, SmallIn}
+use Rattle.halves.specs.Gather.{halves, RoundsGives}
 use Rattle.windows.specs.declared.Step.{Step}
 use Rattle.windows.specs.Around.{corners_of, start_of}
 
@@ -81,7 +81,7 @@ pub record Passed (f : List ℕ) (P v width : ℕ) (counts : List ℕ) (t : Stat
 -- the vertices before v are passed, unless a crowded edge is met
 abbrev pub WindowGives : List ℕ → ℕ → ℕ → ℕ → List ℕ → Result State Refusal → Type 0
 WindowGives f P v width counts (Ok t) = Passed f P v width counts t
-WindowGives f P v width counts (Err e) = Met (halves f P (length f)) P e
+WindowGives f P v width counts (Err e) = RoundsGives f P (v * P) (Err e)
 
 -- some vertex more is passed
 pub record Stepped (f : List ℕ) (P v width : ℕ) (counts : List ℕ) (s : Step) : Type 0 where
@@ -92,7 +92,7 @@ pub record Stepped (f : List ℕ) (P v width : ℕ) (counts : List ℕ) (s : Ste
 -- or a crowded edge is met
 abbrev pub AdvanceGives : List ℕ → ℕ → ℕ → ℕ → List ℕ → Result Step Refusal → Type 0
 AdvanceGives f P v width counts (Ok s) = Stepped f P v width counts s
-AdvanceGives f P v width counts (Err e) = Met (halves f P (length f)) P e
+AdvanceGives f P v width counts (Err e) = RoundsGives f P (P * P) (Err e)
 
 -- faces, and a buffer for more half entries than two users of an edge have
 pub record AllAsks (f : List ℕ) (P : ℕ) (entries : List ℕ) : Type 0 where

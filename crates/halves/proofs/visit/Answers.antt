@@ -30,7 +30,7 @@ module _ {P k n b : ℕ} {t o : State} (p : VisitAsks P k n b t) (q : CloseGives
     met : r ≡ true → VisitGives P k n b t (Err (CrowdedEdge o.unique))
     met e =
         record {
-          small = tt;
+          small = record { unique = o.unique; is = refl; most = let s = p.small.unique in let u = q.unique in omega arith };
           told = λ c even odd some w. record { unique = o.unique; is = refl; crowded = meet (prior c w) even odd some q.at p.below (test true e) };
         }
 

@@ -1,7 +1,6 @@
 -- `windows::all` meets its contract. The invariant: the vertices before v are passed, and the corners of those from v on are counted. Assumes nothing.
 use Rattle.std.proofs.Common.{refl, ◌∙◌, arith}
-use Rattle.std.proofs.lemmas.Result.{err_from_is_err_and}
-use Rattle.windows.proofs.Advancing.{first_asks, begin, advance_asks, crowd, again, done}
+use Rattle.windows.proofs.Advancing.{first_asks, begin, advance_asks, again, done}
 use Rattle.windows.proofs.all.Goals as goal
 
 pub clear-requires : goal.clear-requires
@@ -27,10 +26,6 @@ shape_of-counts-in_err-s c = c.advance.auto.counts ∙ c.loop-v.invariant.counts
 
 pub shape_of-entries-in_err-s : goal.shape_of-entries-in_err-s
 shape_of-entries-in_err-s c = c.advance.auto.entries ∙ c.loop-v.invariant.entries_long
-
-pub returns-in_err-s : goal.returns-in_err-s
-returns-in_err-s c = let p = err_from_is_err_and c.from_residual.result c.from_residual.ensures.1 in
-    rw (p.1, p.2) (crowd c.in_err-s.ensures)
 
 pub loop-v-smaller : goal.loop-v-smaller
 loop-v-smaller c = let h = c.loop-v-test.true in omega (arith, c.in_ok-s.ensures.above, c.in_ok-s.ensures.within)

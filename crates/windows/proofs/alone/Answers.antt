@@ -1,6 +1,5 @@
 -- `windows::alone` meets its contract. Assumes nothing.
 use Rattle.std.proofs.Common.{arith}
-use Rattle.std.proofs.lemmas.Result.{err_from_is_err_and}
 use Rattle.windows.proofs.Advancing.{alone_bounds, alone_asks, alone_pass, alone_gives}
 use Rattle.windows.proofs.alone.Goals as goal
 
@@ -15,10 +14,6 @@ rounds-requires c = alone_asks c.requires
 
 pub pass-requires : goal.pass-requires
 pass-requires c = alone_pass c.requires
-
-pub returns-in_err-r : goal.returns-in_err-r
-returns-in_err-r c = let p = err_from_is_err_and c.from_residual.result c.from_residual.ensures.1 in
-    rw (p.1, p.2) c.in_err-r.ensures.told
 
 pub returns : goal.returns
 returns c = alone_gives c.requires c.in_ok-r.ensures c.pass.ensures

@@ -8,6 +8,7 @@ use native.Mathlib.Numerals.{add-one}
 use native.Mathlib.Nat.{not-suc-le-zero, le_of_suc-le-suc}
 use borrow.Author.Tests.{eq-eqb, ne_eqb, eqb-true, ltb-true, ltb-false}
 use Rattle.std.specs.List.{position, position_or_len}
+use Rattle.std.specs.Option.{unwrap_or}
 use Rattle.std.proofs.lemmas.Option.{cond_some, none-some}
 use lib.Dec.{eqb, ltb}
 use lib.ListN.{length, get_or, take, drop, length-map, length-take, length-drop}
@@ -134,6 +135,29 @@ found_none one run e =
     go : (t : Bool) → ◌≡◌ {A = Option ℕ} None (cond t (Some (position_or_len (λ id. eqb (id / 3) one) run)) None) → t ≡ false
     go true h = absurd (none-some _ h)
     go false h = refl
+
+-- where none passes, the first is behind all
+pub first_none : {A : Type 0} (p : A → Bool) (z : A) (xs : List A) → ((s : ℕ) → s < length xs → p (get_or xs s z) ≡ false) → first p xs ≡ length xs
+unfolding first
+first_none p z [] f = refl
+first_none p z (x ∷ xs) f = rw (f 0 (omega arith)) (ap suc (first_none p z xs (λ s q. f (suc s) (suc-le-suc q))))
+
+-- the first is at most the length
+first_most : {A : Type 0} (p : A → Bool) (xs : List A) → first p xs ≤ length xs
+unfolding first
+first_most p [] = omega arith
+first_most p (x ∷ xs) = go (p x) (first_most p xs)
+  where
+    go : (t : Bool) → first p xs ≤ length xs → cond t 0 (suc (first p xs)) ≤ suc (length xs)
+    go true h = omega arith
+    go false h = omega (arith, h)
+
+-- where one is found that is the first, and else the length is
+pub found_or : (one : ℕ) (run : List ℕ) (o : Option ℕ) → o ≡ position (λ id. eqb (id / 3) one) run → unwrap_or o (length run) ≡ first (eqb one) (faces_in run)
+found_or one run (Some k) e = (found_at one run e).0
+found_or one run None e =
+    let m : first (eqb one) (faces_in run) ≤ length run = rw (← (length-map run (λ id. id / 3))) (first_most (eqb one) (faces_in run)) in
+    omega (arith, m, found_none one run e)
 
 -- without one i is: the part before its first place, and the part behind it
 pub without_is : (one : ℕ) (us : List ℕ) → without one us ≡ take (first (eqb one) us) us ++ drop (suc (first (eqb one) us)) us

@@ -4,6 +4,7 @@
 
 ghost use Rattle.std.specs.Prelude.{◌≡◌, ◌/◌, nat_eq};
 ghost use Rattle.std.specs.List.{position};
+ghost use Rattle.rules.specs.Lists.{first};
 ghost use Rattle.rules.specs.Mesh.{face, faces_of};
 ghost use Rattle.rules.specs.Pass3 as pass3;
 ghost use Rattle.rules.specs.Steps as steps;
@@ -70,11 +71,18 @@ pub fn best(points: &[f64], faces: &[u32], run: &[u32]) -> usize
     scan(points, faces, run, None).unwrap().face
 }
 
-// The first place of the run with an entry of face `one`.
-pub fn place(run: &[u32], one: usize) -> Option<usize>
+// The first place of the run with an entry of face `one`, if there is one.
+fn found(run: &[u32], one: usize) -> Option<usize>
     ensures { result ≡ position (λ id. nat_eq (id / 3) one) run.now }
 {
     run.iter().position(|id| *id as usize / 3 == one)
+}
+
+// The first place of the run with an entry of face `one`; the run's length if there is none.
+pub fn place(run: &[u32], one: usize) -> usize
+    ensures { result ≡ first (nat_eq one) (faces_in run.now) }
+{
+    found(run, one).unwrap_or(run.len())
 }
 
 // Whether the step from x to y is the one from a to b.
@@ -123,7 +131,7 @@ fn scan_rest(points: &[f64], faces: &[u32], run: &[u32], one: usize) -> Option<C
     requires { RankAsks points.now faces.now run.now }
     ensures { RestGives points.now faces.now run.now one result }
 {
-    match place(run, one) {
+    match found(run, one) {
         Some(k) => {
             let before = scan(points, faces, &run[..k], None);
             scan(points, faces, &run[k + 1..], before)

@@ -13,7 +13,7 @@ fn ranked(rt: &impl Print, points: &[f64], faces: &[u32], run: &[u32]) -> io::Re
 {
     let one = rank::best(points, faces, run);
     show::number(rt, one as u64)?;
-    show::number(rt, rank::place(run, one).unwrap_or(run.len()) as u64)?;
+    show::number(rt, rank::place(run, one) as u64)?;
     show::number(rt, rank::second(points, faces, run, 0, 1, one) as u64)?;
     show::end_line(rt)
 }

@@ -13,13 +13,13 @@ use lib.Ieee.{Float}
 use lib.ListN.{length, get_or, take, length-append}
 use lib.Seq.{take-suc}
 use Rattle.rows.specs.Region.{part}
-use Rattle.rows.proofs.Regions.{length_part}
+use Rattle.rows.proofs.Regions.{length_part, only_none}
 use Rattle.rules.specs.Line.{bytes}
 use Rattle.rules.specs.Text.{Job, equal, real, whole, three, with_point, with_corners, with_line, small, opened, first_line}
 use Rattle.text_in.specs.declared.Grown.{Grown}
 use Rattle.text_in.specs.Asked.{OpenAsks, Grows, PointGives, FaceGives, FieldsAsks, job_of, four_of, three_fields, three_of}
 use Rattle.rule_laws.proofs.Texts.{equal_same}
-use Rattle.text_in.proofs.Storing.{with_three, long_three, front_three}
+use Rattle.text_in.proofs.Storing.{with_three, only_three, long_three, front_three}
 
 -- ---- sizes
 
@@ -77,11 +77,11 @@ over_faces j (some x) (some y) (some z) h = sym (small_faces _ (simp length-appe
 -- no room is left
 pub point_full : (x y z : Option Float) {ps : List Float} {p f : ℕ} → 189 < p → PointGives (three x y z) ps p f ps None
 point_full x y z {ps} {p} {f} h =
-    record { long = refl; grows = λ fs a. (tt, λ n s. over_points (job_of n s ps p fs f) x y z (omega (arith, length_part ps 0 p (omega (arith, a.points, a.few_points))))) }
+    record { only = only_none p 3 ps; grows = λ fs a. (tt, λ n s. over_points (job_of n s ps p fs f) x y z (omega (arith, length_part ps 0 p (omega (arith, a.points, a.few_points))))) }
 
 pub face_full : (x y z : Option ℕ) {fs : List ℕ} {p f : ℕ} → 189 < f → FaceGives (three x y z) fs p f fs None
 face_full x y z {fs} {p} {f} h =
-    record { long = refl; grows = λ ps a. (tt, λ n s. over_faces (job_of n s ps p fs f) x y z (omega (arith, length_part fs 0 f (omega (arith, a.faces, a.few_faces))))) }
+    record { only = only_none f 3 fs; grows = λ ps a. (tt, λ n s. over_faces (job_of n s ps p fs f) x y z (omega (arith, length_part fs 0 f (omega (arith, a.faces, a.few_faces))))) }
 
 -- a field holds nothing
 pub first_bad : {A : Type 0} (y z : Option A) → three none y z ≡ none
@@ -97,10 +97,10 @@ unfolding three
 third_bad x y = refl
 
 pub point_bad : {o : Option (List Float)} {ps : List Float} {p f : ℕ} → o ≡ none → PointGives o ps p f ps None
-point_bad {o} {ps} {p} {f} t = record { long = refl; grows = λ fs a. (tt, λ n s. rw t (sym (ap small (point_none (job_of n s ps p fs f)) ∙ small_none))) }
+point_bad {o} {ps} {p} {f} t = record { only = only_none p 3 ps; grows = λ fs a. (tt, λ n s. rw t (sym (ap small (point_none (job_of n s ps p fs f)) ∙ small_none))) }
 
 pub face_bad : {o : Option (List ℕ)} {fs : List ℕ} {p f : ℕ} → o ≡ none → FaceGives o fs p f fs None
-face_bad {o} {fs} {p} {f} t = record { long = refl; grows = λ ps a. (tt, λ n s. rw t (sym (ap small (face_none (job_of n s ps p fs f)) ∙ small_none))) }
+face_bad {o} {fs} {p} {f} t = record { only = only_none f 3 fs; grows = λ ps a. (tt, λ n s. rw t (sym (ap small (face_none (job_of n s ps p fs f)) ∙ small_none))) }
 
 -- a point more
 pub point_good : {ps : List Float} {p f : ℕ} (x y z : Float) → p ≤ 189
@@ -108,7 +108,7 @@ pub point_good : {ps : List Float} {p f : ℕ} (x y z : Float) → p ≤ 189
 unfolding with_point three
 point_good {ps} {p} {f} x y z h =
     record {
-      long = long_three ps p x y z;
+      only = only_three ps p x y z;
       grows = λ fs a.
           let b = a.points in
           let l = long_three ps p x y z in
@@ -126,7 +126,7 @@ pub face_good : {fs : List ℕ} {p f : ℕ} (x y z : ℕ) → f ≤ 189
 unfolding with_corners three
 face_good {fs} {p} {f} x y z h =
     record {
-      long = long_three fs f x y z;
+      only = only_three fs f x y z;
       grows = λ ps a.
           let b = a.faces in
           let l = long_three fs f x y z in
@@ -202,7 +202,7 @@ module _ {line : List ℕ} {a b c : ℕ} {ps : List Float} {p : ℕ} {fs : List 
   fields_point e l {ps'} {r} g =
       let w = g.grows fs q.rooms in
       record {
-        long_points = g.long;
+        long_points = g.only.long;
         long_faces = refl;
         within = w.0;
         told = λ o s. w.1 o s ∙ sym (ap small (line_p (job_of o s ps p fs f) (take a line) _ _ _ (first_is e ∙ ap (λ (n : ℕ). n ∷ []) l)));
@@ -214,7 +214,7 @@ module _ {line : List ℕ} {a b c : ℕ} {ps : List Float} {p : ℕ} {fs : List 
       let w = g.grows ps q.rooms in
       record {
         long_points = refl;
-        long_faces = g.long;
+        long_faces = g.only.long;
         within = w.0;
         told = λ o s. w.1 o s ∙ sym (ap small (line_f (job_of o s ps p fs f) (take a line) _ _ _ (first_is e ∙ ap (λ (n : ℕ). n ∷ []) l)));
       }

@@ -6,11 +6,19 @@ use native.Mathlib.Omega.{arith}
 use lib.ListN.{length, set, take, length-set}
 use lib.Seq.{take-suc-set}
 use Rattle.std.proofs.lemmas.List.{append_assoc}
+use Rattle.rows.specs.Region.{OnlyOf}
+use Rattle.rows.proofs.Regions.{only_both, only_set}
 
 module _ {A : Type 0} (w : List A) (at : ℕ) (x y z : A) where
   -- the row with them
   abbrev pub with_three : List A
   with_three = set (set (set w at x) (at + 1) y) (at + 2) z
+
+  -- all else stays
+  pub only_three : {d : A} → OnlyOf d at 3 w with_three
+  only_three =
+      only_both (only_set w at x (omega arith) (omega arith))
+      (only_both (only_set (set w at x) (at + 1) y (omega arith) (omega arith)) (only_set (set (set w at x) (at + 1) y) (at + 2) z (omega arith) (omega arith)))
 
   -- it is as long
   pub long_three : length with_three ≡ length w

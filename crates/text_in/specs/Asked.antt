@@ -1,8 +1,9 @@
 -- The words of this crate's contracts: pieces of a text, what a field holds, how a line adds to the rooms, and the job. Definitions only.
 use Rattle.std.specs.Prelude.{◌≡◌, Bool, cond, List, [], ◌∷◌, ℕ, ◌+◌, ◌-◌, ◌≤◌, ◌<◌, Float, length, get_or, take}
 use Rattle.std.specs.Prelude as std
+use Rattle.std.specs.Float.{nan}
 use Rattle.std.proofs.Math.Option.{Option, none, some}
-use Rattle.rows.specs.Region.{part}
+use Rattle.rows.specs.Region.{part, OnlyOf}
 use Rattle.rules.specs.Text as rule
 use Rattle.rules.specs.Text.{Job}
 use Rattle.text_in.specs.declared.Fields.{Fields}
@@ -94,12 +95,14 @@ pub record AddAsks {A : Type 0} (line : List ℕ) (a b c : ℕ) (w : List A) (n 
   pub room : 192 ≤ length w
   pub few : n ≤ 192
 
+-- a point more, or none: all stays but the three entries behind those that stand in the room
 pub record PointGives (o : Option (List Float)) (ps : List Float) (p f : ℕ) (ps' : List Float) (r : std.Option Grown) : Type 0 where
-  pub long : length ps' ≡ length ps
+  pub only : OnlyOf nan p 3 ps ps'
   pub grows : (fs : List ℕ) → RoomAsks ps p fs f → Within r × ((n : ℕ) (s : Float) → grown_of n s r ps' fs ≡ rule.small (rule.with_point (job_of n s ps p fs f) o))
 
+-- a face more, or none: the same of its room
 pub record FaceGives (o : Option (List ℕ)) (fs : List ℕ) (p f : ℕ) (fs' : List ℕ) (r : std.Option Grown) : Type 0 where
-  pub long : length fs' ≡ length fs
+  pub only : OnlyOf 0 f 3 fs fs'
   pub grows : (ps : List Float) → RoomAsks ps p fs f → Within r × ((n : ℕ) (s : Float) → grown_of n s r ps fs' ≡ rule.small (rule.with_corners (job_of n s ps p fs f) o))
 
 pub record FieldsAsks (line : List ℕ) (a b c : ℕ) (ps : List Float) (p : ℕ) (fs : List ℕ) (f : ℕ) : Type 0 where
